@@ -1,0 +1,123 @@
+-- The bytes of records, sheets and registers, and which sheets and registers are within the limits: definitions only.
+use Prim.Native.Nat.{ℕ, _+_, _-_, _*_, _≤_, _<_}
+use mathlib.Core.Path.{_≡_}
+use mathlib.Core.Bool.{true, false}
+use mathlib.Core.List.{List, [], _∷_, _++_}
+use lib.ListN.{length, getD}
+use Rattle.wire.specs.Limits.{edition, groupLimit, nameLimit, claimLimit, sideLimit, labelLimit, boundLimit, noEnd}
+use Rattle.wire.specs.Limits.{modeLimit}
+use Rattle.wire.specs.Limits.{rowLimit, membershipBytes}
+use Rattle.wire.specs.Bytes.{le16, le32}
+use Rattle.wire.specs.SheetFormat.{GroupRecord, NameRecord, ClaimRecord, count, inside, apart, Records}
+use Rattle.wire.specs.SheetFormat.{parentAllowed, labelBytes, used, allWithin}
+use Rattle.wire.specs.RegisterFormat.{Row, lastMember, clearAbove}
+
+-- every element is a byte (past the end 0 stands)
+abbrev pub Bytes : List ℕ → Type 0
+Bytes b = (i : ℕ) → getD b i 0 < 256
+
+-- Encoding: the length of all that follows it, the kind, the body.
+unfoldable pub encodeRecord : ℕ → List ℕ → List ℕ
+encodeRecord kind body = le16 (length body + 2) ++ (le16 kind ++ body)
+
+-- fields of two bytes
+unfoldable pub le16s : List ℕ → List ℕ
+le16s [] = []
+le16s (x ∷ xs) = le16 x ++ le16s xs
+
+unfoldable pub encodeAll : {A : Type 0} → (A → List ℕ) → List A → List ℕ
+encodeAll encode [] = []
+encodeAll encode (x ∷ xs) = encode x ++ encodeAll encode xs
+
+unfoldable pub encodeHead : Records → List ℕ
+encodeHead d = encodeRecord 1 (le16s (edition ∷ length (d .groups) ∷ length (d .names) ∷ length (d .claims) ∷ []))
+
+unfoldable pub encodeGroup : GroupRecord → List ℕ
+encodeGroup g = encodeRecord 2 (le16s (g .parent ∷ g .lo ∷ g .hi ∷ g .mode ∷ []))
+
+unfoldable pub encodeName : NameRecord → List ℕ
+encodeName n = encodeRecord 3 (le16 (n .group) ++ n .label)
+
+unfoldable pub encodeClaim : ClaimRecord → List ℕ
+encodeClaim (count n lo hi) = encodeRecord 4 (le16s (n ∷ lo ∷ hi ∷ []))
+encodeClaim (inside l r) = encodeRecord 5 (le16s (length l ∷ length r ∷ l ++ r))
+encodeClaim (apart l r) = encodeRecord 6 (le16s (length l ∷ length r ∷ l ++ r))
+
+unfoldable pub encodeSheet : Records → List ℕ
+encodeSheet d =
+    encodeHead d
+    ++ (encodeAll encodeGroup (d .groups) ++ (encodeAll encodeName (d .names) ++ encodeAll encodeClaim (d .claims)))
+
+unfoldable pub encodeRow : Row → List ℕ
+encodeRow r = encodeRecord 32 (le32 (r .member) ++ r .bits)
+
+unfoldable pub encodeRegister : List Row → List ℕ
+encodeRegister rs = encodeAll encodeRow rs
+
+-- Each of the items ys is right after those before it, the items xs standing before them all.
+pub data Each {A : Type 0} (P : List A → A → Type 0) : List A → List A → Type 0 where
+  none : {xs : List A} → Each P xs []
+  more : {xs ys : List A} {y : A} → P xs y → Each P (xs ++ (y ∷ [])) ys → Each P xs (y ∷ ys)
+
+-- A group after the groups gs; a name after the names ns, of `groups` groups; a side of a claim, and a claim, of `names` names.
+pub record GroupRight (gs : List GroupRecord) (g : GroupRecord) : Type 0 where
+  pub parent : parentAllowed (length gs + 1) (g .parent) ≡ true
+  pub lo : g .lo ≤ boundLimit
+  pub mode : g .mode ≤ modeLimit
+
+pub record NameRight (groups : ℕ) (ns : List NameRecord) (n : NameRecord) : Type 0 where
+  pub group : n .group ≤ groups
+  pub first : 1 ≤ length (n .label)
+  pub last : length (n .label) ≤ labelLimit
+  pub bytes : labelBytes (n .label) ≡ true
+  pub new : used ns (n .label) ≡ false
+
+pub record SideRight (names : ℕ) (l : List ℕ) : Type 0 where
+  pub first : 1 ≤ length l
+  pub last : length l ≤ sideLimit
+  pub allowed : allWithin names l ≡ true
+
+abbrev pub ClaimRight : ℕ → List ClaimRecord → ClaimRecord → Type 0
+ClaimRight names cs (count n lo hi) = (allWithin names (n ∷ []) ≡ true) × (lo ≤ boundLimit)
+ClaimRight names cs (inside l r) = SideRight names l × SideRight names r
+ClaimRight names cs (apart l r) = SideRight names l × SideRight names r
+
+-- an upper end is a number up to 65,534, or 65,535 for none
+abbrev pub GroupEnd : List GroupRecord → GroupRecord → Type 0
+GroupEnd gs g = g .hi ≤ noEnd
+
+abbrev pub ClaimEnd : List ClaimRecord → ClaimRecord → Type 0
+ClaimEnd cs (count n lo hi) = hi ≤ noEnd
+ClaimEnd cs (inside l r) = Unit {0}
+ClaimEnd cs (apart l r) = Unit {0}
+
+-- what reading ensures of any list of numbers
+pub record Right (d : Records) : Type 0 where
+  pub someGroup : 1 ≤ length (d .groups)
+  pub groupCount : length (d .groups) ≤ groupLimit
+  pub nameCount : length (d .names) ≤ nameLimit
+  pub claimCount : length (d .claims) ≤ claimLimit
+  pub groups : Each GroupRight [] (d .groups)
+  pub names : Each (NameRight (length (d .groups))) [] (d .names)
+  pub claims : Each (ClaimRight (length (d .names))) [] (d .claims)
+
+-- a sheet within the limits
+pub record WithinLimits (d : Records) : Type 0 where
+  pub right : Right d
+  pub groupEnds : Each GroupEnd [] (d .groups)
+  pub claimEnds : Each ClaimEnd [] (d .claims)
+
+-- A row after the rows rs, in a sheet of `groups` groups; what fits its fields; and rows within the limits.
+pub record RowRight (groups : ℕ) (rs : List Row) (r : Row) : Type 0 where
+  pub rises : lastMember rs < r .member
+  pub width : length (r .bits) ≡ membershipBytes
+  pub clear : clearAbove r groups (8 * membershipBytes - groups) ≡ true
+
+pub record RowFits (rs : List Row) (r : Row) : Type 0 where
+  pub member : r .member < 4294967296
+  pub bytes : Bytes (r .bits)
+
+pub record RowsWithin (groups : ℕ) (rs : List Row) : Type 0 where
+  pub rowCount : length rs ≤ rowLimit
+  pub right : Each (RowRight groups) [] rs
+  pub fits : Each RowFits [] rs

@@ -1,0 +1,223 @@
+-- What holds of a sheet that was read, and of the numbers of a refusal.
+use Prim.Native.Nat.{ℕ, zero, suc, _+_, _≤_, _<_}
+use mathlib.Core.Path.{_≡_, refl, sym, ap, _∙_}
+use mathlib.Core.Bool.{true, _&&_}
+use mathlib.Core.List.{List, [], _∷_}
+use native.Mathlib.Omega.{arith}
+use lib.ListN.{length, take, drop, getD, length-take, length-drop}
+use lib.Seq.{getD-drop}
+use lib.Dec.{leb, ltb, eqb}
+use borrow.Author.Tests.{leb-true, ltb-true, eqb-true}
+use Rattle.wire.specs.Limits.{recordLimit, sheetLimit, noEnd}
+use Rattle.wire.specs.Bytes.{u16At}
+use Rattle.wire.specs.Record.{lengthOf, after, test, read, refused}
+use Rattle.wire.specs.SheetFormat.{headTests, groupTests, nameTests, claimTests, headOf, groupOf, nameOf, claimOf}
+use Rattle.wire.specs.SheetFormat.{HeadRecord, GroupRecord, NameRecord, ClaimRecord, count, Records}
+use Rattle.wire.specs.SheetFormat.{parentAllowed, allWithin, closing, readClaims, readNames, readGroups, readSheet}
+use Rattle.wire.specs.Encoding.{Bytes, GroupRight, NameRight, ClaimRight, GroupEnd, ClaimEnd, Right, WithinLimits}
+use Rattle.wire.specs.Passing.{split, and-true, Pass, Numbered, onward-read, Refuses, onward-refuses}
+use Rattle.wire.specs.Many.{Reads, reads-same, empty-of-length, each-at, each-read, kept-read, reads-length, many-read}
+use Rattle.wire.specs.Many.{many-refuses}
+use Rattle.wire.specs.Sorts.{HeadRight, head-numbered, head-right, group-numbered, group-frame, group-right, name-numbered}
+use Rattle.wire.specs.Sorts.{name-frame, name-right, claim-numbered, claim-cases, claim-right, claim-count}
+use Rattle.wire.specs.Sorts.{claim-inside, claim-apart}
+
+-- The bytes b are a head, groups, names and claims that pass their tests, and nothing else; they carry d.
+pub record SheetRead (b : List ℕ) (d : Records) : Type 0 where
+  pub head : HeadRight b
+  pub groupCount : length (d .groups) ≡ u16At b 6
+  pub nameCount : length (d .names) ≡ u16At b 8
+  pub claimCount : length (d .claims) ≡ u16At b 10
+  pub afterGroups : List ℕ
+  pub afterNames : List ℕ
+  pub groups : Reads groupTests groupOf [] (after b) (d .groups) afterGroups
+  pub names : Reads (nameTests (length (d .groups))) nameOf [] afterGroups (d .names) afterNames
+  pub claims : Reads (claimTests (length (d .names))) claimOf [] afterNames (d .claims) []
+
+closing-numbered : (c : List ℕ) → Numbered 1 7 (test 7 (eqb (length c) 0) ∷ [])
+closing-numbered c = omega arith
+
+claims-read : (h : HeadRecord) (gs : List GroupRecord) (r : ℕ) (ns : List NameRecord) (b : List ℕ) (d : Records)
+    → readClaims h gs r ns b ≡ read d
+    → (d .groups ≡ gs) × (d .names ≡ ns) × (length (d .claims) ≡ h .claims)
+    × Reads (claimTests (h .names)) claimOf [] b (d .claims) []
+unfolding readClaims closing
+claims-read h gs r ns b d e =
+    let c = many-read (claimTests (h .names)) claimOf (closing gs ns) 7 (claim-numbered (h .names)) (h .claims) r [] b d e in
+    let l = onward-read 1 7 (test 7 (eqb (length (c .1)) 0) ∷ []) (closing-numbered (c .1)) (omega arith) _ _ d (c .4) in
+    let same : record { groups = gs; names = ns; claims = c .0 } ≡ d = cc (l .1) in
+    rw (← same) (refl, refl, c .2, reads-same refl (empty-of-length (c .1) (eqb-true _ _ (l .0 .0))) (c .3))
+
+names-read : (h : HeadRecord) (r : ℕ) (gs : List GroupRecord) (b : List ℕ) (d : Records) → readNames h r gs b ≡ read d
+    → (c : List ℕ) × (d .groups ≡ gs) × (length (d .names) ≡ h .names) × (length (d .claims) ≡ h .claims)
+    × Reads (nameTests (h .groups)) nameOf [] b (d .names) c × Reads (claimTests (h .names)) claimOf [] c (d .claims) []
+unfolding readNames
+names-read h r gs b d e =
+    let n = many-read (nameTests (h .groups)) nameOf (readClaims h gs) 7 (name-numbered (h .groups)) (h .names) r [] b d e in
+    let l = claims-read h gs _ (n .0) (n .1) d (n .4) in
+    (n .1, l .0, ap length (l .1) ∙ n .2, l .2, reads-same (sym (l .1)) refl (n .3), l .3)
+
+pub sheet-read : (b : List ℕ) (d : Records) → readSheet b ≡ read d → SheetRead b d
+unfolding readSheet readGroups headOf
+sheet-read b d e =
+    let h = onward-read 1 7 (headTests b) (head-numbered b) (omega arith) 1 (readGroups (headOf b) (after b)) d e in
+    let g = many-read groupTests groupOf (readNames (headOf b)) 7 group-numbered (u16At b 6) 2 [] (after b) d (h .1) in
+    let l = names-read (headOf b) _ (g .0) (g .1) d (g .4) in
+    let count : length (d .groups) ≡ u16At b 6 = ap length (l .1) ∙ g .2 in
+    record {
+      head = head-right b (h .0);
+      groupCount = count;
+      nameCount = l .2;
+      claimCount = l .3;
+      afterGroups = g .1;
+      afterNames = l .0;
+      groups = reads-same (sym (l .1)) refl (g .3);
+      names = rw count (l .4);
+      claims = rw (l .2) (l .5);
+    }
+
+-- what was read meets the limits that the tests ensure
+pub read-right : (b : List ℕ) (d : Records) → readSheet b ≡ read d → Right d
+read-right b d e =
+    let s = sheet-read b d e in
+    record {
+      someGroup = omega arith;
+      groupCount = omega arith;
+      nameCount = omega arith;
+      claimCount = omega arith;
+      groups = each-read (λ c. Unit {0}) (λ c k. tt) (λ xs c k. group-right xs c) tt (s .groups);
+      names = each-read (λ c. Unit {0}) (λ c k. tt) (λ xs c k. name-right (length (d .groups)) xs c) tt (s .names);
+      claims = each-read (λ c. Unit {0}) (λ c k. tt) (λ xs c k. claim-right (length (d .names)) xs c) tt (s .claims);
+    }
+
+-- Facts by place. Groups, names and claims are numbered from 1; place i is number i + 1, and z stands past the end.
+-- group i + 1 has a parent up to i, and one from 1 on unless it is the first
+pub record ParentRight (i p : ℕ) : Type 0 where
+  pub first : 1 ≤ i → 1 ≤ p
+  pub last : p ≤ i
+
+pub parent-right : (i p : ℕ) → parentAllowed (i + 1) p ≡ true → ParentRight i p
+unfolding parentAllowed
+parent-right i p h =
+    split (eqb (i + 1) 1)
+    (λ t. let e = eqb-true (i + 1) 1 t in let q = eqb-true p 0 (rw t at h) in omega arith)
+    (λ t.
+    let s = and-true (leb 1 p) (ltb p (i + 1)) (rw t at h) in
+    let l = leb-true 1 p (s .0) in
+    let m = ltb-true p (i + 1) (s .1) in
+    omega arith)
+
+module _ {d : Records} (R : Right d) (i : ℕ) where
+  pub group-at : (z : GroupRecord) → i < length (d .groups) → GroupRight (take i (d .groups)) (getD (d .groups) i z)
+  group-at z l = each-at (R .groups) i z l
+
+  pub parent-at : (z : GroupRecord) → i < length (d .groups) → ParentRight i (getD (d .groups) i z .parent)
+  parent-at z l =
+      let size : length (take i (d .groups)) ≡ i = simp length-take (omega arith) in
+      parent-right i (getD (d .groups) i z .parent) (rw size at (group-at z l .parent))
+
+  pub name-at : (z : NameRecord) → i < length (d .names)
+      → NameRight (length (d .groups)) (take i (d .names)) (getD (d .names) i z)
+  name-at z l = each-at (R .names) i z l
+
+  pub claim-at : (z : ClaimRecord) → i < length (d .claims)
+      → ClaimRight (length (d .names)) (take i (d .claims)) (getD (d .claims) i z)
+  claim-at z l = each-at (R .claims) i z l
+
+pub root-parent : {d : Records} → Right d → (z : GroupRecord) → getD (d .groups) 0 z .parent ≡ 0
+root-parent R z = omega (arith, parent-at R 0 z (R .someGroup))
+
+-- the names of a claim are from 1 to the names
+pub within-at : (n : ℕ) (xs : List ℕ) → allWithin n xs ≡ true → (i z : ℕ) → i < length xs → (1 ≤ getD xs i z) × (getD xs i z ≤ n)
+unfolding allWithin
+within-at n [] h i z l = absurd (omega arith)
+within-at n (x ∷ xs) h zero z l =
+    let s = and-true (leb 1 x && leb x n) (allWithin n xs) h in
+    let t = and-true (leb 1 x) (leb x n) (s .0) in
+    (leb-true _ _ (t .0), leb-true _ _ (t .1))
+within-at n (x ∷ xs) h (suc i) z l = within-at n xs (and-true (leb 1 x && leb x n) (allWithin n xs) h .1) i z (omega arith)
+
+-- a field of two bytes is below 65,536
+pub u16-most : (b : List ℕ) → Bytes b → (i : ℕ) → u16At b i ≤ noEnd
+unfolding u16At
+u16-most b k i = omega (arith, k i, k (i + 1))
+
+pub bytes-drop : (n : ℕ) (b : List ℕ) → Bytes b → Bytes (drop n b)
+bytes-drop n b k i = rw (getD-drop n b i 0) (k (n + i))
+
+pub bytes-after : (b : List ℕ) → Bytes b → Bytes (after b)
+unfolding after
+bytes-after b k = bytes-drop (lengthOf b + 2) b k
+
+group-end : (gs : List GroupRecord) (b : List ℕ) → Bytes b → Pass (groupTests gs b) → GroupEnd gs (groupOf b)
+unfolding groupOf
+group-end gs b k p = u16-most b k 8
+
+claim-end : (names : ℕ) (cs : List ClaimRecord) (b : List ℕ) → Bytes b → Pass (claimTests names cs b) → ClaimEnd cs (claimOf b)
+claim-end names cs b k p =
+    claim-cases names cs b p (λ e f. rw (claim-count b e) (u16-most b k 8)) (λ e f. rw (claim-inside b e) tt)
+    (λ e f. rw (claim-apart b e) tt)
+
+-- what was read is within the limits
+pub read-within : (b : List ℕ) → Bytes b → (d : Records) → readSheet b ≡ read d → WithinLimits d
+read-within b k d e =
+    let s = sheet-read b d e in
+    let g = kept-read Bytes bytes-after (bytes-after b k) (s .groups) in
+    let n = kept-read Bytes bytes-after g (s .names) in
+    record {
+      right = read-right b d e;
+      groupEnds = each-read Bytes bytes-after group-end (bytes-after b k) (s .groups);
+      claimEnds = each-read Bytes bytes-after (claim-end (length (d .names))) n (s .claims);
+    }
+
+pub end-at : {d : Records} → WithinLimits d → (i : ℕ) (z : GroupRecord) → i < length (d .groups)
+    → getD (d .groups) i z .hi ≤ noEnd
+end-at w i z l = each-at (w .groupEnds) i z l
+
+-- at most sheetLimit bytes are readable
+group-bytes : (gs : List GroupRecord) (b : List ℕ) → Pass (groupTests gs b) → lengthOf b + 2 ≤ 12
+group-bytes gs b p = omega (arith, group-frame gs b p)
+
+name-bytes : (groups : ℕ) (ns : List NameRecord) (b : List ℕ) → Pass (nameTests groups ns b) → lengthOf b + 2 ≤ 22
+name-bytes groups ns b p = omega (arith, name-frame groups ns b p)
+
+claim-bytes : (names : ℕ) (cs : List ClaimRecord) (b : List ℕ) → Pass (claimTests names cs b) → lengthOf b + 2 ≤ 40
+claim-bytes names cs b p =
+    claim-cases names cs b p (λ e f. omega arith) (λ e f. omega arith) (λ e f. omega arith)
+
+pub readable-length : (b : List ℕ) (d : Records) → readSheet b ≡ read d → length b ≤ sheetLimit
+unfolding after
+readable-length b d e =
+    let s = sheet-read b d e in
+    omega (
+      arith,
+      reads-length 12 group-bytes (s .groups),
+      reads-length 22 (name-bytes (length (d .groups))) (s .names),
+      reads-length 40 (claim-bytes (length (d .names))) (s .claims),
+      length-drop (lengthOf b + 2) b,
+    )
+
+-- a refusal of a sheet is from 1 to 7, its record number at most one past the last record
+refuses-closing : (gs : List GroupRecord) (ns : List NameRecord) (r : ℕ) (cs : List ClaimRecord) (b : List ℕ) → 1 ≤ r → r ≤ recordLimit
+    → Refuses 1 7 recordLimit (closing gs ns r cs b)
+unfolding closing
+refuses-closing gs ns r cs b h k =
+    onward-refuses 1 7 recordLimit (test 7 (eqb (length b) 0) ∷ []) (closing-numbered b) (omega arith) r _ h k (λ p. tt)
+
+refuses-sheet : (b : List ℕ) → Refuses 1 7 recordLimit (readSheet b)
+unfolding readSheet readGroups readNames readClaims headOf
+refuses-sheet b =
+    onward-refuses 1 7 recordLimit (headTests b) (head-numbered b) (omega arith) 1 _ (omega arith) (omega arith)
+    (λ p.
+    let h = head-right b p in
+    many-refuses groupTests groupOf _ 7 recordLimit group-numbered (u16At b 6) 2 [] (after b) (omega arith) (omega arith)
+    (λ gs c.
+    many-refuses (nameTests (u16At b 6)) nameOf _ 7 recordLimit (name-numbered (u16At b 6)) (u16At b 8) (2 + u16At b 6) [] c (omega arith)
+    (omega arith)
+    (λ ns e.
+    many-refuses (claimTests (u16At b 8)) claimOf _ 7 recordLimit (claim-numbered (u16At b 8)) (u16At b 10)
+    (2 + u16At b 6 + u16At b 8) [] e (omega arith) (omega arith)
+    (λ cs f. refuses-closing gs ns _ cs f (omega arith) (omega arith)))))
+
+pub sheet-refusal : (b : List ℕ) (n r : ℕ) → readSheet b ≡ refused n r → (1 ≤ n) × (n ≤ 7) × (1 ≤ r) × (r ≤ recordLimit)
+sheet-refusal b n r e = rw e at (refuses-sheet b)

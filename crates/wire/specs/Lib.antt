@@ -1,0 +1,15 @@
+pub mod Limits
+pub mod Bytes
+pub mod Record
+pub mod SheetFormat
+pub mod RegisterFormat
+pub mod Encoding
+pub mod Passing
+pub mod Many
+pub mod Sorts
+pub mod Facts
+pub mod Fields
+pub mod RoundTripRegister
+pub mod RoundTripRecords
+pub mod RoundTripSheet
+pub mod RowFacts

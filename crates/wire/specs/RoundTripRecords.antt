@@ -1,0 +1,392 @@
+-- Each sort of record of a sheet: an encoded record that is right passes its tests and is read with what follows it, and a
+-- record that passes is the encoding of its value.
+use Prim.Native.Nat.{ℕ, zero, suc, _+_, _-_, _*_, _%_, _≤_, _<_}
+use mathlib.Core.Path.{_≡_, refl, sym, _∙_}
+use mathlib.Core.Bool.{true, _&&_}
+use mathlib.Core.List.{List, [], _∷_, _++_, append-assoc}
+use native.Mathlib.Omega.{arith}
+use native.Mathlib.Nat.{zero-add, add-zero, suc-add}
+use lib.ListN.{length, take, drop, length-append, take-append-drop}
+use lib.Seq.{drop-drop, take-append-seam}
+use lib.Dec.{leb}
+use borrow.Author.Tests.{leb-true, le-leb, eq-eqb, ne-eqb}
+use Rattle.wire.specs.Limits.{edition, groupLimit, nameLimit, boundLimit, noEnd}
+use Rattle.wire.specs.Bytes.{u16At, le16}
+use Rattle.wire.specs.Record.{lengthOf, kindOf, after, framed, Test}
+use Rattle.wire.specs.SheetFormat.{HeadRecord, GroupRecord, NameRecord, ClaimRecord, count, inside, apart, Records}
+use Rattle.wire.specs.SheetFormat.{headTests, groupTests, nameTests, claimTests, headOf, groupOf, nameOf, claimOf}
+use Rattle.wire.specs.SheetFormat.{u16s, leftOf, rightOf, allWithin, claimLength, claimFields, claimNames}
+use Rattle.wire.specs.Encoding.{Bytes, GroupRight, NameRight, SideRight, ClaimRight, GroupEnd, ClaimEnd, Right}
+use Rattle.wire.specs.Encoding.{encodeRecord, le16s, encodeHead, encodeGroup, encodeName, encodeClaim}
+use Rattle.wire.specs.Passing.{and-true, Pass}
+use Rattle.wire.specs.Sorts.{Framed, HeadRight, group-frame, name-frame, SidesFrame}
+use Rattle.wire.specs.Sorts.{claim-cases, claim-frame, claim-count, claim-inside, claim-apart, length-u16s, label-length}
+use Rattle.wire.specs.Fields.{Fields, none, more, u16s-drop, u16s-le16s, length-le16, length-le16s, drop-le16, drop-le16s}
+use Rattle.wire.specs.Fields.{length-encoded, kind-encoded, body-encoded, after-encoded, framed-encoded, encode-read}
+use Rattle.wire.specs.Facts.{parent-right}
+
+-- A record whose body is fields of two bytes.
+pub record FieldsOf (b : List ℕ) (kind : ℕ) (xs c : List ℕ) : Type 0 where
+  pub frame : framed b ≡ true
+  pub kind-is : kindOf b ≡ kind
+  pub size : lengthOf b ≡ 2 * length xs + 2
+  pub rest : after b ≡ c
+  pub fields : u16s b 4 (length xs) ≡ xs
+
+fields-encoded : (kind : ℕ) {xs : List ℕ} → kind ≤ 6 → length xs ≤ 18 → Fields xs → (c : List ℕ)
+    → FieldsOf (encodeRecord kind (le16s xs) ++ c) kind xs c
+fields-encoded kind {xs} k l f c =
+    let n = length-le16s xs in
+    record {
+      frame = framed-encoded kind (le16s xs) c (omega arith) (omega arith);
+      kind-is = kind-encoded kind (le16s xs) c (omega arith) (omega arith);
+      size = rw (← n) (length-encoded kind (le16s xs) c (omega arith) (omega arith));
+      rest = after-encoded kind (le16s xs) c (omega arith) (omega arith);
+      fields =
+          sym (u16s-drop 4 (encodeRecord kind (le16s xs) ++ c) 0 (length xs))
+          ∙ rw (body-encoded kind (le16s xs) c (omega arith) (omega arith)) (u16s-le16s f c);
+    }
+
+fields-read : (b : List ℕ) → Bytes b → Framed b → (n : ℕ) → lengthOf b ≡ 2 * n + 2 → (kind : ℕ) → kindOf b ≡ kind
+    → encodeRecord kind (le16s (u16s b 4 n)) ++ after b ≡ b
+unfolding after
+fields-read b k f n l kind e =
+    let size = length-le16s (u16s b 4 n) in
+    let same : lengthOf b + 2 ≡ 4 + 2 * n = omega arith in
+    rw (← e)
+    (encode-read b k f (le16s (u16s b 4 n)) (rw same (drop-le16s b k 4 n (omega arith))) (omega (arith, length-u16s b 4 n)))
+
+-- groups
+group-fields : (g : GroupRecord) → Fields (g .parent ∷ g .lo ∷ g .hi ∷ g .mode ∷ []) → (c : List ℕ)
+    → FieldsOf (encodeGroup g ++ c) 2 (g .parent ∷ g .lo ∷ g .hi ∷ g .mode ∷ []) c
+unfolding encodeGroup
+group-fields g f c = fields-encoded 2 (omega arith) (omega arith) f c
+
+group-passes : (gs : List GroupRecord) (b : List ℕ) → framed b ≡ true → kindOf b ≡ 2 → lengthOf b ≡ 10 → GroupRight gs (groupOf b)
+    → Pass (groupTests gs b)
+unfolding groupTests groupOf
+group-passes gs b f k l R =
+    (f, (eq-eqb _ _ k, (eq-eqb _ _ l, (rw (le-leb _ _ (R .lo), le-leb _ _ (R .mode)), (R .parent, tt)))))
+
+group-value : (b : List ℕ) (g : GroupRecord) → u16s b 4 4 ≡ g .parent ∷ g .lo ∷ g .hi ∷ g .mode ∷ [] → groupOf b ≡ g
+unfolding u16s groupOf
+group-value b g e =
+    let p : u16At b 4 ≡ g .parent = cc in
+    let l : u16At b 6 ≡ g .lo = cc in
+    let h : u16At b 8 ≡ g .hi = cc in
+    let m : u16At b 10 ≡ g .mode = cc in
+    rw (p, l, h, m)
+
+pub group-back : (gs : List GroupRecord) (b : List ℕ) → Bytes b → Pass (groupTests gs b) → encodeGroup (groupOf b) ++ after b ≡ b
+unfolding encodeGroup groupOf u16s
+group-back gs b k p =
+    let f = group-frame gs b p in
+    fields-read b k (f .frame) 4 (f .size) 2 (f .kind)
+
+-- what `many-encoded` asks of a sort of record
+abbrev pub Good : {A : Type 0} → (List ℕ → List Test) → (List ℕ → A) → A → List ℕ → List ℕ → Type 0
+Good tests value y b c = Pass (tests b) × (value b ≡ y) × (after b ≡ c)
+
+pub group-good : (gs : List GroupRecord) (g : GroupRecord) (c : List ℕ)
+    → GroupRight gs g → GroupEnd gs g → length gs < groupLimit → Good (groupTests gs) groupOf g (encodeGroup g ++ c) c
+group-good gs g c R e l =
+    let p = parent-right (length gs) (g .parent) (R .parent) in
+    let f = group-fields g (more (omega arith) (more (omega arith) (more e (more (omega arith) none)))) c in
+    let v = group-value (encodeGroup g ++ c) g (f .fields) in
+    (group-passes gs (encodeGroup g ++ c) (f .frame) (f .kind-is) (f .size) (rw v R), v, f .rest)
+
+-- names
+pub name-back : (groups : ℕ) (ns : List NameRecord) (b : List ℕ) → Bytes b → Pass (nameTests groups ns b)
+    → encodeName (nameOf b) ++ after b ≡ b
+unfolding encodeName nameOf after
+name-back groups ns b k p =
+    let f = name-frame groups ns b p in
+    let l = label-length b f in
+    let same : lengthOf b + 2 ≡ 6 + (lengthOf b - 4) = omega arith in
+    let tail : take (lengthOf b - 4) (drop 6 b) ++ drop (lengthOf b + 2) b ≡ drop 6 b =
+    rw (same, ← drop-drop (lengthOf b - 4) 6 b) (take-append-drop (lengthOf b - 4) (drop 6 b)) in
+    rw (← f .kind)
+    (encode-read b k (f .frame) (le16 (u16At b 4) ++ take (lengthOf b - 4) (drop 6 b))
+    (rw (append-assoc, tail) (drop-le16 b k 4 (omega arith)))
+    (omega (arith, length-le16 (u16At b 4) (take (lengthOf b - 4) (drop 6 b)))))
+
+module _ (groups : ℕ) (ns : List NameRecord) (n : NameRecord) (c : List ℕ) (R : NameRight groups ns n)
+    (most : groups ≤ groupLimit) where
+  name-size : length (le16 (n .group) ++ n .label) ≡ 2 + length (n .label)
+  name-size = length-le16 (n .group) (n .label)
+
+  name-group : u16At (encodeName n ++ c) 4 ≡ n .group
+  unfolding encodeName encodeRecord le16 u16At
+  name-group = omega (arith, R .group)
+
+  name-label : drop 6 (encodeName n ++ c) ≡ n .label ++ c
+  unfolding encodeName encodeRecord le16
+  name-label = refl
+
+  name-length : lengthOf (encodeName n ++ c) ≡ length (n .label) + 4
+  unfolding encodeName
+  name-length =
+      let fits : length (le16 (n .group) ++ n .label) + 2 ≤ noEnd = omega (arith, R .last, name-size) in
+      omega (arith, name-size, length-encoded 3 (le16 (n .group) ++ n .label) c (omega arith) fits)
+
+  name-value : nameOf (encodeName n ++ c) ≡ n
+  unfolding nameOf
+  name-value =
+      let size : length (n .label) + 4 - 4 ≡ length (n .label) = omega arith in
+      rw (name-group, name-label, name-length, size, take-append-seam (n .label) c)
+
+  name-framed : (framed (encodeName n ++ c) ≡ true) × (kindOf (encodeName n ++ c) ≡ 3) × (after (encodeName n ++ c) ≡ c)
+  unfolding encodeName
+  name-framed =
+      let body = le16 (n .group) ++ n .label in
+      let fits : length body + 2 ≤ noEnd = omega (arith, R .last, name-size) in
+      let small : 3 ≤ noEnd = omega arith in
+      (framed-encoded 3 body c small fits, kind-encoded 3 body c small fits, after-encoded 3 body c small fits)
+
+  name-passes : Pass (nameTests groups ns (encodeName n ++ c))
+  unfolding nameTests
+  name-passes =
+      let f = name-framed in
+      let v = name-value in
+      let five : 5 ≤ length (n .label) + 4 = omega (arith, R .first) in
+      let twenty : length (n .label) + 4 ≤ 20 = omega (arith, R .last) in (
+        f .0,
+        (
+          eq-eqb _ _ (f .1),
+          (
+            rw (name-length, le-leb _ _ five, le-leb _ _ twenty),
+            (rw v (R .bytes), (rw name-group (le-leb _ _ (R .group)), (rw (v, R .new), tt))),
+          ),
+        ),
+      )
+
+  pub name-good : Good (nameTests groups ns) nameOf n (encodeName n ++ c) c
+  name-good = (name-passes, name-value, name-framed .2)
+
+-- claims: the fields of two sides
+u16s-append : (b : List ℕ) (i m n : ℕ) → u16s b i (m + n) ≡ u16s b i m ++ u16s b (i + 2 * m) n
+unfolding u16s
+u16s-append b i zero n = rw (zero-add n, add-zero i)
+u16s-append b i (suc m) n =
+    let same : i + 2 * suc m ≡ i + 2 + 2 * m = omega arith in
+    rw (suc-add m n, u16s-append b (i + 2) m n, same)
+
+-- the fields of a claim of kind 5 or 6
+abbrev sides : List ℕ → List ℕ → List ℕ
+sides l r = length l ∷ length r ∷ l ++ r
+
+sides-fields : (b : List ℕ) → sides (leftOf b) (rightOf b) ≡ u16s b 4 (suc (suc (u16At b 4 + u16At b 6)))
+unfolding leftOf rightOf u16s
+sides-fields b =
+    rw (length-u16s b 8 (u16At b 4), length-u16s b (8 + 2 * u16At b 4) (u16At b 6), u16s-append b 8 (u16At b 4) (u16At b 6))
+
+sides-back : (names : ℕ) (b : List ℕ) → Bytes b → Framed b → SidesFrame names b → (kind : ℕ) → kindOf b ≡ kind
+    → encodeRecord kind (le16s (sides (leftOf b) (rightOf b))) ++ after b ≡ b
+sides-back names b k f s kind e =
+    rw (sides-fields b) (fields-read b k f (suc (suc (u16At b 4 + u16At b 6))) (omega arith) kind e)
+
+count-back : (b : List ℕ) → Bytes b → Framed b → lengthOf b ≡ 8 → kindOf b ≡ 4
+    → encodeClaim (count (u16At b 4) (u16At b 6) (u16At b 8)) ++ after b ≡ b
+unfolding encodeClaim u16s
+count-back b k f l e = fields-read b k f 3 l 4 e
+
+pub claim-back : (names : ℕ) (cs : List ClaimRecord) (b : List ℕ) → Bytes b → Pass (claimTests names cs b)
+    → encodeClaim (claimOf b) ++ after b ≡ b
+unfolding encodeClaim
+claim-back names cs b k p =
+    let f = claim-frame names cs b p in
+    claim-cases names cs b p (λ e s. rw (claim-count b e) (count-back b k f (s .size) e))
+    (λ e s. rw (claim-inside b e) (sides-back names b k f s 5 e)) (λ e s. rw (claim-apart b e) (sides-back names b k f s 6 e))
+
+-- names of claims fit two bytes
+within-fields : (n : ℕ) (xs : List ℕ) → n ≤ noEnd → allWithin n xs ≡ true → Fields xs
+unfolding allWithin
+within-fields n [] l h = none
+within-fields n (x ∷ xs) l h =
+    let s = and-true (leb 1 x && leb x n) (allWithin n xs) h in
+    let t = leb-true x n (and-true (leb 1 x) (leb x n) (s .0) .1) in
+    let fits : x ≤ noEnd = omega arith in
+    more fits (within-fields n xs l (s .1))
+
+fields-append : {xs ys : List ℕ} → Fields xs → Fields ys → Fields (xs ++ ys)
+fields-append none g = g
+fields-append (more l f) g = more l (fields-append f g)
+
+append-same : (xs us : List ℕ) {ys vs : List ℕ} → length xs ≡ length us → xs ++ ys ≡ us ++ vs → (xs ≡ us) × (ys ≡ vs)
+append-same [] [] l e = (refl, e)
+append-same (x ∷ xs) (u ∷ us) {ys} {vs} l e =
+    let head : x ≡ u = cc in
+    let tail : xs ++ ys ≡ us ++ vs = cc in
+    let s = append-same xs us (omega arith) tail in
+    (rw (head, s .0), s .1)
+append-same [] (u ∷ us) l e = absurd (omega arith)
+append-same (x ∷ xs) [] l e = absurd (omega arith)
+
+-- what an encoded claim of kind 5 or 6 has
+record SidesOf (b : List ℕ) (l r : List ℕ) : Type 0 where
+  pub lefts : u16At b 4 ≡ length l
+  pub rights : u16At b 6 ≡ length r
+  pub left : leftOf b ≡ l
+  pub right : rightOf b ≡ r
+
+sides-of : (b l r : List ℕ) → u16s b 4 (length (sides l r)) ≡ sides l r → SidesOf b l r
+unfolding u16s leftOf rightOf
+sides-of b l r e =
+    let m : u16At b 4 ≡ length l = cc in
+    let n : u16At b 6 ≡ length r = cc in
+    let both : u16s b 8 (length (l ++ r)) ≡ l ++ r = cc in
+    let s = append-same (u16s b 8 (length l)) l (length-u16s b 8 (length l))
+    (sym (u16s-append b 8 (length l) (length r)) ∙ rw (length-append l r) at both) in
+    record { lefts = m; rights = n; left = rw m (s .0); right = rw (m, n) (s .1) }
+
+sides-passes : (names : ℕ) (cs : List ClaimRecord) (b l r c : List ℕ) (kind : ℕ) → 5 ≤ kind → kind ≤ 6
+    → FieldsOf b kind (sides l r) c → SideRight names l → SideRight names r → Pass (claimTests names cs b)
+unfolding claimTests claimLength claimFields claimNames
+sides-passes names cs b l r c kind five six f L R =
+    let s = sides-of b l r (f .fields) in
+    let n = length-append l r in
+    let other = ne-eqb kind 4 (omega arith) in
+    let even : lengthOf b % 2 ≡ 0 = omega (arith, f .size) in
+    let least : 10 ≤ lengthOf b = omega (arith, f .size, L .first, R .first) in
+    let most : lengthOf b ≤ 38 = omega (arith, f .size, L .last, R .last) in
+    let size : 6 + 2 * (length l + length r) ≡ lengthOf b = omega (arith, f .size) in (
+      f .frame,
+      (
+        rw (f .kind-is, le-leb 4 kind (omega arith), le-leb kind 6 six),
+        (
+          rw (f .kind-is, other, eq-eqb _ _ even, le-leb _ _ least, le-leb _ _ most),
+          (
+            rw (
+              f .kind-is,
+              other,
+              s .lefts,
+              s .rights,
+              le-leb _ _ (L .first),
+              le-leb _ _ (L .last),
+              le-leb _ _ (R .first),
+              le-leb _ _ (R .last),
+              eq-eqb _ _ size,
+            ),
+            (rw (f .kind-is, other, s .left, s .right, L .allowed, R .allowed), tt),
+          ),
+        ),
+      ),
+    )
+
+count-passes : (names : ℕ) (cs : List ClaimRecord) (b c : List ℕ) (n lo hi : ℕ) → FieldsOf b 4 (n ∷ lo ∷ hi ∷ []) c
+    → (allWithin names (n ∷ []) ≡ true) × (lo ≤ boundLimit) → Pass (claimTests names cs b)
+unfolding claimTests claimLength claimFields claimNames u16s
+count-passes names cs b c n lo hi f R =
+    let e = f .fields in
+    let name : u16At b 4 ≡ n = cc in
+    let low : u16At b 6 ≡ lo = cc in (
+      f .frame,
+      (
+        rw (f .kind-is),
+        (
+          rw (f .kind-is, eq-eqb _ _ (f .size)),
+          (
+            rw (f .kind-is, low, le-leb _ _ (R .1)),
+            (rw (f .kind-is, name) (R .0), tt),
+          ),
+        ),
+      ),
+    )
+
+sides-encoded : (names : ℕ) (l r : List ℕ) → names ≤ nameLimit → SideRight names l → SideRight names r
+    → (kind : ℕ) → kind ≤ 6 → (c : List ℕ) → FieldsOf (encodeRecord kind (le16s (sides l r)) ++ c) kind (sides l r) c
+sides-encoded names l r most L R kind six c =
+    let some : names ≤ noEnd = omega arith in
+    let fields = fields-append (within-fields names l some (L .allowed)) (within-fields names r some (R .allowed)) in
+    let size : length (sides l r) ≤ 18 = omega (arith, length-append l r, L .last, R .last) in
+    let first : length l ≤ noEnd = omega (arith, L .last) in
+    let second : length r ≤ noEnd = omega (arith, R .last) in
+    fields-encoded kind six size (more first (more second fields)) c
+
+count-value : (b c : List ℕ) (n lo hi : ℕ) → FieldsOf b 4 (n ∷ lo ∷ hi ∷ []) c → claimOf b ≡ count n lo hi
+unfolding u16s
+count-value b c n lo hi f =
+    let e = f .fields in
+    let name : u16At b 4 ≡ n = cc in
+    let low : u16At b 6 ≡ lo = cc in
+    let high : u16At b 8 ≡ hi = cc in
+    rw (claim-count b (f .kind-is), name, low, high)
+
+pub claim-good : (names : ℕ) → names ≤ nameLimit → (cs : List ClaimRecord) (x : ClaimRecord) (c : List ℕ)
+    → ClaimRight names cs x → ClaimEnd cs x → Good (claimTests names cs) claimOf x (encodeClaim x ++ c) c
+unfolding encodeClaim
+claim-good names most cs (count n lo hi) c R e =
+    let low : lo ≤ noEnd = omega (arith, R .1) in
+    let fields = fields-append (within-fields names (n ∷ []) (omega arith) (R .0)) (more low (more e none)) in
+    let f = fields-encoded 4 (omega arith) (omega arith) fields c in
+    (count-passes names cs _ c n lo hi f R, count-value _ c n lo hi f, f .rest)
+claim-good names most cs (inside l r) c R e =
+    let f = sides-encoded names l r most (R .0) (R .1) 5 (omega arith) c in
+    let s = sides-of _ l r (f .fields) in (
+      sides-passes names cs _ l r c 5 (omega arith) (omega arith) f (R .0) (R .1),
+      claim-inside _ (f .kind-is) ∙ rw (s .left, s .right),
+      f .rest,
+    )
+claim-good names most cs (apart l r) c R e =
+    let f = sides-encoded names l r most (R .0) (R .1) 6 (omega arith) c in
+    let s = sides-of _ l r (f .fields) in (
+      sides-passes names cs _ l r c 6 (omega arith) (omega arith) f (R .0) (R .1),
+      claim-apart _ (f .kind-is) ∙ rw (s .left, s .right),
+      f .rest,
+    )
+
+-- the head
+abbrev pub headFor : Records → HeadRecord
+headFor d = record { groups = length (d .groups); names = length (d .names); claims = length (d .claims) }
+
+head-passes : (b c : List ℕ) (d : Records) → Right d
+    → FieldsOf b 1 (edition ∷ length (d .groups) ∷ length (d .names) ∷ length (d .claims) ∷ []) c
+    → Pass (headTests b) × (headOf b ≡ headFor d)
+unfolding headTests headOf u16s
+head-passes b c d R f =
+    let e = f .fields in
+    let one : u16At b 4 ≡ edition = cc in
+    let groups : u16At b 6 ≡ length (d .groups) = cc in
+    let names : u16At b 8 ≡ length (d .names) = cc in
+    let claims : u16At b 10 ≡ length (d .claims) = cc in (
+      (
+        f .frame,
+        (
+          eq-eqb _ _ (f .kind-is),
+          (
+            eq-eqb _ _ (f .size),
+            (
+              rw (
+                one,
+                groups,
+                names,
+                claims,
+                le-leb _ _ (R .someGroup),
+                le-leb _ _ (R .groupCount),
+                le-leb _ _ (R .nameCount),
+                le-leb _ _ (R .claimCount),
+              ),
+              tt,
+            ),
+          ),
+        ),
+      ),
+      rw (groups, names, claims),
+    )
+
+pub head-good : (d : Records) → Right d → (c : List ℕ) → Good headTests headOf (headFor d) (encodeHead d ++ c) c
+unfolding encodeHead
+head-good d R c =
+    let groups : length (d .groups) ≤ noEnd = omega (arith, R .groupCount) in
+    let names : length (d .names) ≤ noEnd = omega (arith, R .nameCount) in
+    let claims : length (d .claims) ≤ noEnd = omega (arith, R .claimCount) in
+    let one : edition ≤ noEnd = omega arith in
+    let f = fields-encoded 1 (omega arith) (omega arith) (more one (more groups (more names (more claims none)))) c in
+    let p = head-passes _ c d R f in
+    (p .0, p .1, f .rest)
+
+pub head-back : (b : List ℕ) → Bytes b → HeadRight b → (d : Records) → length (d .groups) ≡ u16At b 6
+    → length (d .names) ≡ u16At b 8 → length (d .claims) ≡ u16At b 10 → encodeHead d ++ after b ≡ b
+unfolding encodeHead u16s
+head-back b k h d groups names claims =
+    rw (groups, names, claims) (rw (h .edition) at (fields-read b k (h .frame) 4 (h .size) 1 (h .kind)))

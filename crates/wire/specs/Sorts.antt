@@ -1,0 +1,235 @@
+-- What a record that passes its tests has, for each sort of record.
+use Prim.Native.Nat.{ℕ, zero, suc, _+_, _-_, _*_, _≤_}
+use mathlib.Core.Path.{_≡_, refl, ap}
+use mathlib.Core.Bool.{true, _&&_}
+use mathlib.Core.List.{List, [], _∷_}
+use native.Mathlib.Omega.{arith}
+use lib.ListN.{length, length-take, length-drop}
+use lib.Dec.{leb, eqb}
+use borrow.Author.Tests.{leb-true, le-leb, eqb-true, eqb-false, not-true}
+use Rattle.wire.specs.Limits.{edition, groupLimit, nameLimit, claimLimit, sideLimit, boundLimit, modeLimit}
+use Rattle.wire.specs.Bytes.{u16At}
+use Rattle.wire.specs.Record.{lengthOf, kindOf, framed}
+use Rattle.wire.specs.SheetFormat.{headTests, groupTests, nameTests, claimTests, groupOf, nameOf, claimOf, leftOf, rightOf}
+use Rattle.wire.specs.SheetFormat.{GroupRecord, NameRecord, ClaimRecord, count, inside, apart, u16s, allWithin, claimLength}
+use Rattle.wire.specs.SheetFormat.{claimFields, claimNames}
+use Rattle.wire.specs.Encoding.{GroupRight, NameRight, SideRight, ClaimRight}
+use Rattle.wire.specs.Passing.{split, and-true, Pass, Numbered}
+
+-- the bytes that a record's frame promises are there
+pub record Framed (b : List ℕ) : Type 0 where
+  pub four : 4 ≤ length b
+  pub least : 2 ≤ lengthOf b
+  pub whole : lengthOf b + 2 ≤ length b
+
+pub framed-true : (b : List ℕ) → framed b ≡ true → Framed b
+unfolding framed
+framed-true b h =
+    let s = and-true (leb 4 (length b) && leb 2 (lengthOf b)) (leb (lengthOf b + 2) (length b)) h in
+    let t = and-true (leb 4 (length b)) (leb 2 (lengthOf b)) (s .0) in
+    record { four = leb-true _ _ (t .0); least = leb-true _ _ (t .1); whole = leb-true _ _ (s .1) }
+
+pub framed-of : (b : List ℕ) → Framed b → framed b ≡ true
+unfolding framed
+framed-of b f = rw (le-leb _ _ (f .four), le-leb _ _ (f .least), le-leb _ _ (f .whole))
+
+-- the head
+pub record HeadRight (b : List ℕ) : Type 0 where
+  pub frame : Framed b
+  pub kind : kindOf b ≡ 1
+  pub size : lengthOf b ≡ 10
+  pub edition : u16At b 4 ≡ edition
+  pub someGroup : 1 ≤ u16At b 6
+  pub groups : u16At b 6 ≤ groupLimit
+  pub names : u16At b 8 ≤ nameLimit
+  pub claims : u16At b 10 ≤ claimLimit
+
+pub head-numbered : (b : List ℕ) → Numbered 1 7 (headTests b)
+unfolding headTests
+head-numbered b = omega arith
+
+pub head-right : (b : List ℕ) → Pass (headTests b) → HeadRight b
+unfolding headTests
+head-right b p =
+    let d = and-true (eqb (u16At b 4) edition && leb 1 (u16At b 6) && leb (u16At b 6) groupLimit && leb (u16At b 8) nameLimit)
+    (leb (u16At b 10) claimLimit) (p .1 .1 .1 .0) in
+    let c = and-true (eqb (u16At b 4) edition && leb 1 (u16At b 6) && leb (u16At b 6) groupLimit)
+    (leb (u16At b 8) nameLimit) (d .0) in
+    let a = and-true (eqb (u16At b 4) edition && leb 1 (u16At b 6)) (leb (u16At b 6) groupLimit) (c .0) in
+    let e = and-true (eqb (u16At b 4) edition) (leb 1 (u16At b 6)) (a .0) in
+    record {
+      frame = framed-true b (p .0);
+      kind = eqb-true _ _ (p .1 .0);
+      size = eqb-true _ _ (p .1 .1 .0);
+      edition = eqb-true _ _ (e .0);
+      someGroup = leb-true _ _ (e .1);
+      groups = leb-true _ _ (a .1);
+      names = leb-true _ _ (c .1);
+      claims = leb-true _ _ (d .1);
+    }
+
+-- a group
+pub group-numbered : (gs : List GroupRecord) (b : List ℕ) → Numbered 1 7 (groupTests gs b)
+unfolding groupTests
+group-numbered gs b = omega arith
+
+pub record GroupFrame (b : List ℕ) : Type 0 where
+  pub frame : Framed b
+  pub kind : kindOf b ≡ 2
+  pub size : lengthOf b ≡ 10
+
+pub group-frame : (gs : List GroupRecord) (b : List ℕ) → Pass (groupTests gs b) → GroupFrame b
+unfolding groupTests
+group-frame gs b p = record { frame = framed-true b (p .0); kind = eqb-true _ _ (p .1 .0); size = eqb-true _ _ (p .1 .1 .0) }
+
+pub group-right : (gs : List GroupRecord) (b : List ℕ) → Pass (groupTests gs b) → GroupRight gs (groupOf b)
+unfolding groupTests groupOf
+group-right gs b p =
+    let s = and-true (leb (u16At b 6) boundLimit) (leb (u16At b 10) modeLimit) (p .1 .1 .1 .0) in
+    record { parent = p .1 .1 .1 .1 .0; lo = leb-true _ _ (s .0); mode = leb-true _ _ (s .1) }
+
+-- a name
+pub name-numbered : (groups : ℕ) (ns : List NameRecord) (b : List ℕ) → Numbered 1 7 (nameTests groups ns b)
+unfolding nameTests
+name-numbered groups ns b = omega arith
+
+pub record NameFrame (b : List ℕ) : Type 0 where
+  pub frame : Framed b
+  pub kind : kindOf b ≡ 3
+  pub least : 5 ≤ lengthOf b
+  pub most : lengthOf b ≤ 20
+
+pub name-frame : (groups : ℕ) (ns : List NameRecord) (b : List ℕ) → Pass (nameTests groups ns b) → NameFrame b
+unfolding nameTests
+name-frame groups ns b p =
+    let s = and-true (leb 5 (lengthOf b)) (leb (lengthOf b) 20) (p .1 .1 .0) in
+    record {
+      frame = framed-true b (p .0);
+      kind = eqb-true _ _ (p .1 .0);
+      least = leb-true _ _ (s .0);
+      most = leb-true _ _ (s .1);
+    }
+
+pub label-length : (b : List ℕ) → NameFrame b → length (nameOf b .label) ≡ lengthOf b - 4
+unfolding nameOf
+label-length b f = simp (length-take, length-drop) (omega arith)
+
+pub name-right : (groups : ℕ) (ns : List NameRecord) (b : List ℕ) → Pass (nameTests groups ns b) → NameRight groups ns (nameOf b)
+unfolding nameTests
+name-right groups ns b p =
+    let f = name-frame groups ns b p in
+    let l = label-length b f in
+    record {
+      group = unfold nameOf in leb-true _ _ (p .1 .1 .1 .1 .0);
+      first = omega arith;
+      last = omega arith;
+      bytes = p .1 .1 .1 .0;
+      new = not-true _ (p .1 .1 .1 .1 .1 .0);
+    }
+
+-- a claim: its kind, its length, and for kinds 5 and 6 the two sides
+pub claim-numbered : (names : ℕ) (cs : List ClaimRecord) (b : List ℕ) → Numbered 1 7 (claimTests names cs b)
+unfolding claimTests
+claim-numbered names cs b = omega arith
+
+pub length-u16s : (b : List ℕ) (i n : ℕ) → length (u16s b i n) ≡ n
+unfolding u16s
+length-u16s b i zero = refl
+length-u16s b i (suc n) = ap suc (length-u16s b (i + 2) n)
+
+pub record SidesFrame (names : ℕ) (b : List ℕ) : Type 0 where
+  pub leftFirst : 1 ≤ u16At b 4
+  pub leftLast : u16At b 4 ≤ sideLimit
+  pub rightFirst : 1 ≤ u16At b 6
+  pub rightLast : u16At b 6 ≤ sideLimit
+  pub size : 6 + 2 * (u16At b 4 + u16At b 6) ≡ lengthOf b
+  pub leftNames : allWithin names (leftOf b) ≡ true
+  pub rightNames : allWithin names (rightOf b) ≡ true
+
+pub record CountFrame (names : ℕ) (b : List ℕ) : Type 0 where
+  pub size : lengthOf b ≡ 8
+  pub name : allWithin names (u16At b 4 ∷ []) ≡ true
+  pub lo : u16At b 6 ≤ boundLimit
+
+pub claim-frame : (names : ℕ) (cs : List ClaimRecord) (b : List ℕ) → Pass (claimTests names cs b) → Framed b
+unfolding claimTests
+claim-frame names cs b p = framed-true b (p .0)
+
+-- the cases of a claim that passes
+pub claim-cases {ℓ} : {C : Type ℓ} (names : ℕ) (cs : List ClaimRecord) (b : List ℕ) → Pass (claimTests names cs b)
+    → (kindOf b ≡ 4 → CountFrame names b → C) → (kindOf b ≡ 5 → SidesFrame names b → C)
+    → (kindOf b ≡ 6 → SidesFrame names b → C) → C
+unfolding claimTests claimLength claimFields claimNames
+claim-cases names cs b p c4 c5 c6 =
+    let s = and-true (leb 4 (kindOf b)) (leb (kindOf b) 6) (p .1 .0) in
+    split (eqb (kindOf b) 4)
+    (λ four.
+    c4 (eqb-true _ _ four)
+    (record {
+      size = eqb-true _ _ (rw four at (p .1 .1 .0));
+      name = rw four at (p .1 .1 .1 .1 .0);
+      lo = leb-true _ _ (rw four at (p .1 .1 .1 .0));
+    }))
+    (λ other.
+    let sides = sides-of (rw other at (p .1 .1 .1 .0)) (rw other at (p .1 .1 .1 .1 .0)) in
+    split (eqb (kindOf b) 5) (λ five. c5 (eqb-true _ _ five) sides)
+    (λ six. c6 (omega (
+      arith,
+      leb-true 4 (kindOf b) (s .0),
+      leb-true (kindOf b) 6 (s .1),
+      eqb-false (kindOf b) 4 other,
+      eqb-false (kindOf b) 5 six,
+    )) sides))
+  where
+    sides-of : (leb 1 (u16At b 4) && leb (u16At b 4) sideLimit && leb 1 (u16At b 6) && leb (u16At b 6) sideLimit
+        && eqb (6 + 2 * (u16At b 4 + u16At b 6)) (lengthOf b)) ≡ true
+        → (allWithin names (leftOf b) && allWithin names (rightOf b)) ≡ true → SidesFrame names b
+    sides-of h k =
+        let e = and-true (leb 1 (u16At b 4) && leb (u16At b 4) sideLimit && leb 1 (u16At b 6) && leb (u16At b 6) sideLimit)
+        (eqb (6 + 2 * (u16At b 4 + u16At b 6)) (lengthOf b)) h in
+        let d = and-true (leb 1 (u16At b 4) && leb (u16At b 4) sideLimit && leb 1 (u16At b 6)) (leb (u16At b 6) sideLimit)
+        (e .0) in
+        let c = and-true (leb 1 (u16At b 4) && leb (u16At b 4) sideLimit) (leb 1 (u16At b 6)) (d .0) in
+        let a = and-true (leb 1 (u16At b 4)) (leb (u16At b 4) sideLimit) (c .0) in
+        let n = and-true (allWithin names (leftOf b)) (allWithin names (rightOf b)) k in
+        record {
+          leftFirst = leb-true _ _ (a .0);
+          leftLast = leb-true _ _ (a .1);
+          rightFirst = leb-true _ _ (c .1);
+          rightLast = leb-true _ _ (d .1);
+          size = eqb-true _ _ (e .1);
+          leftNames = n .0;
+          rightNames = n .1;
+        }
+
+-- the value of a claim, by its kind
+pub claim-count : (b : List ℕ) → kindOf b ≡ 4 → claimOf b ≡ count (u16At b 4) (u16At b 6) (u16At b 8)
+unfolding claimOf
+claim-count b e = rw e
+
+pub claim-inside : (b : List ℕ) → kindOf b ≡ 5 → claimOf b ≡ inside (leftOf b) (rightOf b)
+unfolding claimOf
+claim-inside b e = rw e
+
+pub claim-apart : (b : List ℕ) → kindOf b ≡ 6 → claimOf b ≡ apart (leftOf b) (rightOf b)
+unfolding claimOf
+claim-apart b e = rw e
+
+left-right : (names : ℕ) (b : List ℕ) → SidesFrame names b → SideRight names (leftOf b)
+unfolding leftOf
+left-right names b f =
+    let l = length-u16s b 8 (u16At b 4) in
+    record { first = omega arith; last = omega arith; allowed = unfold leftOf in f .leftNames }
+
+right-right : (names : ℕ) (b : List ℕ) → SidesFrame names b → SideRight names (rightOf b)
+unfolding rightOf
+right-right names b f =
+    let l = length-u16s b (8 + 2 * u16At b 4) (u16At b 6) in
+    record { first = omega arith; last = omega arith; allowed = unfold rightOf in f .rightNames }
+
+pub claim-right : (names : ℕ) (cs : List ClaimRecord) (b : List ℕ) → Pass (claimTests names cs b)
+    → ClaimRight names cs (claimOf b)
+claim-right names cs b p =
+    claim-cases names cs b p (λ k f. rw (claim-count b k) (f .name, f .lo))
+    (λ k f. rw (claim-inside b k) (left-right names b f, right-right names b f))
+    (λ k f. rw (claim-apart b k) (left-right names b f, right-right names b f))

@@ -1,0 +1,4 @@
+// The wire format: bytes, records, places, field ranges and labels of sheets, rows of registers, records of replies.
+// `specs/` is the format written down, which readers and writers cite, and that it loses nothing (`RoundTrip..`).
+// Document 01, "Records of a sheet", "Registers", "Replies" and "Turned back, in checking order".
+pub mod bytes;
