@@ -1,0 +1,13 @@
+pub mod Sum
+pub mod Sheet
+pub mod Sons
+pub mod Sets
+pub mod Fits
+pub mod Claim
+pub mod Rule
+pub mod Shown
+pub mod Part
+pub mod Arranged
+pub mod OfRecords
+pub mod Readable
+pub mod ReadableRows
