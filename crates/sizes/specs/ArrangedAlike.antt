@@ -1,0 +1,40 @@
+-- An arrangement is settled by its values at the groups: functions that agree there are both arrangements.
+use Prim.Native.Nat.{ℕ, zero, suc, _+_, _-_, _≤_}
+use mathlib.Core.Path.{_≡_, refl, sym, ap, _∙_}
+use native.Mathlib.Omega.{arith}
+use Rattle.meaning.specs.Sheet.{Sheet, Group, Son, Tree, Top}
+use Rattle.meaning.specs.Sons.{isSon, only}
+use Rattle.meaning.specs.Arranged.{leftFor, sizeOf, ended, firstOf, Arranged}
+use Rattle.sizes.specs.SumLaws.{split, son-of, son-parent, only-eq}
+use Rattle.sizes.specs.Ranged.{Rooted}
+
+module _ {s : Sheet} (t : Tree s) {first size first' size' : ℕ → ℕ} (a : (g : ℕ) → Group s g → first g ≡ first' g)
+    (b : (g : ℕ) → Group s g → size g ≡ size' g) where
+  sizeOf-eq : (L : ℕ → ℕ) (U : ℕ → Top) (p g : ℕ) → Son s p g → sizeOf s L U size p g ≡ sizeOf s L U size' p g
+  unfolding sizeOf leftFor
+  sizeOf-eq L U p g k =
+      let q = son-parent t k in
+      let sums = only-eq s p size size' g (omega (arith, k .group .last)) (λ j o. b j (o .group)) in
+      rw (b p q, sums)
+
+  ended-eq : (p n : ℕ) → Group s p → n ≤ suc (s .size) → ended s first size p n ≡ ended s first' size' p n
+  unfolding ended
+  ended-eq p zero q l = a p q
+  ended-eq p (suc n) q l =
+      split (isSon s p n)
+      (λ e. let o = son-of s p n (omega arith) e in rw (e, a n (o .group), b n (o .group)))
+      (λ e. rw e (ended-eq p n q (omega arith)))
+
+  firstOf-eq : (p g : ℕ) → Son s p g → firstOf s first size p g ≡ firstOf s first' size' p g
+  unfolding firstOf
+  firstOf-eq p g k =
+      let q = son-parent t k in
+      rw (a p q, b p q, b g (k .group), ended-eq p g q (omega (arith, k .group .last)))
+
+  pub arranged-eq : {L : ℕ → ℕ} {U : ℕ → Top} → Rooted s → Arranged s L U first size → Arranged s L U first' size'
+  arranged-eq {L} {U} r w = record {
+    rootSize = sym (b 1 (r .one)) ∙ w .rootSize;
+    rootFirst = sym (a 1 (r .one)) ∙ w .rootFirst;
+    sonSize = λ p g k. sym (b g (k .group)) ∙ (w .sonSize p g k ∙ sizeOf-eq L U p g k);
+    sonFirst = λ p g k. sym (a g (k .group)) ∙ (w .sonFirst p g k ∙ firstOf-eq p g k);
+  }

@@ -1,0 +1,30 @@
+-- The ranges from the root down: each son's interval, cut to what its parent's range and the other sons leave it.
+-- Sons are taken off from the first one on; `held` is what the sons not yet taken off must make up.
+use Prim.Native.Nat.{ℕ, zero, suc, _-_, _≤_}
+use mathlib.Core.Path.{_≡_}
+use mathlib.Core.Bool.{Bool, true, false, cond}
+use Rattle.meaning.specs.Sheet.{Sheet, Group, Son}
+use Rattle.sizes.specs.Balanced.{isSon}
+use Rattle.sizes.specs.Span.{Span, meet, pull}
+use Rattle.sizes.specs.Fold.{kindOf, later}
+
+-- group 1 is the one group without a parent
+pub record Rooted (s : Sheet) : Type 0 where
+  pub one : Group s 1
+  pub top : s .parent 1 ≡ 0
+  pub rest : (g : ℕ) → Group s g → 2 ≤ g → 1 ≤ s .parent g
+
+-- no flag forbids anything
+abbrev pub free : ℕ → Bool → Bool
+free g c = true
+
+-- what the sons of p numbered n and above must make up together
+unfoldable pub held : Sheet → (ℕ → Bool → Span) → (ℕ → Span) → ℕ → ℕ → Span
+held s z R p zero = R p
+held s z R p (suc n) =
+    cond (isSon s p n) (meet (later s z p (s .size - n) false) (pull (kindOf s p) (held s z R p n) (z n false))) (held s z R p n)
+
+pub record Ranged (s : Sheet) (z : ℕ → Bool → Span) (R : ℕ → Span) : Type 0 where
+  pub root : R 1 ≡ z 1 false
+  pub son : (p g : ℕ) → Son s p g →
+      R g ≡ meet (z g false) (pull (kindOf s p) (held s z R p g) (later s z p (s .size - g) false))
