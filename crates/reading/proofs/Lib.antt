@@ -1,0 +1,4 @@
+pub mod Fields
+pub mod Strings
+pub mod Many
+pub mod Stages

@@ -1,0 +1,169 @@
+-- `load_groups` meets its contract. The invariant: to read what is left from here
+-- is to read all, and the table has the groups so far.
+use types.Run.{miss}
+use mathlib.Core.List.{List, [], _∷_}
+use Rattle.wire.specs.Record.{refusal}
+use Rattle.reading.specs.Answers.{answered, groupAt}
+use Prim.Native.Nat.{ℕ, _+_, _-_, _≤_}
+use mathlib.Core.Path.{_≡_, sym, ap, _∙_}
+use borrow.Author.Needs.{needs}
+use native.Mathlib.Omega.{arith}
+use denote.Ref.{now}
+use lib.ListN.{length, drop}
+use Rattle.wire.specs.SheetFormat.{groupTests, groupOf}
+use Rattle.reading.specs.Tables.{groupsIn, length-groupsIn}
+use Rattle.reading.proofs.Fields.{stopped, group-whole, answered-carried}
+use Rattle.reading.proofs.Many.{Left, left-start, left-stop, left-done, group-again}
+use Rattle.reading.proofs.load.load_groups.Statement.{statement}
+use Rattle.reading.proofs.load.load_groups.Tie as tie
+
+abbrev Inv-loop : tie.InvT-loop
+Inv-loop s from count groups₀ at₀ i₀ groups at i = (i ≤ count) ×
+    ((at ≤ length s) × ((length groups ≡ length groups₀) × Left groupTests groupOf s from count 2 i at (groupsIn groups i)))
+
+abbrev μ-loop : tie.MeasureT-loop
+μ-loop s from count groups₀ at₀ i₀ groups at i = count - i
+
+-- the places of the loop's head, of its test and of the entry, seen from after a record was taken; and where that was
+abbrev head : tie.After-known-told Inv-loop μ-loop → tie.At-loop Inv-loop μ-loop
+head c = c .before .before .before .before .before
+
+abbrev turn : tie.After-known-told Inv-loop μ-loop → tie.In-loop Inv-loop μ-loop
+turn c = c .before .before .before .before
+
+abbrev bytes : tie.After-known-told Inv-loop μ-loop → List ℕ
+bytes c = now (c .before .before .before .before .before .before .before .before .args .s)
+
+abbrev told : tie.After-slice-known2 Inv-loop μ-loop → tie.After-known-told Inv-loop μ-loop
+told c = c .before .before .before .before .before .before .before
+
+-- what the reader answers
+asked : (c : tie.After-read-group Inv-loop μ-loop) → let s = now (c .before .before .before .before .before .args .s) in
+    let at = c .before .before .loop .at in
+    c .read-group .result ≡ answered (refusal (groupTests
+    (groupsIn (c .before .before .loop .groups) (c .before .before .loop .i)) (drop at s))) (groupAt s at)
+asked c = c .read-group .ensures _ (ap (λ n. n + 1) (length-groupsIn _ _))
+
+-- a record says that its tests passed
+taken : (c : tie.After-known-told Inv-loop μ-loop) → let l = head c .loop in
+    (refusal (groupTests (groupsIn (l .groups) (l .i)) (drop (l .at) (bytes c))) ≡ 0) ×
+    (groupAt (bytes c) (l .at) ≡ c .before .answer .given .0 .0)
+taken c = answered-carried _ _ _ (sym (asked (c .before .before .before)) ∙ c .before .answer .given .1)
+
+room : (c : tie.After-known-told Inv-loop μ-loop) → head c .loop .at + 12 ≤ length (bytes c)
+room c = let l = head c .loop in group-whole (bytes c) (l .at) (groupsIn (l .groups) (l .i)) (taken c .0) .1
+
+loop-holds : tie.Need-loop-holds Inv-loop μ-loop
+unfolding groupsIn
+loop-holds c = (search needs, (search needs, (search needs, left-start _ _ _ _ _ _)))
+
+add-read-group : tie.Need-add-read-group Inv-loop μ-loop
+add-read-group c = search needs
+
+read-group-requires : tie.Need-read-group-requires Inv-loop μ-loop
+read-group-requires c κs = search needs
+
+enum-known-answer : tie.Need-enum-known-answer Inv-loop μ-loop
+enum-known-answer c = search needs
+
+enum-told : tie.Need-enum-told Inv-loop μ-loop
+enum-told c = search needs
+
+refusal-of-requires : tie.Need-refusal-of-requires Inv-loop μ-loop
+refusal-of-requires c κs = search needs
+
+cast-t13 : tie.Need-cast-t13 Inv-loop μ-loop
+cast-t13 c = search needs
+
+add-t14 : tie.Need-add-t14 Inv-loop μ-loop
+add-t14 c = search needs
+
+same-length : tie.Need-same-length Inv-loop μ-loop
+same-length c = search needs
+
+returns : tie.Need-returns Inv-loop μ-loop
+returns c = let q = stopped _ _ _ _ _ (asked (c .before .before .before)) (c .before .enum-told .given .1)
+    (c .refusal-of .ensures) in
+    left-stop _ _ _ _ _ _ _ _ _ (c .before .before .before .before .before .loop .inv .1 .1 .1)
+    (c .before .before .before .before .loop-test .taken) _ _ (q .0) (q .1)
+
+enum-known-rec : tie.Need-enum-known-rec Inv-loop μ-loop
+enum-known-rec c = search needs
+
+cast-t15 : tie.Need-cast-t15 Inv-loop μ-loop
+cast-t15 c = search needs
+
+add-t16 : tie.Need-add-t16 Inv-loop μ-loop
+add-t16 c = search needs
+
+same-length-2 : tie.Need-same-length-2 Inv-loop μ-loop
+same-length-2 c = search needs
+
+returns-2 : tie.Need-returns-2 Inv-loop μ-loop
+unfolding groupAt
+returns-2 c = absurd (miss (0 ∷ 2 ∷ 3 ∷ []) 1 tt (rw (← taken (c .before) .1) at (c .match2 .keys2)))
+
+cast-put-group : tie.Need-cast-put-group Inv-loop μ-loop
+cast-put-group c = search needs
+
+put-group-requires : tie.Need-put-group-requires Inv-loop μ-loop
+put-group-requires c κs = search needs
+
+add-at : tie.Need-add-at Inv-loop μ-loop
+add-at c = let w = room (told c) in omega arith
+
+add-i : tie.Need-add-i Inv-loop μ-loop
+add-i c = search needs
+
+loop-less : tie.Need-loop-less Inv-loop μ-loop
+loop-less c = search needs
+
+loop-again : tie.Need-loop-again Inv-loop μ-loop
+loop-again c = let t = taken (told c) in (
+  search needs,
+  (
+    room (told c),
+    (
+      c .before .before .put-group .kept .0 ∙ head (told c) .loop .inv .1 .1 .0,
+      group-again _ _ _ _ _ _ _ _ (head (told c) .loop .inv .1 .1 .1) (turn (told c) .loop-test .taken) (omega arith) (t .0)
+          (t .1 ∙ c .before .before .before .before .before .rec .given .1) (c .before .before .put-group .ensures),
+    ),
+  ),
+)
+
+same-length-3 : tie.Need-same-length-3 Inv-loop μ-loop
+same-length-3 c = search needs
+
+returns-3 : tie.Need-returns-3 Inv-loop μ-loop
+returns-3 c = let e : c .before .loop .i ≡ c .before .before .before .before .args .count = omega arith in
+    rw e at (left-done _ _ _ _ _ _ _ _ _ (c .before .loop .inv .1 .1 .1) e (c .before .loop .inv .1 .0))
+
+pub load-groups-spec : {M : Type 1} → statement M
+load-groups-spec =
+    tie.close
+    (tie.spec
+    Inv-loop
+    μ-loop
+    loop-holds
+    add-read-group
+    read-group-requires
+    enum-known-answer
+    enum-told
+    refusal-of-requires
+    cast-t13
+    add-t14
+    same-length
+    returns
+    enum-known-rec
+    cast-t15
+    add-t16
+    same-length-2
+    returns-2
+    cast-put-group
+    put-group-requires
+    add-at
+    add-i
+    loop-less
+    loop-again
+    same-length-3
+    returns-3)

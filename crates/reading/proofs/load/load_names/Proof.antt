@@ -1,0 +1,262 @@
+-- `load_names` meets its contract. The invariant: to read what is left from here
+-- is to read all, and the tables have the names so far.
+use types.Run.{miss}
+use Prim.Native.Nat.{ℕ, _+_, _-_, _≤_}
+use mathlib.Core.Path.{_≡_, refl, sym, _∙_}
+use mathlib.Core.List.{List, [], _∷_}
+use borrow.Author.Needs.{needs}
+use native.Mathlib.Omega.{arith}
+use denote.Ref.{now}
+use lib.ListN.{length, drop, length-set}
+use Rattle.wire.specs.Bytes.{u16At}
+use Rattle.wire.specs.Record.{refusal}
+use Rattle.wire.specs.SheetFormat.{nameTests, nameOf}
+use Rattle.reading.specs.Answers.{WholeName, answered, nameAt}
+use Rattle.reading.specs.Loaded.{recordsIn, AllGrouped, AllPass}
+use Rattle.reading.proofs.Fields.{stopped, name-whole, name-same, answered-carried}
+use Rattle.reading.proofs.Many.{Left, left-start, left-stop, left-done, name-alone}
+use Rattle.reading.proofs.Many.{name-used, name-again, each-more, grouped-more}
+use Rattle.reading.proofs.load.load_names.Statement.{statement}
+use Rattle.reading.proofs.load.load_names.Tie as tie
+
+abbrev Inv-loop : tie.InvT-loop
+Inv-loop s from count groups names₀ labels₀ at₀ i₀ names labels at i = (i ≤ count) ×
+    ((at ≤ length s) × (((length names ≡ length names₀) × (length labels ≡ length labels₀)) ×
+    (Left (nameTests groups) nameOf s from count (2 + groups) i at (recordsIn nameOf s labels i) ×
+    (AllGrouped s names labels i × AllPass (nameTests groups []) s labels i))))
+
+abbrev μ-loop : tie.MeasureT-loop
+μ-loop s from count groups names₀ labels₀ at₀ i₀ names labels at i = count - i
+
+-- the places of the loop's head, of its test and of the entry, seen from after a record was taken; and where that was
+abbrev head : tie.After-known-told Inv-loop μ-loop → tie.At-loop Inv-loop μ-loop
+head c = c .before .before .before .before .before
+
+abbrev turn : tie.After-known-told Inv-loop μ-loop → tie.In-loop Inv-loop μ-loop
+turn c = c .before .before .before .before
+
+abbrev entry : tie.After-known-told Inv-loop μ-loop → tie.Start Inv-loop μ-loop
+entry c = c .before .before .before .before .before .before .before .before .before
+
+abbrev bytes : tie.After-known-told Inv-loop μ-loop → List ℕ
+bytes c = now (entry c .args .s)
+
+abbrev told : tie.After-struct-known Inv-loop μ-loop → tie.After-known-told Inv-loop μ-loop
+told c = c .before .before .before .before .before .before .before
+
+-- what the reader answers
+asked : (c : tie.After-read-name Inv-loop μ-loop) → let a = c .before .before .before .before .before .before .args in
+    let at = c .before .before .loop .at in
+    c .read-name .result ≡ answered (refusal (nameTests (a .groups) [] (drop at (now (a .s))))) (nameAt (now (a .s)) at)
+asked c = c .read-name .ensures
+
+-- a record says that its tests passed
+taken : (c : tie.After-known-told Inv-loop μ-loop) → let at = head c .loop .at in
+    (refusal (nameTests (entry c .args .groups) [] (drop at (bytes c))) ≡ 0) ×
+    (nameAt (bytes c) at ≡ c .before .answer .given .0 .0)
+taken c = answered-carried _ _ _ (sym (asked (c .before .before .before)) ∙ c .before .answer .given .1)
+
+room : (c : tie.After-known-told Inv-loop μ-loop) → let at = head c .loop .at in
+    WholeName (bytes c) at × (u16At (bytes c) at ≤ 20)
+room c = name-whole (bytes c) (head c .loop .at) (entry c .args .groups) [] (taken c .0)
+
+-- what the record carries
+same : (c : tie.After-rec Inv-loop μ-loop) → let s = bytes (c .before .before) in let at = head (c .before .before) .loop .at in
+    (c .rec .given .0 .0 .group ≡ nameOf (drop at s) .group) × (c .rec .given .0 .0 .len ≡ u16At s at)
+same c = name-same _ _ _ (taken (c .before .before) .1 ∙ c .rec .given .1)
+
+loop-holds : tie.Need-loop-holds Inv-loop μ-loop
+unfolding recordsIn
+loop-holds c = (
+  search needs,
+  (
+    search needs,
+    (
+      (refl, refl),
+      (left-start _ _ _ _ _ _, (λ i l. absurd (omega arith), λ i l. absurd (omega arith))),
+    ),
+  ),
+)
+
+add-number : tie.Need-add-number Inv-loop μ-loop
+add-number c = search needs
+
+cast-number : tie.Need-cast-number Inv-loop μ-loop
+cast-number c = search needs
+
+add-number-2 : tie.Need-add-number-2 Inv-loop μ-loop
+add-number-2 c = search needs
+
+cast-k : tie.Need-cast-k Inv-loop μ-loop
+cast-k c = search needs
+
+read-name-requires : tie.Need-read-name-requires Inv-loop μ-loop
+read-name-requires c κs = search needs
+
+enum-known-answer : tie.Need-enum-known-answer Inv-loop μ-loop
+enum-known-answer c = search needs
+
+enum-told : tie.Need-enum-told Inv-loop μ-loop
+enum-told c = search needs
+
+refusal-of-requires : tie.Need-refusal-of-requires Inv-loop μ-loop
+refusal-of-requires c κs = search needs
+
+same-length : tie.Need-same-length Inv-loop μ-loop
+same-length c = search needs
+
+same-length-2 : tie.Need-same-length-2 Inv-loop μ-loop
+same-length-2 c = search needs
+
+returns : tie.Need-returns Inv-loop μ-loop
+returns c = let q = stopped _ _ _ _ _ (asked (c .before .before .before)) (c .before .enum-told .given .1)
+    (c .refusal-of .ensures) in
+    record {
+      reads = left-stop _ _ _ _ _ _ _ _ _ (c .before .before .before .before .before .loop .inv .1 .1 .1 .0)
+          (c .before .before .before .before .loop-test .taken) _ _ (name-alone _ _ _ _ (q .0) (q .1)) (q .1);
+      grouped = tt;
+      pass = tt;
+    }
+
+enum-known-rec : tie.Need-enum-known-rec Inv-loop μ-loop
+enum-known-rec c = search needs
+
+same-length-3 : tie.Need-same-length-3 Inv-loop μ-loop
+same-length-3 c = search needs
+
+same-length-4 : tie.Need-same-length-4 Inv-loop μ-loop
+same-length-4 c = search needs
+
+returns-2 : tie.Need-returns-2 Inv-loop μ-loop
+unfolding nameAt
+returns-2 c = absurd (miss (0 ∷ 1 ∷ 3 ∷ []) 2 tt (rw (← taken (c .before) .1) at (c .match2 .keys2)))
+
+used-before-requires : tie.Need-used-before-requires Inv-loop μ-loop
+used-before-requires c κs = (
+  omega arith,
+  (
+    room (c .before .before .before .before) .0,
+    λ j l. name-whole _ _ _ [] (head (c .before .before .before .before) .loop .inv .1 .1 .1 .1 .1 j l) .0,
+  ),
+)
+
+same-length-5 : tie.Need-same-length-5 Inv-loop μ-loop
+same-length-5 c = search needs
+
+same-length-6 : tie.Need-same-length-6 Inv-loop μ-loop
+same-length-6 c = search needs
+
+returns-3 : tie.Need-returns-3 Inv-loop μ-loop
+returns-3 c = record {
+  reads = left-stop _ _ _ _ _ _ _ _ _ (head (c .before .before .before .before .before .before) .loop .inv .1 .1 .1 .0)
+      (turn (c .before .before .before .before .before .before) .loop-test .taken) _ _
+      (name-used _ _ _ (taken (c .before .before .before .before .before .before) .0)
+      (sym (c .before .used-before .ensures) ∙ c .if1 .taken)) (λ e. omega arith);
+  grouped = tt;
+  pass = tt;
+}
+
+mul-names : tie.Need-mul-names Inv-loop μ-loop
+mul-names c = search needs
+
+slice-write-names : tie.Need-slice-write-names Inv-loop μ-loop
+slice-write-names c = search needs
+
+mul-labels : tie.Need-mul-labels Inv-loop μ-loop
+mul-labels c = search needs
+
+slice-write-labels : tie.Need-slice-write-labels Inv-loop μ-loop
+slice-write-labels c = search needs
+
+cast-at : tie.Need-cast-at Inv-loop μ-loop
+cast-at c = let e = same (c .before .before .before .before .before) in let w = room (told c) in omega arith
+
+add-at : tie.Need-add-at Inv-loop μ-loop
+add-at c = let e = same (c .before .before .before .before .before) in let w = room (told c) in omega arith
+
+add-at-2 : tie.Need-add-at-2 Inv-loop μ-loop
+add-at-2 c = let e = same (c .before .before .before .before .before) in let w = room (told c) in omega arith
+
+add-i : tie.Need-add-i Inv-loop μ-loop
+add-i c = search needs
+
+loop-less : tie.Need-loop-less Inv-loop μ-loop
+loop-less c = search needs
+
+loop-again : tie.Need-loop-again Inv-loop μ-loop
+loop-again c = let e = same (c .before .before .before .before .before) in
+    let w = room (told c) in
+    let t = taken (told c) in
+    let l = head (told c) .loop in (
+      search needs,
+      (
+        omega arith,
+        (
+          (simp length-set (l .inv .1 .1 .0 .0), simp length-set (l .inv .1 .1 .0 .1)),
+          (
+            name-again _ (l .names) _ _ _ _ _ _ _ (l .inv .1 .1 .1 .0) (turn (told c) .loop-test .taken) (omega arith) (t .0)
+                (sym (c .before .before .used-before .ensures) ∙ c .before .if1 .left) (e .1),
+            (
+              grouped-more (bytes (told c)) (l .names) (l .labels) (l .i) _ (l .at) (omega arith) (omega arith)
+                  (l .inv .1 .1 .1 .1 .0) (e .0),
+              each-more (λ p. refusal (nameTests (entry (told c) .args .groups) [] (drop p (bytes (told c)))) ≡ 0) (l .labels) (l .i)
+                  (l .at) (omega arith) (l .inv .1 .1 .1 .1 .1) (t .0),
+            ),
+          ),
+        ),
+      ),
+    )
+
+same-length-7 : tie.Need-same-length-7 Inv-loop μ-loop
+same-length-7 c = search needs
+
+same-length-8 : tie.Need-same-length-8 Inv-loop μ-loop
+same-length-8 c = search needs
+
+returns-4 : tie.Need-returns-4 Inv-loop μ-loop
+returns-4 c = let e : c .before .loop .i ≡ c .before .before .before .before .before .args .count = omega arith in
+    record {
+      reads = rw e at (left-done _ _ _ _ _ _ _ _ _ (c .before .loop .inv .1 .1 .1 .0) e (c .before .loop .inv .1 .0));
+      grouped = rw e at (c .before .loop .inv .1 .1 .1 .1 .0);
+      pass = rw e at (c .before .loop .inv .1 .1 .1 .1 .1);
+    }
+
+pub load-names-spec : {M : Type 1} → statement M
+load-names-spec =
+    tie.close
+    (tie.spec
+    Inv-loop
+    μ-loop
+    loop-holds
+    add-number
+    cast-number
+    add-number-2
+    cast-k
+    read-name-requires
+    enum-known-answer
+    enum-told
+    refusal-of-requires
+    same-length
+    same-length-2
+    returns
+    enum-known-rec
+    same-length-3
+    same-length-4
+    returns-2
+    used-before-requires
+    same-length-5
+    same-length-6
+    returns-3
+    mul-names
+    slice-write-names
+    mul-labels
+    slice-write-labels
+    cast-at
+    add-at
+    add-at-2
+    add-i
+    loop-less
+    loop-again
+    same-length-7
+    same-length-8
+    returns-4)

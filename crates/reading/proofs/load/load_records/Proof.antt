@@ -1,0 +1,276 @@
+-- `load_records` meets its contract: the stages one after another, each from where the one before stopped.
+use Prim.Native.Nat.{ℕ, _+_, _≤_}
+use mathlib.Core.Path.{_≡_, sym, _∙_}
+use mathlib.Core.List.{List, []}
+use native.Mathlib.Omega.{arith}
+use denote.Ref.{now}
+use lib.ListN.{length, drop}
+use Rattle.wire.specs.SheetFormat.{HeadRecord, GroupRecord, NameRecord, ClaimRecord}
+use Rattle.wire.specs.SheetFormat.{nameTests, claimTests, nameOf, claimOf, closing, readClaims, readNames, readGroups}
+use Rattle.reading.specs.Tables.{groupsIn}
+use Rattle.reading.specs.Loaded.{recordsIn, AllGrouped, AllPass, headRecord}
+use Rattle.reading.proofs.Stages.{group-stage, name-stage, claim-stage, bytes-follow, at-end, went, held-to, turned-loads}
+use borrow.Author.Needs.{needs}
+use Rattle.reading.proofs.load.load_records.Statement.{statement}
+use Rattle.reading.proofs.load.load_records.Tie as tie
+
+-- the places of the three stages and of the entry, seen from after each stage
+abbrev groups-read : tie.After-known-told → tie.After-load-groups
+groups-read c = c .before .before .before .before .before
+
+abbrev entry : tie.After-known-told → tie.Start
+entry c = c .before .before .before .before .before .before .before .before .before .before .before .before
+
+abbrev groups-told : tie.After-known-told2 → tie.After-known-told
+groups-told c = c .before .before .before .before .before .before .before .before .before .before
+
+abbrev names-read : tie.After-known-told2 → tie.After-load-names
+names-read c = c .before .before .before .before .before .before .before
+
+abbrev names-told : tie.After-known-told3 → tie.After-known-told2
+names-told c = c .before .before .before .before .before .before .before .before .before
+
+abbrev claims-read : tie.After-known-told3 → tie.After-load-claims
+claims-read c = c .before .before .before .before .before
+
+-- the bytes, the head, and the lists that the tables hold then
+abbrev bytes : tie.After-known-told → List ℕ
+bytes c = now (entry c .args .s)
+
+abbrev head : tie.After-known-told → HeadRecord
+head c = headRecord (entry c .args .h)
+
+abbrev groups : tie.After-known-told → List GroupRecord
+groups c = groupsIn (groups-read c .load-groups .last .1 .1 .1 .0) (head c .groups)
+
+abbrev names : tie.After-known-told2 → List NameRecord
+names c = let f = groups-told c in recordsIn nameOf (bytes f) (names-read c .load-names .last .1 .1 .1 .1 .1 .0) (head f .names)
+
+abbrev claims : tie.After-known-told3 → List ClaimRecord
+claims c = let f = groups-told (names-told c) in recordsIn claimOf (bytes f)
+    (claims-read c .load-claims .last .1 .1 .1 .1 .1 .0) (head f .claims)
+
+-- the names come after the groups
+names-next : (c : tie.After-known-told) →
+    readNames (head c) (2 + head c .groups) (groups c) (drop (c .before .g .given .0 .0) (bytes c))
+    ≡ readGroups (head c) (drop 12 (bytes c))
+names-next c =
+    went _ _ (λ at. readNames (head c) (2 + head c .groups) (groups c) (drop at (bytes c))) _ (c .before .g .given .1)
+    (group-stage (head c) (bytes c) 12 _ (groups c) (groups-read c .load-groups .ensures))
+
+names-room : (c : tie.After-known-told) → c .before .g .given .0 .0 ≤ length (bytes c)
+names-room c = held-to _ _ (λ at. at ≤ length (bytes c)) (c .before .g .given .1) (groups-read c .load-groups .ensures .room)
+
+-- the claims come after the names
+claims-next : (c : tie.After-known-told2) → let f = groups-told c in
+    readClaims (head f) (groups f) (2 + head f .groups + head f .names) (names c) (drop (c .before .n .given .0 .0) (bytes f))
+    ≡ readGroups (head f) (drop 12 (bytes f))
+claims-next c =
+    let f = groups-told c in
+    went _ _ (λ at. readClaims (head f) (groups f) (2 + head f .groups + head f .names) (names c) (drop at (bytes f))) _
+    (c .before .n .given .1)
+    (name-stage (head f) (bytes f) _ _ (groups f) _ _ (names-read c .load-names .ensures) ∙ names-next f)
+
+claims-room : (c : tie.After-known-told2) → c .before .n .given .0 .0 ≤ length (bytes (groups-told c))
+claims-room c = held-to _ _ (λ at. at ≤ length (bytes (groups-told c))) (c .before .n .given .1)
+    (names-read c .load-names .ensures .reads .room)
+
+-- the end comes after the claims
+end-next : (c : tie.After-known-told3) → let n = names-told c in let f = groups-told n in
+    closing (groups f) (names n) (2 + head f .groups + head f .names + head f .claims) (claims c)
+    (drop (c .before .c .given .0 .0) (bytes f))
+    ≡ readGroups (head f) (drop 12 (bytes f))
+end-next c =
+    let n = names-told c in
+    let f = groups-told n in
+    went _ _ (λ at. closing (groups f) (names n) (2 + head f .groups + head f .names + head f .claims) (claims c)
+    (drop at (bytes f))) _ (c .before .c .given .1)
+    (claim-stage (head f) (bytes f) _ _ _ (groups f) (names n) _ (claims-read c .load-claims .ensures) ∙ claims-next n)
+
+load-groups-requires : tie.Need-load-groups-requires
+load-groups-requires c κs = search needs
+
+enum-known-g : tie.Need-enum-known-g
+enum-known-g c = search needs
+
+enum-told : tie.Need-enum-told
+enum-told c = search needs
+
+turned-back-requires : tie.Need-turned-back-requires
+turned-back-requires c κs = search needs
+
+same-length : tie.Need-same-length
+same-length c = search needs
+
+returns : tie.Need-returns
+returns c = let a = c .before .before .before .before .before .before .before .before .before .before .before .before .args in
+    turned-loads _ _ _ _ _ _ _ _ _ _ _ (c .before .enum-told .given .1) (c .turned-back .ensures)
+    (group-stage (headRecord (a .h)) (now (a .s)) 12 _ _ (c .before .before .before .before .before .load-groups .ensures))
+
+load-names-requires : tie.Need-load-names-requires
+load-names-requires c κs = (names-room (c .before .before), (omega arith, (omega arith, omega arith)))
+
+enum-known-n : tie.Need-enum-known-n
+enum-known-n c = search needs
+
+enum-told-2 : tie.Need-enum-told-2
+enum-told-2 c = search needs
+
+turned-back-requires-2 : tie.Need-turned-back-requires-2
+turned-back-requires-2 c κs = search needs
+
+same-length-2 : tie.Need-same-length-2
+same-length-2 c = search needs
+
+same-length-3 : tie.Need-same-length-3
+same-length-3 c = search needs
+
+same-length-4 : tie.Need-same-length-4
+same-length-4 c = search needs
+
+returns-2 : tie.Need-returns-2
+returns-2 c = let f = c .before .before .before .before .before .before .before .before .before .before in
+    turned-loads _ _ _ _ _ _ _ _ _ _ _ (c .before .enum-told2 .given .1) (c .turned-back2 .ensures)
+    (name-stage (head f) (bytes f) _ _ _ _ _
+    (c .before .before .before .before .before .before .before .load-names .ensures) ∙ names-next f)
+
+cast-first : tie.Need-cast-first
+cast-first c = search needs
+
+add-first : tie.Need-add-first
+add-first c = search needs
+
+cast-first-2 : tie.Need-cast-first-2
+cast-first-2 c = search needs
+
+add-first-2 : tie.Need-add-first-2
+add-first-2 c = search needs
+
+load-claims-requires : tie.Need-load-claims-requires
+load-claims-requires c κs = (
+  claims-room (c .before .before .before),
+  (omega arith, (omega arith, entry (groups-told (c .before .before .before)) .pre .1 .1 .claimRoom)),
+)
+
+enum-known-c : tie.Need-enum-known-c
+enum-known-c c = search needs
+
+enum-told-3 : tie.Need-enum-told-3
+enum-told-3 c = search needs
+
+turned-back-requires-3 : tie.Need-turned-back-requires-3
+turned-back-requires-3 c κs = search needs
+
+same-length-5 : tie.Need-same-length-5
+same-length-5 c = search needs
+
+same-length-6 : tie.Need-same-length-6
+same-length-6 c = search needs
+
+same-length-7 : tie.Need-same-length-7
+same-length-7 c = search needs
+
+same-length-8 : tie.Need-same-length-8
+same-length-8 c = search needs
+
+returns-3 : tie.Need-returns-3
+returns-3 c = let n = c .before .before .before .before .before .before .before .before .before in
+    let f = groups-told n in
+    turned-loads _ _ _ _ _ _ _ _ _ _ _ (c .before .enum-told3 .given .1) (c .turned-back3 .ensures)
+    (claim-stage (head f) (bytes f) _ _ _ _ _ _ (c .before .before .before .before .before .load-claims .ensures) ∙ claims-next n)
+
+cast-t27 : tie.Need-cast-t27
+cast-t27 c = search needs
+
+add-t28 : tie.Need-add-t28
+add-t28 c = search needs
+
+same-length-9 : tie.Need-same-length-9
+same-length-9 c = search needs
+
+same-length-10 : tie.Need-same-length-10
+same-length-10 c = search needs
+
+same-length-11 : tie.Need-same-length-11
+same-length-11 c = search needs
+
+same-length-12 : tie.Need-same-length-12
+same-length-12 c = search needs
+
+returns-4 : tie.Need-returns-4
+returns-4 c = record { reads = sym (bytes-follow _ _ _ _ _ _ (c .before .if1 .taken)) ∙ end-next (c .before .before); held = tt }
+
+same-length-13 : tie.Need-same-length-13
+same-length-13 c = search needs
+
+same-length-14 : tie.Need-same-length-14
+same-length-14 c = search needs
+
+same-length-15 : tie.Need-same-length-15
+same-length-15 c = search needs
+
+same-length-16 : tie.Need-same-length-16
+same-length-16 c = search needs
+
+returns-5 : tie.Need-returns-5
+returns-5 c = let n = names-told (c .before) in
+    let f = groups-told n in
+    let h = entry f .args .h in
+    let tables = names-read n .load-names .last .1 .1 .1 .1 in
+    let places = claims-read (c .before) .load-claims .last .1 .1 .1 .1 .1 .0 in
+    record {
+      reads = sym (at-end _ _ _ _ _ _ (c .if1 .left)) ∙ end-next (c .before);
+      held = record {
+        limits = entry f .pre .1 .0;
+        grouped = held-to _ _ (λ at. AllGrouped (bytes f) (tables .0) (tables .1 .0) (h .names)) (n .before .n .given .1)
+            (names-read n .load-names .ensures .grouped);
+        namesPass = held-to _ _ (λ at. AllPass (nameTests (h .groups) []) (bytes f) (tables .1 .0) (h .names))
+            (n .before .n .given .1) (names-read n .load-names .ensures .pass);
+        claimsPass = held-to _ _ (λ at. AllPass (claimTests (h .names) []) (bytes f) places (h .claims))
+            (c .before .before .c .given .1) (claims-read (c .before) .load-claims .ensures .pass);
+      };
+    }
+
+pub load-records-spec : {M : Type 1} → statement M
+load-records-spec =
+    tie.close
+    (tie.spec
+    load-groups-requires
+    enum-known-g
+    enum-told
+    turned-back-requires
+    same-length
+    returns
+    load-names-requires
+    enum-known-n
+    enum-told-2
+    turned-back-requires-2
+    same-length-2
+    same-length-3
+    same-length-4
+    returns-2
+    cast-first
+    add-first
+    cast-first-2
+    add-first-2
+    load-claims-requires
+    enum-known-c
+    enum-told-3
+    turned-back-requires-3
+    same-length-5
+    same-length-6
+    same-length-7
+    same-length-8
+    returns-3
+    cast-t27
+    add-t28
+    same-length-9
+    same-length-10
+    same-length-11
+    same-length-12
+    returns-4
+    same-length-13
+    same-length-14
+    same-length-15
+    same-length-16
+    returns-5)

@@ -1,0 +1,80 @@
+// Labels, compared and tested where they stand in a sheet's bytes.
+use wire::bytes;
+ghost use mathlib.Core.Path.{_≡_};
+ghost use Prim.Native.Nat.{ℕ, _+_, _≤_, _<_};
+ghost use lib.ListN.{length, take, drop, getD};
+ghost use Rattle.wire.specs.SheetFormat.{labelByte, labelBytes, sameLabel, used, nameOf};
+ghost use Rattle.reading.specs.Answers.{WholeName};
+ghost use Rattle.reading.specs.Loaded.{recordsIn};
+
+fn label_byte(x: u8) -> bool
+    ensures { λ r. ⌜ r ≡ labelByte x ⌝ }
+{
+    if x == 45 {
+        return true;
+    }
+    if x < 48 {
+        return false;
+    }
+    if x <= 57 {
+        return true;
+    }
+    if x < 65 {
+        return false;
+    }
+    x <= 90
+}
+
+// whether the n bytes at a place are bytes of a label
+pub fn label_allowed(s: &[u8], at: usize, n: u16) -> bool
+    requires { ⌜ at + n ≤ length (now s) ⌝ }
+    ensures { λ r. ⌜ r ≡ labelBytes (take n (drop at (now (s .entry)))) ⌝ }
+{
+    let end = at + n as usize;
+    for i in at..end {
+        if !label_byte(s[i]) {
+            return false;
+        }
+    }
+    true
+}
+
+// whether the n bytes at two places are the same
+fn same_bytes(s: &[u8], a: usize, b: usize, n: usize) -> bool
+    requires { ⌜ (a + n ≤ length (now s)) × (b + n ≤ length (now s)) ⌝ }
+    ensures { λ r. ⌜ r ≡ sameLabel (take n (drop a (now (s .entry)))) (take n (drop b (now (s .entry)))) ⌝ }
+{
+    for i in 0..n {
+        if s[a + i] != s[b + i] {
+            return false;
+        }
+    }
+    true
+}
+
+// whether the names whose records stand at two places have one label
+fn same_label(s: &[u8], a: usize, b: usize) -> bool
+    requires { ⌜ WholeName (now s) a × WholeName (now s) b ⌝ }
+    ensures { λ r. ⌜ r ≡ sameLabel (nameOf (drop a (now (s .entry))) .label) (nameOf (drop b (now (s .entry))) .label) ⌝ }
+{
+    let n = bytes::word(s, a);
+    if bytes::word(s, b) != n {
+        return false;
+    }
+    same_bytes(s, a + 6, b + 6, n as usize - 4)
+}
+
+// whether one of the first n names, whose records stand at these places, has the label of the name at `at`
+pub fn used_before(s: &[u8], places: &[usize], n: usize, at: usize) -> bool
+    requires { ⌜ (n ≤ length (now places)) × (WholeName (now s) at
+        × ((j : ℕ) → j < n → WholeName (now s) (getD (now places) j 0))) ⌝ }
+    ensures { λ r. ⌜ r ≡ used (recordsIn nameOf (now (s .entry)) (now (places .entry)) n)
+        (nameOf (drop at (now (s .entry))) .label) ⌝ }
+{
+    for j in 0..n {
+        if same_label(s, places[j], at) {
+            return true;
+        }
+    }
+    false
+}

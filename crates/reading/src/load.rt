@@ -1,0 +1,187 @@
+// A sheet into lent tables: its groups, names and claims one after another, to the end or to the first refusal.
+use crate::labels;
+use crate::records::Answer;
+use crate::records::Group;
+use crate::records::Head;
+use crate::records::Record;
+use crate::records::read_claim;
+use crate::records::read_group;
+use crate::records::read_head;
+use crate::records::read_name;
+use crate::records::refusal_of;
+ghost use mathlib.Core.Path.{_≡_};
+ghost use mathlib.Core.List.{[], _∷_};
+ghost use Prim.Native.Nat.{_+_, _*_, _≤_, _<_};
+ghost use lib.ListN.{length, drop};
+ghost use lib.Seq.{sets};
+ghost use Rattle.wire.specs.Limits.{groupLimit, nameLimit, claimLimit};
+ghost use Rattle.wire.specs.SheetFormat.{groupOf, groupTests, readGroups, readSheet};
+ghost use Rattle.reading.specs.Tables.{groupsIn};
+ghost use Rattle.reading.specs.Loaded.{turnedBack, headRecord, Goes, NamesGo, ClaimsGo, Loads, Capacity, WithinLimits};
+
+// The place after the last of some records, or a refusal's number with the record's number.
+pub enum Passed {
+    To(usize),
+    Refused(u32, u32),
+}
+
+// A sheet's head, its records being in the tables, or a refusal's number with the record's number.
+pub enum Loaded {
+    Sheet(Head),
+    Refused(u32, u32),
+}
+
+fn turned_back(p: Passed) -> Loaded
+    ensures { λ r. ⌜ r ≡ turnedBack p ⌝ }
+{
+    match p {
+        Passed::To(_) => Loaded::Refused(0, 0),
+        Passed::Refused(n, r) => Loaded::Refused(n, r),
+    }
+}
+
+// the numbers of the group whose table place is i
+fn put_group(groups: &mut [u16], i: usize, g: Group)
+    requires { ⌜ 4 * i + 3 < length (now groups) ⌝ }
+    ensures { λ _. ⌜ now (groups .exit) ≡ sets (now (groups .entry)) (4 * i) (g .parent ∷ g .lo ∷ g .hi ∷ g .mode ∷ []) ⌝ }
+{
+    let k = 4 * i;
+    groups[k] = g.parent;
+    groups[k + 1] = g.lo;
+    groups[k + 2] = g.hi;
+    groups[k + 3] = g.mode;
+}
+
+fn load_groups(s: &[u8], from: usize, count: u16, groups: &mut [u16]) -> Passed
+    requires { ⌜ (from ≤ length (now s)) × ((count ≤ groupLimit) × (4 * groupLimit ≤ length (now groups))) ⌝ }
+    ensures { λ r. ⌜ Goes groupTests groupOf (now (s .entry)) from count 2 r (groupsIn (now (groups .exit)) count) ⌝ }
+{
+    let mut at = from;
+    for i in 0..count {
+        let answer = read_group(s, at, i + 1);
+        let Answer::Record(rec) = answer else {
+            return Passed::Refused(refusal_of(answer), 2 + i as u32);
+        };
+        let Record::Group(g) = rec else {
+            return Passed::Refused(2, 2 + i as u32);
+        };
+        put_group(groups, i as usize, g);
+        at = at + 12;
+    }
+    Passed::To(at)
+}
+
+fn load_names(
+    s: &[u8],
+    from: usize,
+    count: u16,
+    groups: u16,
+    names: &mut [u16],
+    labels: &mut [usize],
+) -> Passed
+    requires { ⌜ (from ≤ length (now s)) × ((count ≤ nameLimit) × ((nameLimit ≤ length (now names))
+        × (nameLimit ≤ length (now labels)))) ⌝ }
+    ensures { λ r. ⌜ NamesGo groups (now (s .entry)) from count r (now (names .exit)) (now (labels .exit)) ⌝ }
+{
+    let mut at = from;
+    for i in 0..count {
+        let number = 2 + groups as u32 + i as u32;
+        let k = i as usize;
+        let answer = read_name(s, at, groups);
+        let Answer::Record(rec) = answer else {
+            return Passed::Refused(refusal_of(answer), number);
+        };
+        let Record::Name(n) = rec else {
+            return Passed::Refused(2, number);
+        };
+        if labels::used_before(s, labels, k, at) {
+            return Passed::Refused(6, number);
+        }
+        names[k] = n.group;
+        labels[k] = at;
+        at = at + n.len as usize + 2;
+    }
+    Passed::To(at)
+}
+
+fn load_claims(
+    s: &[u8],
+    from: usize,
+    count: u16,
+    names: u16,
+    first: u32,
+    claims: &mut [usize],
+) -> Passed
+    requires { ⌜ (from ≤ length (now s)) × ((count ≤ claimLimit) × ((first ≤ 2 + groupLimit + nameLimit) ×
+        (claimLimit ≤ length (now claims)))) ⌝ }
+    ensures { λ r. ⌜ ClaimsGo names first (now (s .entry)) from count r (now (claims .exit)) ⌝ }
+{
+    let mut at = from;
+    for i in 0..count {
+        let number = first + i as u32;
+        let k = i as usize;
+        let answer = read_claim(s, at, names);
+        let Answer::Record(rec) = answer else {
+            return Passed::Refused(refusal_of(answer), number);
+        };
+        let Record::Claim(c) = rec else {
+            return Passed::Refused(2, number);
+        };
+        claims[k] = at;
+        at = at + c.len as usize + 2;
+    }
+    Passed::To(at)
+}
+
+// the records after the head
+fn load_records(
+    s: &[u8],
+    h: Head,
+    groups: &mut [u16],
+    names: &mut [u16],
+    labels: &mut [usize],
+    claims: &mut [usize],
+) -> Loaded
+    requires { ⌜ (12 ≤ length (now s)) × (WithinLimits h × Capacity (now groups) (now names) (now labels) (now claims)) ⌝ }
+    ensures { λ r. ⌜ Loads r (readGroups (headRecord h) (drop 12 (now (s .entry)))) (now (s .entry)) (now (groups .exit))
+        (now (names .exit)) (now (labels .exit)) (now (claims .exit)) ⌝ }
+{
+    let g = load_groups(s, 12, h.groups, groups);
+    let Passed::To(at_names) = g else {
+        return turned_back(g);
+    };
+    let n = load_names(s, at_names, h.names, h.groups, names, labels);
+    let Passed::To(at_claims) = n else {
+        return turned_back(n);
+    };
+    let first = 2 + h.groups as u32 + h.names as u32;
+    let c = load_claims(s, at_claims, h.claims, h.names, first, claims);
+    let Passed::To(end) = c else {
+        return turned_back(c);
+    };
+    if end < s.len() {
+        return Loaded::Refused(7, first + h.claims as u32);
+    }
+    Loaded::Sheet(h)
+}
+
+pub fn load_sheet(
+    sheet: &[u8],
+    groups: &mut [u16],
+    names: &mut [u16],
+    labels: &mut [usize],
+    claims: &mut [usize],
+) -> Loaded
+    requires { ⌜ Capacity (now groups) (now names) (now labels) (now claims) ⌝ }
+    ensures { λ r. ⌜ Loads r (readSheet (now (sheet .entry))) (now (sheet .entry)) (now (groups .exit))
+        (now (names .exit)) (now (labels .exit)) (now (claims .exit)) ⌝ }
+{
+    let answer = read_head(sheet, 0);
+    let Answer::Record(rec) = answer else {
+        return Loaded::Refused(refusal_of(answer), 1);
+    };
+    let Record::Head(h) = rec else {
+        return Loaded::Refused(2, 1);
+    };
+    load_records(sheet, h, groups, names, labels, claims)
+}

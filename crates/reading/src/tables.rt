@@ -1,0 +1,82 @@
+// The tables of a sheet, reached by a group's number or a name's number: four numbers for each group (parent, lo, hi, mode),
+// one for each name (its group).
+ghost use mathlib.Core.Path.{_≡_};
+ghost use Prim.Native.Nat.{_+_, _-_, _*_, _≤_};
+ghost use lib.ListN.{length, getD, set};
+
+// Most groups, names and claims of a sheet.
+pub const GROUPS: u16 = 128;
+
+pub const NAMES: u16 = 128;
+
+pub const CLAIMS: u16 = 64;
+
+// The lengths of the tables that hold any sheet: groups, names, labels' places, claims' places.
+pub const GROUP_TABLE: usize = 4 * 128;
+
+pub const NAME_TABLE: usize = 128;
+
+pub const LABEL_TABLE: usize = 128;
+
+pub const CLAIM_TABLE: usize = 64;
+
+// A group's number and a name's number, each from 1 on.
+pub struct GroupNo(pub u16);
+
+pub struct NameNo(pub u16);
+
+pub fn parent_of(groups: &[u16], g: GroupNo) -> u16
+    requires { ⌜ (1 ≤ g .0) × (4 * (g .0) ≤ length (now groups)) ⌝ }
+    ensures { λ r. ⌜ r ≡ getD (now (groups .entry)) (4 * (g .0 - 1)) 0 ⌝ }
+{
+    let i = g.0 as usize;
+    groups[4 * (i - 1)]
+}
+
+pub fn lo_of(groups: &[u16], g: GroupNo) -> u16
+    requires { ⌜ (1 ≤ g .0) × (4 * (g .0) ≤ length (now groups)) ⌝ }
+    ensures { λ r. ⌜ r ≡ getD (now (groups .entry)) (4 * (g .0 - 1) + 1) 0 ⌝ }
+{
+    let i = g.0 as usize;
+    groups[4 * (i - 1) + 1]
+}
+
+pub fn hi_of(groups: &[u16], g: GroupNo) -> u16
+    requires { ⌜ (1 ≤ g .0) × (4 * (g .0) ≤ length (now groups)) ⌝ }
+    ensures { λ r. ⌜ r ≡ getD (now (groups .entry)) (4 * (g .0 - 1) + 2) 0 ⌝ }
+{
+    let i = g.0 as usize;
+    groups[4 * (i - 1) + 2]
+}
+
+pub fn mode_of(groups: &[u16], g: GroupNo) -> u16
+    requires { ⌜ (1 ≤ g .0) × (4 * (g .0) ≤ length (now groups)) ⌝ }
+    ensures { λ r. ⌜ r ≡ getD (now (groups .entry)) (4 * (g .0 - 1) + 3) 0 ⌝ }
+{
+    let i = g.0 as usize;
+    groups[4 * (i - 1) + 3]
+}
+
+pub fn set_lo(groups: &mut [u16], g: GroupNo, x: u16)
+    requires { ⌜ (1 ≤ g .0) × (4 * (g .0) ≤ length (now groups)) ⌝ }
+    ensures { λ _. ⌜ now (groups .exit) ≡ set (now (groups .entry)) (4 * (g .0 - 1) + 1) x ⌝ }
+{
+    let i = g.0 as usize;
+    groups[4 * (i - 1) + 1] = x;
+}
+
+pub fn set_hi(groups: &mut [u16], g: GroupNo, x: u16)
+    requires { ⌜ (1 ≤ g .0) × (4 * (g .0) ≤ length (now groups)) ⌝ }
+    ensures { λ _. ⌜ now (groups .exit) ≡ set (now (groups .entry)) (4 * (g .0 - 1) + 2) x ⌝ }
+{
+    let i = g.0 as usize;
+    groups[4 * (i - 1) + 2] = x;
+}
+
+pub fn group_of_name(names: &[u16], n: NameNo) -> u16
+    requires { ⌜ (1 ≤ n .0) × (n .0 ≤ length (now names)) ⌝ }
+    ensures { λ r. ⌜ r ≡ getD (now (names .entry)) (n .0 - 1) 0 ⌝ }
+{
+    let i = n.0 as usize;
+    names[i - 1]
+}
