@@ -1,0 +1,220 @@
+-- The tests of the scan say when a rule is broken at a group.
+use Prim.Native.Nat.{ℕ, zero, suc, _-_, _≤_, _<_, min}
+use mathlib.Core.Path.{_≡_, refl}
+use mathlib.Core.Bool.{Bool, true, false, not, _&&_, false≢true}
+use mathlib.Core.List.{List}
+use native.Mathlib.Omega.{arith}
+use borrow.Author.Tests.{lt-ltb, le-ltb, eq-eqb, eqb-true, ltb-true, ltb-false, not-true}
+use lib.Dec.{ltb, eqb}
+use Rattle.wire.specs.Limits.{noEnd}
+use Rattle.meaning.specs.Sum.{sum}
+use Rattle.meaning.specs.Sheet.{Sheet, AtMost, Group, Son, Tree}
+use Rattle.meaning.specs.Sets.{Sets, count}
+use Rattle.meaning.specs.Rule.{Rule, outside, lacking, uncovered, shared, below, above, ruleNumber, Broken}
+use Rattle.meaning.specs.OfRecords.{groupAt, sheetOf, endOf, sameMode}
+use Rattle.reading.specs.Tables.{groupsIn, groupAt-groupsIn}
+use Rattle.registers.specs.Cases.{split, compare-le, true-not-false, sum-some, sum-two, sum-term, sum-pair}
+use Rattle.registers.specs.Words.{digitIn, holds, inBoth, wordSets}
+use Rattle.registers.specs.Tallies.{SonsListed}
+use Rattle.registers.specs.RuleTests.{parentIn, loIn, hiIn, modeIn, mayBreak, rowBreaks, countBreaks}
+use Rattle.registers.proofs.WordLaws.{digit-in-le, holds-one, one-holds}
+use Rattle.registers.proofs.SonLaws.{parent-below}
+
+and-true : (a b : Bool) → (a && b) ≡ true → (a ≡ true) × (b ≡ true)
+and-true true b h = (refl, h)
+and-true false b h = absurd (false≢true h)
+
+-- the sons that a row has
+module _ (s : Sheet) (w u : List ℕ) (i p : ℕ) (k : SonsListed s u) (z : s .size ≤ 128) (a : 1 ≤ p) (b : p ≤ 128) where
+  counts-son : (j : ℕ) → j < 128 → 1 ≤ min (digitIn w i j) (digitIn u p j) → Son s p (suc j) × (holds w i (suc j) ≡ true)
+  counts-son j l m =
+      let e : suc j - 1 ≡ j = omega arith in (
+        k .only p (suc j) a b (omega arith) (omega arith) (one-holds u p (suc j) (rw e (omega arith))),
+        one-holds w i (suc j) (rw e (omega arith)),
+      )
+
+  son-counts : (h : ℕ) → Son s p h → holds w i h ≡ true → min (digitIn w i (h - 1)) (digitIn u p (h - 1)) ≡ 1
+  son-counts h c e = omega (arith, holds-one w i h e, holds-one u p h (k .all p h b (omega arith) c))
+
+  none-in : inBoth w i u p ≡ 0 → (h : ℕ) → Son s p h → holds w i h ≡ false
+  unfolding inBoth
+  none-in e h c =
+      split (holds w i h)
+      (λ x. absurd (omega (
+        arith,
+        son-counts h c x,
+        sum-term (λ j. min (digitIn w i j) (digitIn u p j)) 128 (h - 1)
+            (omega arith),
+      )))
+      (λ x. x)
+
+  in-none : ((h : ℕ) → Son s p h → holds w i h ≡ false) → inBoth w i u p ≡ 0
+  unfolding inBoth
+  in-none f =
+      compare-le 1 (sum (λ j. min (digitIn w i j) (digitIn u p j)) 128)
+      (λ o. absurd (let x = sum-some (λ j. min (digitIn w i j) (digitIn u p j)) 128 o in
+      let y = counts-son (x .0) (x .1) (x .2) in true-not-false _ (y .1) (f (suc (x .0)) (y .0))))
+      (λ o. omega arith)
+
+  two-in : 1 < inBoth w i u p → (h j : ℕ) × Son s p h × Son s p j × (h < j) × (holds w i h ≡ true) × (holds w i j ≡ true)
+  unfolding inBoth
+  two-in l =
+      let x = sum-pair (λ j. min (digitIn w i j) (digitIn u p j)) 128 (λ m o. omega (arith, digit-in-le w i m)) l in
+      let y = counts-son (x .0) (omega arith) (x .4) in
+      let v = counts-son (x .1) (x .3) (x .5) in
+      (suc (x .0), suc (x .1), y .0, v .0, omega arith, y .1, v .1)
+
+  in-two : (h j : ℕ) → Son s p h → Son s p j → h < j → holds w i h ≡ true → holds w i j ≡ true → 1 < inBoth w i u p
+  unfolding inBoth
+  in-two h j c d l x y =
+      omega (
+        arith,
+        son-counts h c x,
+        son-counts j d y,
+        sum-two (λ m. min (digitIn w i m) (digitIn u p m)) 128 (h - 1) (j - 1)
+            (omega arith) (omega arith),
+      )
+
+-- whether rule q, one of the first four, can be broken at a group of any sheet
+abbrev pub may : Sheet → ℕ → Rule → Bool
+may s g outside = ltb 0 (s .parent g)
+may s g lacking = ltb 0 (s .parent g) && s .same (s .parent g)
+may s g uncovered = s .cover g
+may s g shared = s .disjoint g
+may s g below = false
+may s g above = false
+
+-- a rule of one member is broken exactly by a row that breaks it, where it can be broken
+module _ (s : Sheet) (w u : List ℕ) (n g : ℕ) (k : SonsListed s u) (z : s .size ≤ 128) (y : Group s g) where
+  pub by-row : (q : Rule) (i : ℕ) → ruleNumber q < 5 → i < n → may s g q ≡ true
+      → rowBreaks (ruleNumber q) w i u g (s .parent g) ≡ true
+      → Broken s (wordSets w n) g q
+  unfolding rowBreaks
+  by-row outside i l o m e =
+      let x = and-true (holds w i g) (not (holds w i (s .parent g))) e in
+      (s .parent g, i, record { above = ltb-true 0 (s .parent g) m; group = y; under = refl }, o, x .0, not-true _ (x .1))
+  by-row lacking i l o m e =
+      let x = and-true (holds w i (s .parent g)) (not (holds w i g)) e in
+      let v = and-true (ltb 0 (s .parent g)) (s .same (s .parent g)) m in (
+        s .parent g,
+        i,
+        record { above = ltb-true 0 (s .parent g) (v .0); group = y; under = refl },
+        v .1,
+        o,
+        x .0,
+        not-true _ (x .1),
+      )
+  by-row uncovered i l o m e =
+      let x = and-true (holds w i g) (eqb (inBoth w i u g) 0) e in
+      (i, m, o, x .0, none-in s w u i g k z (y .first) (omega arith) (eqb-true (inBoth w i u g) 0 (x .1)))
+  by-row shared i l o m e =
+      let x = two-in s w u i g k z (y .first) (omega arith) (ltb-true 1 (inBoth w i u g) e) in
+      (x .0, x .1, i, m, x .2, x .3, x .4, o, x .5, x .6)
+  by-row below i l o m e = absurd (omega arith)
+  by-row above i l o m e = absurd (omega arith)
+
+  pub row-of : (q : Rule) → ruleNumber q < 5 → Broken s (wordSets w n) g q
+      → (may s g q ≡ true) × ((i : ℕ) × (i < n) × (rowBreaks (ruleNumber q) w i u g (s .parent g) ≡ true))
+  unfolding rowBreaks
+  row-of outside l (p, i, c, o, a, b) =
+      (lt-ltb 0 (s .parent g) (omega arith), (i, o, rw (c .under, a, b)))
+  row-of lacking l (p, i, c, m, o, a, b) =
+      (rw (lt-ltb 0 (s .parent g) (omega arith), c .under) m, (i, o, rw (c .under, a, b)))
+  row-of uncovered l (i, m, o, a, f) =
+      (m, (i, o, rw (a, eq-eqb (inBoth w i u g) 0 (in-none s w u i g k z (y .first) (omega arith) f))))
+  row-of shared l (h, j, i, m, c, d, x, o, a, b) =
+      (m, (i, o, lt-ltb 1 (inBoth w i u g) (in-two s w u i g k z (y .first) (omega arith) h j c d x a b)))
+  row-of below l v = absurd (omega arith)
+  row-of above l v = absurd (omega arith)
+
+pub rule-first : (q : Rule) → 1 ≤ ruleNumber q
+rule-first outside = omega arith
+rule-first lacking = omega arith
+rule-first uncovered = omega arith
+rule-first shared = omega arith
+rule-first below = omega arith
+rule-first above = omega arith
+
+pub rule-last : (q : Rule) → ruleNumber q < 7
+rule-last outside = omega arith
+rule-last lacking = omega arith
+rule-last uncovered = omega arith
+rule-last shared = omega arith
+rule-last below = omega arith
+rule-last above = omega arith
+
+pub rule-numbered : (k : ℕ) → 1 ≤ k → k < 7 → (q : Rule) × (k ≡ ruleNumber q)
+rule-numbered zero a b = absurd (omega arith)
+rule-numbered (suc zero) a b = (outside, refl)
+rule-numbered (suc (suc zero)) a b = (lacking, refl)
+rule-numbered (suc (suc (suc zero))) a b = (uncovered, refl)
+rule-numbered (suc (suc (suc (suc zero)))) a b = (shared, refl)
+rule-numbered (suc (suc (suc (suc (suc zero))))) a b = (below, refl)
+rule-numbered (suc (suc (suc (suc (suc (suc zero)))))) a b = (above, refl)
+rule-numbered (suc (suc (suc (suc (suc (suc (suc k))))))) a b = absurd (omega arith)
+
+-- rules 1 and 2 need a parent
+pub may-parent : (t : List ℕ) (g k : ℕ) → 1 ≤ k → k ≤ 2 → mayBreak t g k ≡ true → 1 ≤ parentIn t g
+unfolding mayBreak
+may-parent t g zero a b e = absurd (omega arith)
+may-parent t g (suc zero) a b e = ltb-true 0 (parentIn t g) e
+may-parent t g (suc (suc zero)) a b e =
+    ltb-true 0 (parentIn t g) (and-true (ltb 0 (parentIn t g)) (sameMode (modeIn t (parentIn t g))) e .0)
+may-parent t g (suc (suc (suc k))) a b e = absurd (omega arith)
+
+-- the tests of a table of groups
+module _ (t : List ℕ) (n g : ℕ) (r : Tree (sheetOf (groupsIn t n))) (a : 1 ≤ g) (b : g ≤ n) where
+  at-group : groupAt (groupsIn t n) g ≡ record { parent = parentIn t g; lo = loIn t g; hi = hiIn t g; mode = modeIn t g }
+  at-group = groupAt-groupsIn t n g a b
+
+  same-parent : (ltb 0 (parentIn t g) && sameMode (modeIn t (parentIn t g)))
+      ≡ (ltb 0 (parentIn t g) && sheetOf (groupsIn t n) .same (parentIn t g))
+  same-parent =
+      compare-le 1 (parentIn t g)
+      (λ o. rw (groupAt-groupsIn t n (parentIn t g) o (omega (arith, parent-below t n g r a b))))
+      (λ o. rw (le-ltb 0 (parentIn t g) (omega arith)))
+
+  pub may-is : (q : Rule) → ruleNumber q < 5 → mayBreak t g (ruleNumber q) ≡ may (sheetOf (groupsIn t n)) g q
+  unfolding mayBreak
+  may-is outside l = rw at-group
+  may-is lacking l = rw at-group same-parent
+  may-is uncovered l = rw at-group
+  may-is shared l = rw at-group
+  may-is below l = absurd (omega arith)
+  may-is above l = absurd (omega arith)
+
+  -- a count that breaks a rule, and a rule that a count breaks
+  over : (c h : ℕ) → (not (eqb h noEnd) && ltb h c) ≡ true → AtMost c (endOf h) → ⊥
+  unfolding endOf
+  over c h e m =
+      let x = and-true (not (eqb h noEnd)) (ltb h c) e in
+      let y : c ≤ h = rw (not-true (eqb h noEnd) (x .0)) at m in omega (arith, ltb-true h c (x .1))
+
+  not-over : (c h : ℕ) → (not (eqb h noEnd) && ltb h c) ≡ false → AtMost c (endOf h)
+  unfolding endOf
+  not-over c h e =
+      split (eqb h noEnd)
+      (λ x. rw x tt)
+      (λ x. rw x (ltb-false h c (let z = rw x at e in z)))
+
+  pub by-count : {X : Type 0} (A : Sets X) (q : Rule) (c : ℕ) → 5 ≤ ruleNumber q → c ≡ count A g
+      → countBreaks t c g (ruleNumber q) ≡ true
+      → Broken (sheetOf (groupsIn t n)) A g q
+  unfolding countBreaks
+  by-count A outside c l e x = absurd (omega arith)
+  by-count A lacking c l e x = absurd (omega arith)
+  by-count A uncovered c l e x = absurd (omega arith)
+  by-count A shared c l e x = absurd (omega arith)
+  by-count A below c l e x = rw (at-group, ← e) (ltb-true c (loIn t g) x)
+  by-count A above c l e x = rw (at-group, ← e) (over c (hiIn t g) x)
+
+  pub count-of : {X : Type 0} (A : Sets X) (q : Rule) (c : ℕ) → 5 ≤ ruleNumber q → c ≡ count A g
+      → countBreaks t c g (ruleNumber q) ≡ false
+      → Broken (sheetOf (groupsIn t n)) A g q → ⊥
+  unfolding countBreaks
+  count-of A outside c l e x v = absurd (omega arith)
+  count-of A lacking c l e x v = absurd (omega arith)
+  count-of A uncovered c l e x v = absurd (omega arith)
+  count-of A shared c l e x v = absurd (omega arith)
+  count-of A below c l e x v = let z : c < loIn t g = rw (at-group, ← e) at v in omega (arith, ltb-false c (loIn t g) x)
+  count-of A above c l e x v = (rw (at-group, ← e) at v) (not-over c (hiIn t g) x)

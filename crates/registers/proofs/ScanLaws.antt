@@ -1,0 +1,140 @@
+-- What the scan has passed: groups, rules and rows of which nothing is broken; and what its end says.
+use Prim.Native.Nat.{ℕ, _+_, _≤_, _<_}
+use mathlib.Core.Path.{_≡_, sym, _∙_}
+use mathlib.Core.Bool.{true, false}
+use mathlib.Core.List.{List}
+use native.Mathlib.Omega.{arith}
+use native.Mathlib.Numerals.{add-one}
+use lib.ListN.{getD}
+use Rattle.meaning.specs.Sheet.{Sheet, Group, Tree}
+use Rattle.meaning.specs.Sets.{Sets}
+use Rattle.meaning.specs.Rule.{Rule, ruleNumber, Broken}
+use Rattle.meaning.specs.OfRecords.{sheetOf}
+use Rattle.reading.specs.Tables.{groupsIn, length-groupsIn}
+use Rattle.registers.specs.Cases.{below-suc, true-not-false}
+use Rattle.registers.specs.Unbroken.{unbroken-fits}
+use Rattle.registers.specs.Words.{wordSets}
+use Rattle.registers.specs.Tallies.{SonsListed, Counted}
+use Rattle.registers.specs.RuleTests.{parentIn, mayBreak, rowBreaks, countBreaks}
+use Rattle.registers.specs.Checked.{Verdict}
+use Rattle.registers.specs.declared.check.Check.the-variants as check
+use Rattle.registers.proofs.SonLaws.{group-in, in-group, parent-in}
+use Rattle.registers.proofs.RuleLaws.{rule-first, rule-last, rule-numbered, by-row, row-of, may-is, by-count, count-of}
+
+-- nothing is broken at a group before g
+pub record ClearGroups {X : Type 0} (s : Sheet) (A : Sets X) (g : ℕ) : Type 0 where
+  pub clear : (h : ℕ) → Group s h → h < g → (q : Rule) → Broken s A h q → ⊥
+
+-- no rule before number k is broken at group g
+pub record ClearRules {X : Type 0} (s : Sheet) (A : Sets X) (g k : ℕ) : Type 0 where
+  pub clear : (q : Rule) → ruleNumber q < k → Broken s A g q → ⊥
+
+-- no row before `row` breaks rule k at group g
+pub record ClearRows (k : ℕ) (w : List ℕ) (row : ℕ) (u : List ℕ) (g p : ℕ) : Type 0 where
+  pub clear : (i : ℕ) → i < row → rowBreaks k w i u g p ≡ false
+
+pub rows-none : (k : ℕ) (w u : List ℕ) (g p : ℕ) → ClearRows k w 0 u g p
+rows-none k w u g p = record { clear = λ i l. absurd (omega arith) }
+
+pub rows-more : (k : ℕ) (w : List ℕ) (row : ℕ) (u : List ℕ) (g p : ℕ) → ClearRows k w row u g p → rowBreaks k w row u g p ≡ false
+    → ClearRows k w (row + 1) u g p
+rows-more k w row u g p c e =
+    record { clear = λ i l. below-suc i row (rw add-one at l) (λ (x : i ≡ row). rw x e) (λ x. c .clear i x) }
+
+rows-clash : (j k : ℕ) (w : List ℕ) (row : ℕ) (u : List ℕ) (g o p : ℕ) → j ≡ k → o ≡ p → ClearRows k w row u g p
+    → (i : ℕ) → i < row → rowBreaks j w i u g o ≡ true → ⊥
+rows-clash j k w row u g o p d e c i l x = true-not-false _ (rw (d, e) at x) (c .clear i l)
+
+pub rules-none : {X : Type 0} (s : Sheet) (A : Sets X) (g : ℕ) → ClearRules s A g 1
+rules-none s A g = record { clear = λ q l b. omega (arith, rule-first q) }
+
+pub groups-none : {X : Type 0} (s : Sheet) (A : Sets X) → ClearGroups s A 1
+groups-none s A = record { clear = λ h k l q b. omega (arith, k .first) }
+
+pub groups-more : {X : Type 0} (s : Sheet) (A : Sets X) (g k : ℕ) → ClearGroups s A g → 7 ≤ k → ClearRules s A g k
+    → ClearGroups s A (g + 1)
+groups-more s A g k c l r =
+    record {
+      clear = λ h y m q b.
+          below-suc h g (rw add-one at m)
+          (λ (x : h ≡ g). r .clear q (omega (arith, rule-last q)) (rw x at b))
+          (λ x. c .clear h y x q b);
+    }
+
+rules-more : {X : Type 0} (s : Sheet) (A : Sets X) (g k : ℕ) → ClearRules s A g k
+    → ((q : Rule) → ruleNumber q ≡ k → Broken s A g q → ⊥)
+    → ClearRules s A g (k + 1)
+rules-more s A g k c f =
+    record { clear = λ q l b. below-suc (ruleNumber q) k (rw add-one at l) (λ x. f q x b) (λ x. c .clear q x b) }
+
+module _ (t : List ℕ) (n : ℕ) (w : List ℕ) (rows : ℕ) (u counts : List ℕ) (r : Tree (sheetOf (groupsIn t n))) (z : n ≤ 128)
+    (sons : SonsListed (sheetOf (groupsIn t n)) u) (tally : Counted (wordSets w rows) counts) where
+  size-most : sheetOf (groupsIn t n) .size ≤ 128
+  size-most = rw (length-groupsIn t n) z
+
+  -- nothing is broken at any group
+  pub scan-fits : (g : ℕ) → n < g → ClearGroups (sheetOf (groupsIn t n)) (wordSets w rows) g
+      → Verdict (sheetOf (groupsIn t n)) (wordSets w rows) check.Fits
+  scan-fits g l c =
+      unbroken-fits (sheetOf (groupsIn t n)) (wordSets w rows) r (record { once = λ i j k m e. e })
+      (λ h y q b. c .clear h y (omega (arith, in-group t n h y)) q b)
+
+  module _ (g k : ℕ) (a : 1 ≤ g) (b : g ≤ n) (c : ClearRules (sheetOf (groupsIn t n)) (wordSets w rows) g k) where
+    -- no row breaks the rule
+    pub rules-row : k < 5 → (row : ℕ) → rows ≤ row → ClearRows k w row u g (parentIn t g)
+        → ClearRules (sheetOf (groupsIn t n)) (wordSets w rows) g (k + 1)
+    rules-row l row m d =
+        rules-more (sheetOf (groupsIn t n)) (wordSets w rows) g k c
+        (λ q e v.
+        let x = row-of (sheetOf (groupsIn t n)) w u rows g sons size-most (group-in t n g a b) q (omega arith) v .1 in
+        rows-clash (ruleNumber q) k w row u g _ _ e (parent-in t n g a b) d (x .0) (omega arith) (x .2))
+
+    -- the rule cannot be broken at the group
+    pub rules-not : k < 5 → mayBreak t g k ≡ false → ClearRules (sheetOf (groupsIn t n)) (wordSets w rows) g (k + 1)
+    rules-not l d =
+        rules-more (sheetOf (groupsIn t n)) (wordSets w rows) g k c
+        (λ q e v.
+        let x = row-of (sheetOf (groupsIn t n)) w u rows g sons size-most (group-in t n g a b) q (omega arith) v .0 in
+        true-not-false _ x (sym (may-is t n g r a b q (omega arith)) ∙ (rw e d)))
+
+    -- the count does not break the rule
+    pub rules-count : 5 ≤ k → countBreaks t (getD counts g 0) g k ≡ false
+        → ClearRules (sheetOf (groupsIn t n)) (wordSets w rows) g (k + 1)
+    rules-count l d =
+        rules-more (sheetOf (groupsIn t n)) (wordSets w rows) g k c
+        (λ q e v. count-of t n g r a b (wordSets w rows) q (getD counts g 0) (omega arith) (tally .each g a (omega arith))
+        (rw e d) v)
+
+    module _ (d : ClearGroups (sheetOf (groupsIn t n)) (wordSets w rows) g) (f : 1 ≤ k) where
+      -- a row breaks the rule
+      pub scan-row : k < 5 → (row : ℕ) → row < rows → mayBreak t g k ≡ true → rowBreaks k w row u g (parentIn t g) ≡ true
+          → Verdict (sheetOf (groupsIn t n)) (wordSets w rows) (check.Broken g k)
+      scan-row l row m x y =
+          let q = rule-numbered k f (omega arith) in (
+            q .0,
+            q .1,
+            record {
+              group = group-in t n g a b;
+              broken = by-row (sheetOf (groupsIn t n)) w u rows g sons size-most (group-in t n g a b) (q .0) row (omega arith) m
+                  (sym (may-is t n g r a b (q .0) (omega arith)) ∙ (rw (← q .1) x))
+                  (rw (← q .1, parent-in t n g a b) y);
+              lowest = d .clear;
+              first = λ p o. c .clear p (omega arith);
+            },
+          )
+
+      -- the count breaks the rule
+      pub scan-count : 5 ≤ k → k < 7 → countBreaks t (getD counts g 0) g k ≡ true
+          → Verdict (sheetOf (groupsIn t n)) (wordSets w rows) (check.Broken g k)
+      scan-count l m x =
+          let q = rule-numbered k f m in (
+            q .0,
+            q .1,
+            record {
+              group = group-in t n g a b;
+              broken = by-count t n g r a b (wordSets w rows) (q .0) (getD counts g 0) (omega arith)
+                  (tally .each g a (omega arith)) (rw (← q .1) x);
+              lowest = d .clear;
+              first = λ p o. c .clear p (omega arith);
+            },
+          )

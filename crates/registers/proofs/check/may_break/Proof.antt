@@ -1,0 +1,71 @@
+-- `registers::check::may_break` meets its contract.
+use borrow.Author.Needs.{needs}
+use Prim.Native.Nat.{_<_}
+use mathlib.Core.Path.{sym, _∙_}
+use native.Mathlib.Omega.{arith}
+use borrow.Author.Tests.{lt-ltb, ne-eqb}
+use Rattle.registers.specs.RuleTests.{parentIn, mayBreak}
+use Rattle.registers.proofs.check.may_break.Statement.{statement}
+use Rattle.registers.proofs.check.may_break.Tie as tie
+
+parent-of-requires : tie.Need-parent-of-requires
+parent-of-requires c κs = search needs
+
+returns : tie.Need-returns
+unfolding mayBreak
+returns c = rw (c .if1 .taken, c .before .parent-of .ensures)
+
+returns-2 : tie.Need-returns-2
+unfolding mayBreak
+returns-2 c = rw (c .before .if2 .taken, sym (c .before .before .before .parent-of .ensures) ∙ c .if3 .taken)
+
+mode-of-requires : tie.Need-mode-of-requires
+mode-of-requires c κs = search needs
+
+returns-3 : tie.Need-returns-3
+unfolding mayBreak
+returns-3 c =
+    let q = c .before .before .before .before in
+    let a = q .before .before .args in
+    let l : 0 < parentIn (a .groups .now) (a .g .0) = omega (arith, q .parent-of .ensures) in
+    rw (
+      c .before .before .if2 .taken,
+      c .mode-of .ensures,
+      q .parent-of .ensures,
+      lt-ltb 0 (parentIn (a .groups .now) (a .g .0)) l,
+    )
+
+mode-of-requires-2 : tie.Need-mode-of-requires-2
+mode-of-requires-2 c κs = search needs
+
+returns-4 : tie.Need-returns-4
+unfolding mayBreak
+returns-4 c = rw (c .before .if4 .taken, c .mode-of2 .ensures)
+
+mode-of-requires-3 : tie.Need-mode-of-requires-3
+mode-of-requires-3 c κs = search needs
+
+returns-5 : tie.Need-returns-5
+unfolding mayBreak
+returns-5 c =
+    let e = c .before in
+    rw (
+      ne-eqb _ _ (e .before .before .if1 .left),
+      ne-eqb _ _ (e .before .if2 .left),
+      ne-eqb _ _ (e .if4 .left),
+      c .mode-of3 .ensures,
+    )
+
+pub may-break-spec : {M : Type 1} → statement M
+may-break-spec =
+    tie.close
+    (tie.spec
+    parent-of-requires
+    returns
+    returns-2
+    mode-of-requires
+    returns-3
+    mode-of-requires-2
+    returns-4
+    mode-of-requires-3
+    returns-5)

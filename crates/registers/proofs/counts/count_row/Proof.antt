@@ -1,0 +1,119 @@
+-- `registers::counts::count_row` meets its contract. Invariant: as many turns are left as ones, and the groups taken so far are
+-- counted.
+use borrow.Author.Needs.{needs}
+use native.Mathlib.Omega.{arith}
+use Prim.Native.Nat.{_-_, _<_}
+use mathlib.Core.Path.{_≡_, refl, _∙_}
+use mathlib.Core.Logic.{⊎-elim}
+use lib.Count.{ones}
+use Rattle.registers.proofs.WordLaws.{pair-ones}
+use Rattle.registers.proofs.CountLaws.{Turns, turn-low, turn-high, walk-room, walk-room-high, walk-start, walk-end}
+use Rattle.registers.proofs.CountLaws.{ones-positive}
+use Rattle.registers.specs.Digits.{ones-of-zero}
+use Rattle.registers.proofs.counts.count_row.Statement.{statement}
+use Rattle.registers.proofs.counts.count_row.Tie as tie
+
+abbrev Inv-loop : tie.InvT-loop
+Inv-loop low high counts₀ n l₀ h₀ counter₀ counts l h counter = Turns low high counts₀ n l h counts counter
+
+abbrev μ-loop : tie.MeasureT-loop
+μ-loop low high counts₀ n l₀ h₀ counter₀ counts l h counter = n - counter
+
+-- where the low word has run out and turns are left, the high word has not
+high-left : (c : tie.Else1 Inv-loop μ-loop) → 0 < c .before .before .loop .h
+high-left c =
+    let z : ones (c .before .before .loop .l) ≡ 0 = rw (c .if1 .left) ones-of-zero in
+    ones-positive (c .before .before .loop .h) (omega arith)
+
+groups-of-requires : tie.Need-groups-of-requires Inv-loop μ-loop
+groups-of-requires c κs = search needs
+
+loop-holds : tie.Need-loop-holds Inv-loop μ-loop
+loop-holds c =
+    let a = c .before .before .args in
+    let f = c .before .before .fits in (
+      refl,
+      (
+        omega (arith, pair-ones (a .low) (a .high) (f .low .fits) (f .high .fits)),
+        walk-start (a .low) (a .high) _ (f .low .fits) (f .high .fits),
+      ),
+    )
+
+lowest-of-requires : tie.Need-lowest-of-requires Inv-loop μ-loop
+lowest-of-requires c κs = search needs
+
+add-t13 : tie.Need-add-t13 Inv-loop μ-loop
+add-t13 c = search needs
+
+bump-requires : tie.Need-bump-requires Inv-loop μ-loop
+bump-requires c κs =
+    let l = c .before .before .before .before in (
+      omega arith,
+      walk-room _ _ _ _ _ _ _ (l .loop .inv .1 .1) (c .lowest-of .ensures .0) (omega arith) 65535
+          (l .before .before .before .pre .1) (c .lowest-of .ensures .1),
+    )
+
+rest-of-requires : tie.Need-rest-of-requires Inv-loop μ-loop
+rest-of-requires c κs = search needs
+
+lowest-of-requires-2 : tie.Need-lowest-of-requires-2 Inv-loop μ-loop
+lowest-of-requires-2 c κs = high-left (c .before)
+
+add-t19 : tie.Need-add-t19 Inv-loop μ-loop
+add-t19 c = search needs
+
+bump-requires-2 : tie.Need-bump-requires-2 Inv-loop μ-loop
+bump-requires-2 c κs =
+    let l = c .before .before .before .before in (
+      omega arith,
+      walk-room-high _ _ _ _ _ _ _ (l .loop .inv .1 .1) (c .lowest-of2 .ensures .0) (omega arith) 65535
+          (l .before .before .before .pre .1) (c .lowest-of2 .ensures .1),
+    )
+
+rest-of-requires-2 : tie.Need-rest-of-requires-2 Inv-loop μ-loop
+rest-of-requires-2 c κs = high-left (c .before .before .before .before .before)
+
+add-counter : tie.Need-add-counter Inv-loop μ-loop
+add-counter c = search needs
+
+loop-less : tie.Need-loop-less Inv-loop μ-loop
+loop-less c = search needs
+
+loop-again : tie.Need-loop-again Inv-loop μ-loop
+loop-again c =
+    let l = c .before .before in
+    ⊎-elim
+    (λ w. turn-low _ _ _ _ _ _ _ _ _ (l .loop .inv) (w .2 .ensures .0) (l .before .before .before .pre .0) (w .2 .ensures .1)
+    (w .7 ∙ w .3 .ensures) (w .8 ∙ w .6 .ensures) (w .9))
+    (λ w. turn-high _ _ _ _ _ _ _ _ _ (l .loop .inv) (w .2 .ensures .0) (l .before .before .before .pre .0) (w .2 .ensures .1)
+    (w .7 ∙ w .3 .ensures) (w .8) (w .9 ∙ w .6 .ensures))
+    (c .if1 .came)
+
+same-length : tie.Need-same-length Inv-loop μ-loop
+same-length c = search needs
+
+returns : tie.Need-returns Inv-loop μ-loop
+returns c =
+    let l = c .before .loop in walk-end _ _ _ _ _ _ (l .inv .1 .1) (omega arith)
+
+pub count-row-spec : {M : Type 1} → statement M
+count-row-spec =
+    tie.close
+    (tie.spec
+    Inv-loop
+    μ-loop
+    groups-of-requires
+    loop-holds
+    lowest-of-requires
+    add-t13
+    bump-requires
+    rest-of-requires
+    lowest-of-requires-2
+    add-t19
+    bump-requires-2
+    rest-of-requires-2
+    add-counter
+    loop-less
+    loop-again
+    same-length
+    returns)

@@ -1,0 +1,11 @@
+pub mod Cases
+pub mod Unbroken
+pub mod Listed
+pub mod Digits
+pub mod Words
+pub mod RowsRead
+pub mod Tallies
+pub mod RuleTests
+pub mod Checked
+pub mod Agree
+pub mod Settled

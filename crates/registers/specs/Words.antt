@@ -1,0 +1,36 @@
+-- Membership as words: two words of 64 digits for a row, group g being digit (g - 1) mod 64 of word (g - 1) div 64.
+-- A table holds two words for each place.
+use Prim.Native.Nat.{ℕ, _+_, _-_, _*_, _/_, _%_, min}
+use mathlib.Core.Bool.{Bool, cond}
+use mathlib.Core.List.{List}
+use lib.ListN.{getD}
+use lib.Dec.{ltb, eqb}
+use Rattle.meaning.specs.Sum.{sum}
+use Rattle.meaning.specs.Sets.{Sets, numbered}
+use Rattle.wire.specs.Limits.{groupLimit}
+use Rattle.wire.specs.Bytes.{u32At}
+use Rattle.registers.specs.Digits.{digit}
+
+-- a field of eight bytes, low byte first
+unfoldable pub u64At : List ℕ → ℕ → ℕ
+u64At b i = u32At b i + 4294967296 * u32At b (i + 4)
+
+-- digit j of two words
+unfoldable pub pairDigit : ℕ → ℕ → ℕ → ℕ
+pairDigit low high j = cond (ltb j 64) (digit low j) (digit high (j - 64))
+
+-- digit j of the two words at place i of a table
+unfoldable pub digitIn : List ℕ → ℕ → ℕ → ℕ
+digitIn t i j = digit (getD t (2 * i + j / 64) 0) (j % 64)
+
+-- group g is in the set at place i of a table
+unfoldable pub holds : List ℕ → ℕ → ℕ → Bool
+holds t i g = eqb (digitIn t i (g - 1)) 1
+
+-- the sets that the first n places of a table list
+abbrev pub wordSets : List ℕ → ℕ → Sets ℕ
+wordSets t n = numbered n (λ g i. holds t i g)
+
+-- the number of groups that are in the sets at place i of one table and at place p of another
+unfoldable pub inBoth : List ℕ → ℕ → List ℕ → ℕ → ℕ
+inBoth t i u p = sum (λ j. min (digitIn t i j) (digitIn u p j)) groupLimit

@@ -1,0 +1,168 @@
+// The check of a register: the lowest broken group with its first broken rule, once all rows are read.
+use crate::counts::count_groups;
+use crate::counts::count_of;
+use crate::rows::Rows;
+use crate::rows::read_rows;
+use crate::sons::gather_sons;
+use reading::tables::GroupNo;
+use reading::tables::hi_of;
+use reading::tables::lo_of;
+use reading::tables::mode_of;
+use reading::tables::parent_of;
+ghost use mathlib.Core.Path.{_≡_};
+ghost use Prim.Native.Nat.{_+_, _*_, _≤_, _<_};
+ghost use lib.ListN.{length, getD};
+ghost use Rattle.wire.specs.Limits.{groupLimit};
+ghost use Rattle.wire.specs.RegisterFormat.{readRegister};
+ghost use Rattle.meaning.specs.OfRecords.{sheetOf};
+ghost use Rattle.reading.specs.Tables.{groupsIn};
+ghost use Rattle.registers.specs.Words.{holds, inBoth, wordSets};
+ghost use Rattle.registers.specs.Tallies.{SheetIn, Gathered, RowAsked};
+ghost use Rattle.registers.specs.RuleTests.{parentIn, mayBreak, rowBreaks, countBreaks};
+ghost use Rattle.registers.specs.Checked.{Verdict, Checked};
+
+// two words for each row; two for each group's sons, and a count for each group, from group 0 on
+const WORDS: usize = 4096;
+
+const SONS: usize = 258;
+
+const COUNTS: usize = 129;
+
+// The listed sets fit; a group's number with the number of the rule that it breaks first; or a refusal's number with the row's.
+pub enum Check {
+    Fits,
+    Broken(u16, u16),
+    Refused(u32, u32),
+}
+
+// whether group g is in the set at place i of a table
+fn has(table: &[u64], i: usize, g: GroupNo) -> bool
+    requires { ⌜ (2 * i + 1 < length (now table)) × ((1 ≤ g .0) × (g .0 ≤ groupLimit)) ⌝ }
+    ensures { λ r. ⌜ r ≡ holds (now (table .entry)) i (g .0) ⌝ }
+{
+    let j = g.0 as usize - 1;
+    let w = table[2 * i + j / 64];
+    (w >> (j % 64)) % 2 == 1
+}
+
+// the number of sons of group g that the row has
+fn sons_in(words: &[u64], row: usize, sons: &[u64], g: GroupNo) -> u32
+    requires { ⌜ (2 * row + 1 < length (now words)) × (2 * (g .0) + 1 < length (now sons)) ⌝ }
+    ensures { λ r. ⌜ r ≡ inBoth (now (words .entry)) row (now (sons .entry)) (g .0) ⌝ }
+{
+    let i = g.0 as usize;
+    let low = words[2 * row] & sons[2 * i];
+    let high = words[2 * row + 1] & sons[2 * i + 1];
+    u64::count_ones(low) + u64::count_ones(high)
+}
+
+// whether one of the rules 1 to 4 can be broken at a group
+fn may_break(groups: &[u16], g: GroupNo, rule: u16) -> bool
+    requires { ⌜ (1 ≤ g .0) × ((4 * (g .0) ≤ length (now groups)) × (parentIn (now groups) (g .0) < g .0)) ⌝ }
+    ensures { λ r. ⌜ r ≡ mayBreak (now (groups .entry)) (g .0) rule ⌝ }
+{
+    let p = parent_of(groups, g);
+    if rule == 1 {
+        return 0 < p;
+    }
+    if rule == 2 {
+        if p == 0 {
+            return false;
+        }
+        return mode_of(groups, GroupNo(p)) / 4 % 2 == 1;
+    }
+    if rule == 3 {
+        return mode_of(groups, g) / 2 % 2 == 1;
+    }
+    mode_of(groups, g) % 2 == 1
+}
+
+// whether a row breaks one of the rules 1 to 4 at a group, where the rule can be broken
+fn row_breaks(rule: u16, words: &[u64], row: usize, sons: &[u64], g: GroupNo, p: GroupNo) -> bool
+    requires { ⌜ RowAsked rule (now words) row (now sons) (g .0) (p .0) ⌝ }
+    ensures { λ r. ⌜ r ≡ rowBreaks rule (now (words .entry)) row (now (sons .entry)) (g .0) (p .0) ⌝ }
+{
+    if rule == 1 {
+        if has(words, row, g) {
+            return !has(words, row, p);
+        }
+        return false;
+    }
+    if rule == 2 {
+        if has(words, row, p) {
+            return !has(words, row, g);
+        }
+        return false;
+    }
+    if rule == 3 {
+        if has(words, row, g) {
+            return sons_in(words, row, sons, g) == 0;
+        }
+        return false;
+    }
+    1 < sons_in(words, row, sons, g)
+}
+
+// whether a group's count breaks rule 5 or rule 6
+fn count_breaks(groups: &[u16], counts: &[u32], g: GroupNo, rule: u16) -> bool
+    requires { ⌜ (1 ≤ g .0) × ((4 * (g .0) ≤ length (now groups)) × (g .0 < length (now counts))) ⌝ }
+    ensures { λ r. ⌜ r ≡ countBreaks (now (groups .entry)) (getD (now (counts .entry)) (g .0) 0) (g .0) rule ⌝ }
+{
+    let n = count_of(counts, g);
+    if rule == 5 {
+        return n < lo_of(groups, g) as u32;
+    }
+    let hi = hi_of(groups, g);
+    if hi == 65535 {
+        return false;
+    }
+    (hi as u32) < n
+}
+
+// The scan over groups, rules and rows, left at the first broken rule.
+fn scan(groups: &[u16], size: u16, words: &[u64], n: usize, sons: &[u64], counts: &[u32]) -> Check
+    requires { ⌜ SheetIn (now groups) size × Gathered (now groups) size (now words) n (now sons) (now counts) ⌝ }
+    ensures { λ r. ⌜ Verdict (sheetOf (groupsIn (now (groups .entry)) size)) (wordSets (now (words .entry)) n) r ⌝ }
+{
+    let mut answer = Check::Fits;
+    let end = size + 1;
+    'scan: for g in 1..end {
+        let p = parent_of(groups, GroupNo(g));
+        for rule in 1..7u16 {
+            if rule < 5 {
+                if may_break(groups, GroupNo(g), rule) {
+                    for row in 0..n {
+                        if row_breaks(rule, words, row, sons, GroupNo(g), GroupNo(p)) {
+                            answer = Check::Broken(g, rule);
+                            break 'scan;
+                        }
+                    }
+                }
+            } else {
+                if count_breaks(groups, counts, GroupNo(g), rule) {
+                    answer = Check::Broken(g, rule);
+                    break 'scan;
+                }
+            }
+        }
+    }
+    answer
+}
+
+// All rows are read before any rule is looked at.
+pub fn check_register(groups: &[u16], size: u16, register: &[u8]) -> Check
+    requires { ⌜ SheetIn (now groups) size ⌝ }
+    ensures { λ r. ⌜ Checked (sheetOf (groupsIn (now (groups .entry)) size)) (readRegister size (now (register .entry))) r ⌝ }
+{
+    let mut words = [0u64; WORDS];
+    match read_rows(register, size, &mut words) {
+        Rows::Refused(a, b) => Check::Refused(a, b),
+        Rows::Count(n) => {
+            let mut sons = [0u64; SONS];
+            gather_sons(groups, size, &mut sons);
+            let mut counts = [0u32; COUNTS];
+            count_groups(&words, n, &mut counts);
+            scan(groups, size, &words, n, &sons, &counts)
+        }
+    }
+}

@@ -1,0 +1,125 @@
+// The rows of a register: one row decoded from the lent bytes, and all rows read to an end or to a refusal (10 to 13).
+use crate::reader::row_of;
+use wire::bytes;
+ghost use mathlib.Core.Path.{_≡_};
+ghost use Prim.Native.Nat.{_+_, _*_, _≤_, _<_};
+ghost use lib.ListN.{length};
+ghost use Rattle.wire.specs.Limits.{rowLimit};
+ghost use Rattle.registers.specs.Words.{u64At};
+ghost use Rattle.registers.specs.RowsRead.{rowAt, fromRow, Above, RowsRead};
+
+// bytes of a row, most rows of a register
+pub const ROW: usize = 24;
+
+pub const ROWS: usize = 2048;
+
+// A row's member, and its membership: groups 1 to 64 in the low word, 65 to 128 in the high one, lowest bit first.
+pub struct RowWords {
+    pub member: u32,
+    pub low: u64,
+    pub high: u64,
+}
+
+// No bytes are left; a row; or the refusal that its frame meets.
+pub enum RowAnswer {
+    End,
+    Row(RowWords),
+    Refused(u32),
+}
+
+// The number of rows, or a refusal's number with the row's number.
+pub enum Rows {
+    Count(usize),
+    Refused(u32, u32),
+}
+
+// a field of four bytes and the one above it
+fn pair_of_longs(low: u32, high: u32) -> u64
+    ensures { λ r. ⌜ r ≡ low + 4294967296 * high ⌝ }
+{
+    low as u64 + 4294967296 * (high as u64)
+}
+
+fn wide(s: &[u8], at: usize) -> u64
+    requires { ⌜ at + 7 < length (now s) ⌝ }
+    ensures { λ r. ⌜ r ≡ u64At (now (s .entry)) at ⌝ }
+{
+    pair_of_longs(bytes::long(s, at), bytes::long(s, at + 4))
+}
+
+// The row after `row` rows.
+pub fn row_at(register: &[u8], row: usize) -> RowAnswer
+    ensures { λ r. ⌜ r ≡ rowAt (fromRow (now (register .entry)) row) ⌝ }
+{
+    if register.len() / ROW < row {
+        return RowAnswer::End;
+    }
+    let at = ROW * row;
+    let left = register.len() - at;
+    if left == 0 {
+        return RowAnswer::End;
+    }
+    if left < ROW {
+        return RowAnswer::Refused(11);
+    }
+    if bytes::word(register, at) != 22 {
+        return RowAnswer::Refused(11);
+    }
+    if bytes::word(register, at + 2) != 32 {
+        return RowAnswer::Refused(11);
+    }
+    RowAnswer::Row(RowWords {
+        member: bytes::long(register, at + 4),
+        low: wide(register, at + 8),
+        high: wide(register, at + 16),
+    })
+}
+
+// whether a bit of a group above `groups` is set
+fn bit_above(low: u64, high: u64, groups: u16) -> bool
+    ensures { λ r. ⌜ Above groups low high r ⌝ }
+{
+    if 128 <= groups {
+        return false;
+    }
+    if 64 <= groups {
+        return (high >> (groups - 64)) != 0;
+    }
+    if high != 0 {
+        return true;
+    }
+    (low >> groups) != 0
+}
+
+// All rows, each tested before the next is read; their membership words go into the table, two for each row.
+pub fn read_rows(register: &[u8], groups: u16, words: &mut [u64]) -> Rows
+    requires { ⌜ 2 * rowLimit ≤ length (now words) ⌝ }
+    ensures { λ r. ⌜ RowsRead groups (now (register .entry)) r (now (words .exit)) ⌝ }
+{
+    let mut last: u32 = 0;
+    for row in 0..ROWS {
+        match row_of(register, row) {
+            RowAnswer::End => {
+                return Rows::Count(row);
+            }
+            RowAnswer::Refused(n) => {
+                return Rows::Refused(n, row as u32 + 1);
+            }
+            RowAnswer::Row(r) => {
+                if r.member <= last {
+                    return Rows::Refused(12, row as u32 + 1);
+                }
+                if bit_above(r.low, r.high, groups) {
+                    return Rows::Refused(13, row as u32 + 1);
+                }
+                words[2 * row] = r.low;
+                words[2 * row + 1] = r.high;
+                last = r.member;
+            }
+        }
+    }
+    if ROW * ROWS < register.len() {
+        return Rows::Refused(10, 2049);
+    }
+    Rows::Count(ROWS)
+}
