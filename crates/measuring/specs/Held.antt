@@ -1,0 +1,67 @@
+-- How the code's numbers are read: two numbers as a span, two spans as those of a group, a flag, a mode.
+use Prim.Native.Nat.{ℕ, _/_, _%_, _≤_}
+use mathlib.Core.Path.{_≡_}
+use mathlib.Core.Bool.{Bool, true, false, cond}
+use lib.Dec.{leb, eqb}
+use Rattle.meaning.specs.Sheet.{Top, fin, inf}
+use Rattle.meaning.specs.OfRecords.{disjointMode, coverMode, sameMode}
+use Rattle.sizes.specs.Span.{Span, none, span, Kind, lap, add, eq}
+use Rattle.sizes.specs.Bounds.{weight}
+use Rattle.measuring.specs.declared.spans.Span.{Span as SpanCode}
+use Rattle.measuring.specs.declared.spans.Pair.{Pair as PairCode}
+use Rattle.measuring.specs.declared.spans.Kind.{Kind as KindCode}
+use Rattle.measuring.specs.declared.spans.Kind.the-variants.{Lap, Add, Eq}
+
+-- the number that stands for no upper end
+abbrev pub endless : ℕ
+endless = 4294967295
+
+unfoldable pub topOf : ℕ → Top
+topOf m = cond (eqb m endless) inf (fin m)
+
+-- the numbers from l to m, none where l is above m
+unfoldable pub spanOf : ℕ → ℕ → Span
+spanOf l m = cond (leb l m) (span l (topOf m)) none
+
+abbrev pub held : SpanCode → Span
+held r = spanOf (r .least) (r .most)
+
+-- for the member out of the group (false) and in it (true)
+abbrev pub pairOf : PairCode → Bool → Span
+pairOf p false = held (p .out)
+pairOf p true = held (p .inn)
+
+-- equal in both states
+abbrev pub Alike : (Bool → Span) → (Bool → Span) → Type 0
+Alike f h = (c : Bool) → f c ≡ h c
+
+abbrev pub kindHeld : KindCode → Kind
+kindHeld Lap = lap
+kindHeld Add = add
+kindHeld Eq = eq
+
+-- ends that leave room for one sum
+abbrev pub room : ℕ
+room = 1000000000
+
+abbrev pub EndRoom : ℕ → Type 0
+EndRoom m = (m ≡ endless → ⊥) → m ≤ room
+
+abbrev pub Room : Span → Type 0
+Room s = weight s ≤ room
+
+abbrev pub RoomBoth : (Bool → Span) → Type 0
+RoomBoth f = (c : Bool) → Room (f c)
+
+-- a flag is a sum of 1 (the member may be out of the group) and 2 (it may be in it)
+abbrev pub mayFlag : ℕ → Bool → Bool
+mayFlag f false = eqb (f % 2) 1
+mayFlag f true = eqb (f / 2 % 2) 1
+
+-- how the sons of a group of this mode are joined
+unfoldable pub modeKind : ℕ → Kind
+modeKind m = cond (sameMode m) eq (cond (disjointMode m) add lap)
+
+-- whether the sons alone must make up a group of this mode, with the number of its last son and of the one before, 0 for none
+unfoldable pub shutBy : ℕ → ℕ → ℕ → Bool
+shutBy m a b = cond (sameMode m) (cond (eqb a 0) (coverMode m) (cond (eqb b 0) false (disjointMode m))) (coverMode m)

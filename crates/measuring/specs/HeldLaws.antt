@@ -1,0 +1,161 @@
+-- The spans that two numbers give: `meet`, `hull` and `join` of them by their numbers.
+use Prim.Native.Nat.{ℕ, _+_, _-_, _≤_, _<_, min, max}
+use mathlib.Core.Path.{_≡_, refl, sym, _∙_}
+use mathlib.Core.Bool.{Bool, true, false}
+use native.Mathlib.Omega.{arith}
+use borrow.Author.Tests.{le-leb, lt-leb, lt-ltb, ne-eqb}
+use Rattle.wire.specs.Limits.{noEnd}
+use Rattle.meaning.specs.Sheet.{Top, fin, inf}
+use Rattle.meaning.specs.OfRecords.{endOf}
+use Rattle.sizes.specs.Span.{Span, none, span, plus, smaller, larger, make, meet, hull, Kind, lap, add, eq, join}
+use Rattle.sizes.specs.Fold.{ownTo}
+use Rattle.sizes.specs.Bounds.{weight-least, weight-most}
+use Rattle.sizes.specs.SumLaws.{compare-le, compare-eq}
+use Rattle.measuring.specs.Held.{endless, topOf, spanOf, room, EndRoom, Room, Alike}
+
+pub none-of : {l m : ℕ} → m < l → spanOf l m ≡ none
+unfolding spanOf
+none-of {l} {m} h = rw (lt-leb l m h)
+
+pub some-of : {l m : ℕ} → l ≤ m → spanOf l m ≡ span l (topOf m)
+unfolding spanOf
+some-of {l} {m} h = rw (le-leb l m h)
+
+pub top-end : topOf endless ≡ inf
+unfolding topOf
+top-end = refl
+
+pub top-fin : {m : ℕ} → (m ≡ endless → ⊥) → topOf m ≡ fin m
+unfolding topOf
+top-fin {m} h = rw (ne-eqb m endless h)
+
+-- the smaller and the larger of two upper ends
+pub top-min : {a b : ℕ} → a ≤ endless → b ≤ endless → topOf (min a b) ≡ smaller (topOf a) (topOf b)
+top-min {a} {b} h k =
+    compare-eq a endless
+    (λ e. compare-eq b endless
+    (λ d. let m : min a b ≡ endless = omega arith in rw (m, e, d, top-end))
+    (λ d. let m : min a b ≡ b = omega arith in rw (m, e, top-end, top-fin d)))
+    (λ e. compare-eq b endless
+    (λ d. let m : min a b ≡ a = omega arith in rw (m, d, top-end, top-fin e))
+    (λ d. rw (top-fin e, top-fin d, top-fin {m = min a b} (λ z. omega arith))))
+
+pub top-max : {a b : ℕ} → a ≤ endless → b ≤ endless → topOf (max a b) ≡ larger (topOf a) (topOf b)
+top-max {a} {b} h k =
+    compare-eq a endless
+    (λ e. compare-eq b endless
+    (λ d. let m : max a b ≡ endless = omega arith in rw (m, e, d, top-end))
+    (λ d. let m : max a b ≡ endless = omega arith in rw (m, e, top-end, top-fin d)))
+    (λ e. compare-eq b endless
+    (λ d. let m : max a b ≡ endless = omega arith in rw (m, d, top-end, top-fin e))
+    (λ d. rw (top-fin e, top-fin d, top-fin {m = max a b} (λ z. omega arith))))
+
+-- a span is made by writing its ends down
+pub make-of : (l m : ℕ) → l ≤ endless → make l (topOf m) ≡ spanOf l m
+unfolding spanOf
+make-of l m h =
+    compare-eq m endless
+    (λ e. rw (e, le-leb l endless h, top-end))
+    (λ e. rw (top-fin e))
+
+pub meet-of : (l u m v : ℕ) → l ≤ endless → u ≤ endless → m ≤ endless → v ≤ endless
+    → spanOf (max l m) (min u v) ≡ meet (spanOf l u) (spanOf m v)
+unfolding meet
+meet-of l u m v a b c d =
+    compare-le l u
+    (λ h. compare-le m v
+    (λ k. rw (some-of h, some-of k, ← top-min b d, make-of (max l m) (min u v) (omega arith)))
+    (λ k. rw (some-of h, none-of k, none-of {l = max l m} {m = min u v} (omega arith))))
+    (λ h. rw (none-of h, none-of {l = max l m} {m = min u v} (omega arith)))
+
+pub hull-of : (l u m v : ℕ) → u ≤ endless → v ≤ endless → l ≤ u → m ≤ v
+    → spanOf (min l m) (max u v) ≡ hull (spanOf l u) (spanOf m v)
+unfolding hull
+hull-of l u m v a b h k = rw (some-of h, some-of k, some-of {l = min l m} {m = max u v} (omega arith), top-max a b)
+
+-- a span with room has ends with room
+pub room-least : {l m : ℕ} → l ≤ m → Room (spanOf l m) → l ≤ room
+room-least {l} {m} h r = weight-least l (topOf m) room (rw (some-of h) at r)
+
+pub room-most : {l m : ℕ} → l ≤ m → Room (spanOf l m) → EndRoom m
+room-most {l} {m} h r e = weight-most l m room (rw (some-of h, top-fin e) at r)
+
+-- the sum of upper ends, in the three cases that the code takes
+pub plus-left : (a b : ℕ) → a ≡ endless → topOf endless ≡ plus (topOf a) (topOf b)
+plus-left a b e = rw (e, top-end) (any (topOf b))
+  where
+    any : (t : Top) → inf ≡ plus inf t
+    any (fin k) = refl
+    any inf = refl
+
+pub plus-right : (a b : ℕ) → (a ≡ endless → ⊥) → b ≡ endless → topOf endless ≡ plus (topOf a) (topOf b)
+plus-right a b n e = rw (e, top-end, top-fin n)
+
+pub plus-both : (a b : ℕ) → (a ≡ endless → ⊥) → (b ≡ endless → ⊥) → a ≤ room → b ≤ room → topOf (a + b) ≡ plus (topOf a) (topOf b)
+plus-both a b n k h j = rw (top-fin n, top-fin k, top-fin {m = a + b} (λ e. omega arith))
+
+-- joined spans, by their ends
+pub lap-of : (l u m v n w : ℕ) → n ≡ max l m → (topOf w ≡ plus (topOf u) (topOf v)) × (w ≡ min (u + v) endless)
+    → u ≤ endless → v ≤ endless → l ≤ u → m ≤ v → spanOf n w ≡ join lap (spanOf l u) (spanOf m v)
+unfolding join
+lap-of l u m v n w d e a b h k = rw (some-of h, some-of k, some-of {l = n} {m = w} (omega arith), e .0, d)
+
+pub add-of : (l u m v w : ℕ) → (topOf w ≡ plus (topOf u) (topOf v)) × (w ≡ min (u + v) endless) → l ≤ room → m ≤ room
+    → l ≤ u → m ≤ v → spanOf (l + m) w ≡ join add (spanOf l u) (spanOf m v)
+unfolding join
+add-of l u m v w e a b h k = rw (some-of h, some-of k, some-of {l = l + m} {m = w} (omega arith), e .0)
+
+pub join-eq-meet : (a b : Span) → join eq a b ≡ meet a b
+unfolding join meet
+join-eq-meet none b = refl
+join-eq-meet (span l u) none = refl
+join-eq-meet (span l u) (span m v) = refl
+
+-- nothing is joined to nothing
+pub join-none-left : (q : Kind) (a b : Span) → a ≡ none → join q a b ≡ none
+unfolding join
+join-none-left q a b e = rw e
+
+pub join-none-right : (q : Kind) (a b : Span) → b ≡ none → join q a b ≡ none
+unfolding join
+join-none-right q none b e = refl
+join-none-right lap (span l u) b e = rw e
+join-none-right add (span l u) b e = rw e
+join-none-right eq (span l u) b e = rw e
+
+-- equal in each state
+pub both : (f h : Bool → Span) → f false ≡ h false → f true ≡ h true → Alike f h
+both f h a b false = a
+both f h a b true = b
+
+-- a bound of a record as an upper end
+pub end-fin : {h : ℕ} → (h ≡ noEnd → ⊥) → endOf h ≡ fin h
+unfolding endOf
+end-fin {h} n = rw (ne-eqb h noEnd n)
+
+pub endless-of : (l : ℕ) → l ≤ endless → spanOf l endless ≡ span l inf
+endless-of l h = rw (some-of h, top-end)
+
+pub finite-of : (l u : ℕ) → l ≤ endless → u < endless → spanOf l u ≡ make l (fin u)
+finite-of l u h k = sym (make-of l u h) ∙ (rw (top-fin {m = u} (λ e. omega arith)))
+
+-- the own bounds of a group, from the fields of its record
+pub own-out-endless : (l h : ℕ) → l ≤ noEnd → h ≡ noEnd → spanOf l endless ≡ ownTo l (endOf h) false
+unfolding endOf
+own-out-endless l h a e = rw e (endless-of l (omega arith))
+
+pub own-out-finite : (l h : ℕ) → l ≤ noEnd → h ≤ noEnd → (h ≡ noEnd → ⊥) → spanOf l h ≡ ownTo l (endOf h) false
+own-out-finite l h a b e = rw (end-fin e) (finite-of l h (omega arith) (omega arith))
+
+pub own-in-endless : (l h n : ℕ) → l ≤ noEnd → n ≡ l - 1 → h ≡ noEnd → spanOf n endless ≡ ownTo l (endOf h) true
+unfolding endOf
+own-in-endless l h n a d e = rw (e, d) (endless-of (l - 1) (omega arith))
+
+pub own-in-zero : (l h : ℕ) → h ≡ 0 → none ≡ ownTo l (endOf h) true
+unfolding endOf
+own-in-zero l h e = rw e
+
+pub own-in-finite : (l h n m : ℕ) → l ≤ noEnd → h ≤ noEnd → n ≡ l - 1 → m ≡ h - 1 → (h ≡ noEnd → ⊥) → (h ≡ 0 → ⊥)
+    → spanOf n m ≡ ownTo l (endOf h) true
+own-in-finite l h n m a b d e f g =
+    rw (end-fin f, lt-ltb 0 h (omega arith), d, e) (finite-of (l - 1) (h - 1) (omega arith) (omega arith))

@@ -1,0 +1,39 @@
+// A table of pairs of spans, four numbers for each group: least and most for one member out of it, least and most for
+// that member in it.
+use crate::spans::Pair;
+use crate::spans::Span;
+use reading::tables::GroupNo;
+ghost use Prim.Native.Nat.{_*_, _≤_};
+ghost use lib.ListN.{length};
+ghost use Rattle.measuring.specs.Held.{pairOf, Alike};
+ghost use Rattle.measuring.specs.Pairs.{pairIn, PairPut};
+
+pub fn pair_at(t: &[u32], g: GroupNo) -> Pair
+    requires { ⌜ (1 ≤ g .0) × (4 * (g .0) ≤ length (now t)) ⌝ }
+    ensures { λ r. ⌜ Alike (pairOf r) (pairIn (now (t .entry)) (g .0)) ⌝ }
+{
+    let i = g.0 as usize;
+    let k = 4 * (i - 1);
+    Pair {
+        out: Span {
+            least: t[k],
+            most: t[k + 1],
+        },
+        inn: Span {
+            least: t[k + 2],
+            most: t[k + 3],
+        },
+    }
+}
+
+pub fn put_pair(t: &mut [u32], g: GroupNo, p: Pair)
+    requires { ⌜ (1 ≤ g .0) × (4 * (g .0) ≤ length (now t)) ⌝ }
+    ensures { λ _. ⌜ PairPut (now (t .entry)) (g .0) (pairOf p) (now (t .exit)) ⌝ }
+{
+    let i = g.0 as usize;
+    let k = 4 * (i - 1);
+    t[k] = p.out.least;
+    t[k + 1] = p.out.most;
+    t[k + 2] = p.inn.least;
+    t[k + 3] = p.inn.most;
+}

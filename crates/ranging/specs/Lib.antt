@@ -1,0 +1,5 @@
+pub mod PullLaws
+pub mod Tables
+pub mod Narrowed
+pub mod Sized
+pub mod Said

@@ -1,0 +1,79 @@
+-- `pull` of the spans that two numbers each give, by their numbers.
+use Prim.Native.Nat.{ℕ, _-_, _≤_, _<_}
+use mathlib.Core.Path.{_≡_, refl, sym, ap}
+use mathlib.Core.Bool.{true, false, cond}
+use native.Mathlib.Omega.{arith}
+use borrow.Author.Tests.{le-leb, lt-leb}
+use Rattle.meaning.specs.Sheet.{Top, fin, inf}
+use Rattle.sizes.specs.Span.{Span, none, span, make, meet, Kind, lap, add, eq, less, shorter, reaches, pull}
+use Rattle.sizes.specs.SumLaws.{compare-eq}
+use Rattle.measuring.specs.Held.{endless, topOf, spanOf}
+use Rattle.measuring.specs.HeldLaws.{some-of, top-end, top-fin, make-of}
+
+-- a lower end less an upper end, an upper end less a number, and whether one reaches the other
+pub less-top : (l v : ℕ) → l ≤ endless → less l (topOf v) ≡ l - v
+less-top l v h =
+    compare-eq v endless
+    (λ e. rw (e, top-end) (omega arith))
+    (λ e. rw (top-fin e))
+
+pub shorter-end : (u a : ℕ) → u ≡ endless → topOf endless ≡ shorter (topOf u) a
+shorter-end u a e = rw (e, top-end)
+
+pub shorter-fin : (u a : ℕ) → u ≤ endless → (u ≡ endless → ⊥) → topOf (u - a) ≡ shorter (topOf u) a
+shorter-fin u a h n = rw (top-fin n, top-fin {m = u - a} (λ e. n (omega arith)))
+
+pub reaches-top : (m u : ℕ) → m ≤ endless → m ≤ u → reaches m (topOf u) ≡ true
+reaches-top m u h k =
+    compare-eq u endless
+    (λ e. rw (e, top-end))
+    (λ e. rw (top-fin e) (le-leb m u k))
+
+pub reaches-not : (m u : ℕ) → m ≤ endless → u < m → reaches m (topOf u) ≡ false
+reaches-not m u h k = rw (top-fin {m = u} (λ e. omega arith)) (lt-leb m u k)
+
+-- nothing is pulled out of nothing, nor with nothing beside it
+pub pull-none-left : (q : Kind) (a b : Span) → a ≡ none → pull q a b ≡ none
+unfolding pull
+pull-none-left q a b e = rw e
+
+pub pull-none-right : (q : Kind) (a b : Span) → b ≡ none → pull q a b ≡ none
+unfolding pull
+pull-none-right q none b e = refl
+pull-none-right lap (span l u) b e = rw e
+pull-none-right add (span l u) b e = rw e
+pull-none-right eq (span l u) b e = rw e
+
+pub pull-eq-meet : (a b : Span) → pull eq a b ≡ meet a b
+unfolding pull meet
+pull-eq-meet none b = refl
+pull-eq-meet (span l u) none = refl
+pull-eq-meet (span l u) (span m v) = refl
+
+-- The numbers x that a y from m to v and a total from l to u leave, x being at most u less c.
+unfoldable pub pullBy : ℕ → ℕ → Top → ℕ → Top → Span
+pullBy c l u m v = cond (reaches m u) (make (less l v) (shorter u c)) none
+
+pub by-none : (c l u m : ℕ) (v : Top) → m ≤ endless → u < m → pullBy c l (topOf u) m v ≡ none
+unfolding pullBy
+by-none c l u m v b h = rw (reaches-not m u b h)
+
+pub by-some : (c l u m v w : ℕ) → l ≤ endless → m ≤ endless → m ≤ u → topOf w ≡ shorter (topOf u) c
+    → spanOf (l - v) w ≡ pullBy c l (topOf u) m (topOf v)
+unfolding pullBy
+by-some c l u m v w a b h e = rw (reaches-top m u b h, less-top l v a, ← e) (sym (make-of (l - v) w (omega arith)))
+
+shorter-zero : (u : Top) → shorter u 0 ≡ u
+shorter-zero (fin a) = ap fin (omega arith)
+shorter-zero inf = refl
+
+module _ (l u m v : ℕ) (h : l ≤ u) (k : m ≤ v) where
+  -- the sons may share members
+  pub by-lap : pullBy 0 l (topOf u) m (topOf v) ≡ pull lap (spanOf l u) (spanOf m v)
+  unfolding pullBy pull
+  by-lap = rw (some-of h, some-of k, shorter-zero (topOf u))
+
+  -- the sons share none
+  pub by-add : pullBy m l (topOf u) m (topOf v) ≡ pull add (spanOf l u) (spanOf m v)
+  unfolding pullBy pull
+  by-add = rw (some-of h, some-of k)

@@ -1,0 +1,101 @@
+// The ranges, from the root down, group after group. `ranges` gets two numbers for each group, its least and its greatest
+// count; `rest` has two for each group, what its sons not yet taken must make up.
+use crate::pull::pull;
+use crate::tables::out_at;
+use crate::tables::put_span;
+use crate::tables::span_at;
+use measuring::spans::Span;
+use measuring::spans::kind_of;
+use measuring::spans::meet;
+use reading::tables::GroupNo;
+use reading::tables::mode_of;
+use reading::tables::parent_of;
+ghost use mathlib.Core.Path.{_≡_};
+ghost use mathlib.Core.Bool.{Bool, true, false};
+ghost use mathlib.Core.Logic.{_↔_};
+ghost use Prim.Native.Nat.{ℕ, _-_, _*_, _≤_, _<_};
+ghost use lib.ListN.{length};
+ghost use Rattle.meaning.specs.Sheet.{Sheet, Tree};
+ghost use Rattle.meaning.specs.Fits.{Possible};
+ghost use Rattle.sizes.specs.Span as sizes;
+ghost use Rattle.sizes.specs.Fold.{Measured};
+ghost use Rattle.sizes.specs.Ranged.{Rooted, free, Ranged};
+ghost use Rattle.measuring.specs.Held.{held};
+ghost use Rattle.measuring.specs.Pairs.{pairIn};
+ghost use Rattle.measuring.specs.Tables.{sheetIn};
+ghost use Rattle.ranging.specs.Tables.{spanIn};
+ghost use Rattle.ranging.specs.Narrowed.{Rooting, Measures, Turned, Narrowed};
+
+// whether the root's interval, as measured, has a number: whether some sets fit
+pub fn possible(spans: &[u32]) -> bool
+    requires { ⌜ 4 ≤ length (now spans) ⌝ }
+    ensures { λ r. ⌜ ((s : Sheet) (z : ℕ → Bool → sizes.Span) → Tree s → Rooted s → Measured s free z
+        → pairIn (now (spans .entry)) 1 false ≡ z 1 false → (r ≡ true) ↔ Possible s) ⌝ }
+{
+    let root = out_at(spans, GroupNo(1));
+    root.least <= root.most
+}
+
+// The range of g, a son of p, and what the sons of p after g must make up.
+fn put_turn(ranges: &mut [u32], rest: &mut [u32], g: GroupNo, p: GroupNo, range: Span, left: Span)
+    requires { ⌜ (1 ≤ p .0) × (p .0 < g .0) × (2 * (g .0) ≤ length (now ranges)) × (2 * (g .0) ≤ length (now rest)) ⌝ }
+    ensures { λ _. ⌜ Turned (now (ranges .entry)) (now (rest .entry)) (g .0) (p .0) (held range) (held left)
+        (now (ranges .exit)) (now (rest .exit)) ⌝ }
+{
+    put_span(ranges, g, range);
+    put_span(rest, g, range);
+    put_span(rest, p, left);
+}
+
+// Takes group g off the sons of its parent that are not yet taken.
+fn narrow_son(
+    groups: &[u16],
+    size: u16,
+    spans: &[u32],
+    after: &[u32],
+    ranges: &mut [u32],
+    rest: &mut [u32],
+    g: GroupNo,
+)
+    requires { ⌜ Rooting (now groups) size (now spans) (now after) ⌝ }
+    requires { ⌜ (2 * size ≤ length (now ranges)) × (2 * size ≤ length (now rest)) ⌝ }
+    requires { ⌜ (2 ≤ g .0) × (g .0 ≤ size) ⌝ }
+    ensures { λ _. ⌜ ((z : ℕ → Bool → sizes.Span)
+        → Measures (sheetIn (now (groups .entry)) size) z (now (spans .entry)) (now (after .entry))
+        → Narrowed (sheetIn (now (groups .entry)) size) z (spanIn (now (ranges .entry))) (spanIn (now (rest .entry))) (g .0 - 1)
+        → Narrowed (sheetIn (now (groups .entry)) size) z (spanIn (now (ranges .exit))) (spanIn (now (rest .exit))) (g .0)) ⌝ }
+{
+    let p = GroupNo(parent_of(groups, g));
+    let kind = kind_of(mode_of(groups, p));
+    let own = out_at(spans, g);
+    let others = out_at(after, g);
+    let whole = span_at(rest, p);
+    let range = meet(own, pull(kind, whole, others));
+    let left = meet(others, pull(kind, whole, own));
+    put_turn(ranges, rest, g, p, range, left);
+}
+
+// The ranges of all groups, from the intervals that measuring left in `spans` and `after`.
+pub fn narrow(
+    groups: &[u16],
+    size: u16,
+    spans: &[u32],
+    after: &[u32],
+    ranges: &mut [u32],
+    rest: &mut [u32],
+)
+    requires { ⌜ Rooting (now groups) size (now spans) (now after) ⌝ }
+    requires { ⌜ (2 * size ≤ length (now ranges)) × (2 * size ≤ length (now rest)) ⌝ }
+    ensures { λ _. ⌜ ((z : ℕ → Bool → sizes.Span)
+        → Measures (sheetIn (now (groups .entry)) size) z (now (spans .entry)) (now (after .entry))
+        → Ranged (sheetIn (now (groups .entry)) size) z (spanIn (now (ranges .exit)))) ⌝ }
+{
+    let root = out_at(spans, GroupNo(1));
+    put_span(ranges, GroupNo(1), root);
+    put_span(rest, GroupNo(1), root);
+    let mut i: u16 = 1;
+    while i < size {
+        i += 1;
+        narrow_son(groups, size, spans, after, ranges, rest, GroupNo(i));
+    }
+}

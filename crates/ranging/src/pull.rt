@@ -1,0 +1,67 @@
+// What a son may have where its parent's total and the other sons are known.
+use measuring::spans::ENDLESS;
+use measuring::spans::Kind;
+use measuring::spans::Span;
+use measuring::spans::meet;
+use measuring::spans::nothing;
+ghost use mathlib.Core.Path.{_≡_};
+ghost use Prim.Native.Nat.{_-_, _≤_, min};
+ghost use Rattle.sizes.specs.Span as sizes;
+ghost use Rattle.measuring.specs.Held.{topOf, held, kindHeld};
+ghost use Rattle.ranging.specs.PullLaws.{pullBy};
+
+// a less b, 0 where b is larger
+pub fn minus(a: u32, b: u32) -> u32
+    ensures { λ r. ⌜ r ≡ a - b ⌝ }
+{
+    if a < b { 0 } else { a - b }
+}
+
+pub fn smaller(a: u32, b: u32) -> u32
+    ensures { λ r. ⌜ r ≡ min a b ⌝ }
+{
+    if a < b { a } else { b }
+}
+
+// the upper end u less a
+fn shorter(u: u32, a: u32) -> u32
+    requires { ⌜ a ≤ u ⌝ }
+    ensures { λ r. ⌜ topOf r ≡ sizes.shorter (topOf u) a ⌝ }
+{
+    if u == ENDLESS {
+        return ENDLESS;
+    }
+    u - a
+}
+
+// The x for which some y of b and some total of t are joined, where the sons may share members (cut 0) or share none (cut
+// the least of b).
+fn pull_ends(t: Span, b: Span, cut: u32) -> Span
+    requires { ⌜ cut ≤ b .least ⌝ }
+    ensures { λ r. ⌜ held r ≡ pullBy cut (t .least) (topOf (t .most)) (b .least) (topOf (b .most)) ⌝ }
+{
+    if t.most < b.least {
+        return nothing();
+    }
+    Span {
+        least: minus(t.least, b.most),
+        most: shorter(t.most, cut),
+    }
+}
+
+// The x for which some y of b and some total of t are joined by the kind.
+pub fn pull(kind: Kind, t: Span, b: Span) -> Span
+    ensures { λ r. ⌜ held r ≡ sizes.pull (kindHeld kind) (held t) (held b) ⌝ }
+{
+    if t.most < t.least {
+        return nothing();
+    }
+    if b.most < b.least {
+        return nothing();
+    }
+    match kind {
+        Kind::Lap => pull_ends(t, b, 0),
+        Kind::Add => pull_ends(t, b, b.least),
+        Kind::Eq => meet(t, b),
+    }
+}

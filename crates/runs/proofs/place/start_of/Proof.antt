@@ -1,0 +1,90 @@
+-- `start_of` meets its contract.
+use native.Mathlib.Omega.{arith}
+use Rattle.reading.specs.Tables.{length-groupsIn}
+use Rattle.runs.specs.Placed.{start-room, start-is}
+use borrow.Author.Needs.{needs}
+use Rattle.runs.proofs.place.start_of.Statement.{statement}
+use Rattle.runs.proofs.place.start_of.Tie as tie
+
+cast-i : tie.Need-cast-i
+cast-i c = search needs
+
+cast-j : tie.Need-cast-j
+cast-j c = search needs
+
+mode-of-requires : tie.Need-mode-of-requires
+mode-of-requires c κs = search needs
+
+sub-start-under : tie.Need-sub-start-under
+sub-start-under c = search needs
+
+mul-start-under : tie.Need-mul-start-under
+mul-start-under c = search needs
+
+shared-slice-read-start-under : tie.Need-shared-slice-read-start-under
+shared-slice-read-start-under c = search needs
+
+sub-start-under-2 : tie.Need-sub-start-under-2
+sub-start-under-2 c = search needs
+
+mul-start-under-2 : tie.Need-mul-start-under-2
+mul-start-under-2 c = search needs
+
+shared-slice-read-start-under-2 : tie.Need-shared-slice-read-start-under-2
+shared-slice-read-start-under-2 c = search needs
+
+sub-start-under-3 : tie.Need-sub-start-under-3
+sub-start-under-3 c = search needs
+
+mul-start-under-3 : tie.Need-mul-start-under-3
+mul-start-under-3 c = search needs
+
+shared-slice-read-start-under-3 : tie.Need-shared-slice-read-start-under-3
+shared-slice-read-start-under-3 c = search needs
+
+sub-start-under-4 : tie.Need-sub-start-under-4
+sub-start-under-4 c = search needs
+
+mul-start-under-4 : tie.Need-mul-start-under-4
+mul-start-under-4 c = search needs
+
+shared-slice-read-start-under-4 : tie.Need-shared-slice-read-start-under-4
+shared-slice-read-start-under-4 c = search needs
+
+start-under-requires : tie.Need-start-under-requires
+start-under-requires c κs =
+    let s = c .before .before .before .before .before .before .before .before .before .before .before in
+    let t = s .pre .0 .grown in
+    start-room (s .args .p .0) (s .args .g .0) (t .tree) (t .rooted) (s .pre .0 .balanced) (s .pre .0 .top)
+    (omega (arith, length-groupsIn (s .args .groups .now) (s .args .size))) (s .pre .1 .0 .3) (s .pre .1 .1)
+
+returns : tie.Need-returns
+returns c =
+    let c5 = c .before .before .before .before .before in
+    let s = c5 .before .before .before .before .before .before .before in
+    let t = s .pre .0 .grown in
+    start-is (s .args .groups .now) (s .args .size) (s .args .p .0) (s .args .g .0) _ (t .tree) (t .rooted) (s .pre .0 .balanced)
+    (s .pre .0 .top) (t .small) (s .pre .1 .0 .3) (s .pre .1 .1)
+    (rw (← c5 .mode-of .ensures) (c .start-under .ensures))
+
+pub start-of-spec : {M : Type 1} → statement M
+start-of-spec =
+    tie.close
+    (tie.spec
+    cast-i
+    cast-j
+    mode-of-requires
+    sub-start-under
+    mul-start-under
+    shared-slice-read-start-under
+    sub-start-under-2
+    mul-start-under-2
+    shared-slice-read-start-under-2
+    sub-start-under-3
+    mul-start-under-3
+    shared-slice-read-start-under-3
+    sub-start-under-4
+    mul-start-under-4
+    shared-slice-read-start-under-4
+    start-under-requires
+    returns)
