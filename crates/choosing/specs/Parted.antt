@@ -1,0 +1,199 @@
+-- Numbers and marks for all groups, given out in number order. Each group keeps what its sons not yet reached must make
+-- up: a number and a state of the later sons' intervals. Past the last group the numbers and marks are a choice.
+use Prim.Native.Nat.{ℕ, zero, suc, _+_, _-_, _≤_}
+use mathlib.Core.Path.{_≡_, refl, sym, ap, _∙_, subst}
+use mathlib.Core.Bool.{Bool, false}
+use native.Mathlib.Omega.{arith}
+use native.Mathlib.Nat.{le-refl}
+use Rattle.meaning.specs.Sum.{bit}
+use Rattle.meaning.specs.Sheet.{Sheet, Group, Son, Tree}
+use Rattle.sizes.specs.Balanced.{isSon, Choice}
+use Rattle.sizes.specs.Span.{Span, In, Kind, Makes, join}
+use Rattle.sizes.specs.Fold.{kindOf, later, Measured}
+use Rattle.sizes.specs.SumLaws.{split, compare-eq, son-of, son-is, son-parent}
+use Rattle.sizes.specs.JoinedLaws.{start-in}
+use Rattle.sizes.specs.RuleSteps.{Upto, upto-none, upto-son, upto-skip, rule-upto}
+use Rattle.sizes.specs.LaterLaws.{later-none, later-skip}
+use Rattle.sizes.specs.Exact.{in-span, step-states, grow}
+use Rattle.sizes.specs.Possible.{choice-eq}
+
+-- whatever numbers G the later sons have, equal to F up to i: where they make x, all sons make y
+abbrev pub Leads : Sheet → ℕ → (ℕ → ℕ) → ℕ → ℕ → ℕ → Type 0
+Leads s p F i x y =
+    (G : ℕ → ℕ) → ((g : ℕ) → Son s p g → g ≤ i → G g ≡ F g) → Upto s p G (s .size - i) x → Upto s p G (s .size) y
+
+-- the groups up to i have their numbers f and marks M; R and C are what is left to their later sons
+pub record Parted (s : Sheet) (z : ℕ → Bool → Span) (f : ℕ → ℕ) (M : ℕ → Bool) (R : ℕ → ℕ) (C : ℕ → Bool) (i : ℕ) : Type 0 where
+  pub within : (p : ℕ) → Group s p → p ≤ i → In (f p) (z p (M p))
+  pub left : (p : ℕ) → Group s p → p ≤ i → In (R p) (later s z p (s .size - i) (C p))
+  pub numbers : (p : ℕ) → Group s p → p ≤ i → Leads s p f i (R p) (f p)
+  pub marks : (p : ℕ) → Group s p → p ≤ i → Leads s p (λ g. bit (M g)) i (bit (C p)) (bit (M p))
+
+-- some states of the sons so far (a) and of one more son (z), joined, hold the number r
+abbrev pub Divisible : Kind → (Bool → Span) → (Bool → Span) → ℕ → Bool → Type 0
+Divisible q a z r c = (b d : Bool) × Makes q (bit b) (bit d) (bit c) × In r (join q (a b) (z d))
+
+-- the number r and the state c divided: x and b for the sons so far, y and d for the one more son
+pub record Shared (q : Kind) (a z : Bool → Span) (r : ℕ) (c : Bool) (x : ℕ) (b : Bool) (y : ℕ) (d : Bool) : Type 0 where
+  pub states : Makes q (bit b) (bit d) (bit c)
+  pub numbers : Makes q x y r
+  pub rest : In x (a b)
+  pub son : In y (z d)
+
+-- one more group, g, a son of p: what changes in the four tables
+pub record Dividing (s : Sheet) (z : ℕ → Bool → Span) (f : ℕ → ℕ) (M : ℕ → Bool) (R : ℕ → ℕ) (C : ℕ → Bool)
+    (f' : ℕ → ℕ) (M' : ℕ → Bool) (R' : ℕ → ℕ) (C' : ℕ → Bool) (p g : ℕ) : Type 0 where
+  pub share : Shared (kindOf s p) (later s z p (s .size - g)) (z g) (R p) (C p) (R' p) (C' p) (f' g) (M' g)
+  pub ownRest : R' g ≡ f' g
+  pub ownState : C' g ≡ M' g
+  pub numbers : (h : ℕ) → 1 ≤ h → (h ≡ g → ⊥) → f' h ≡ f h
+  pub marks : (h : ℕ) → 1 ≤ h → (h ≡ g → ⊥) → M' h ≡ M h
+  pub rests : (h : ℕ) → 1 ≤ h → (h ≡ g → ⊥) → (h ≡ p → ⊥) → R' h ≡ R h
+  pub states : (h : ℕ) → 1 ≤ h → (h ≡ g → ⊥) → (h ≡ p → ⊥) → C' h ≡ C h
+
+-- no group up to g is a son of g
+no-son-yet : {s : Sheet} → Tree s → (g h : ℕ) → h ≤ g → g ≤ s .size → isSon s g h ≡ false
+no-son-yet {s} t g h l k =
+    split (isSon s g h)
+    (λ e. absurd (let j = son-of s g h (omega arith) e in omega (arith, t .before h (j .group))))
+    (λ e. e)
+
+-- so the sons after g are all sons of g
+upto-own : {s : Sheet} → Tree s → (g : ℕ) (G : ℕ → ℕ) (x : ℕ) → g ≤ s .size → (d : ℕ) → d ≤ g
+    → Upto s g G (s .size - g) x → Upto s g G (d + (s .size - g)) x
+upto-own {s} t g G x k zero l u = let e : 0 + (s .size - g) ≡ s .size - g = omega arith in rw e u
+upto-own {s} t g G x k (suc d) l u =
+    let e : suc d + (s .size - g) ≡ suc (d + (s .size - g)) = omega arith in
+    rw e
+    (upto-skip s g G (d + (s .size - g)) x (no-son-yet t g (s .size - (d + (s .size - g))) (omega arith) k) .1
+    (upto-own t g G x k d (omega arith) u))
+
+later-own : {s : Sheet} → Tree s → (z : ℕ → Bool → Span) (g : ℕ) (c : Bool) → g ≤ s .size → (d : ℕ) → d ≤ g
+    → later s z g (d + (s .size - g)) c ≡ later s z g (s .size - g) c
+later-own {s} t z g c k zero l = let e : 0 + (s .size - g) ≡ s .size - g = omega arith in rw e
+later-own {s} t z g c k (suc d) l =
+    let e : suc d + (s .size - g) ≡ suc (d + (s .size - g)) = omega arith in
+    rw e
+    (later-skip s z g (d + (s .size - g)) c (no-son-yet t g (s .size - (d + (s .size - g))) (omega arith) k)
+    ∙ later-own t z g c k d (omega arith))
+
+leads-own : {s : Sheet} → Tree s → (g : ℕ) (F : ℕ → ℕ) (x : ℕ) → g ≤ s .size → Leads s g F g x x
+leads-own {s} t g F x k G w u =
+    let e : g + (s .size - g) ≡ s .size = omega arith in
+    subst (λ n. Upto s g G n x) e (upto-own t g G x k g (le-refl g) u)
+
+-- the group before: a step over one more group
+leads-son : {s : Sheet} (p i : ℕ) (F F' : ℕ → ℕ) (x x' y : ℕ) → Son s p (suc i) → ((h : ℕ) → 1 ≤ h → h ≤ i → F' h ≡ F h)
+    → Makes (kindOf s p) x' (F' (suc i)) x → Leads s p F i x y → Leads s p F' (suc i) x' y
+leads-son {s} p i F F' x x' y k same m w G a u =
+    let e : s .size - i ≡ suc (s .size - suc i) = omega (arith, k .group .last) in
+    let o : s .size - (s .size - suc i) ≡ suc i = omega (arith, k .group .last) in
+    w G (λ g j l. a g j (omega arith) ∙ same g (j .group .first) l)
+    (rw e (upto-son s p G (s .size - suc i) x (rw o (son-is k)) .1 (x', u, rw (o, a (suc i) k (le-refl (suc i))) m)))
+
+leads-skip : {s : Sheet} (p i : ℕ) (F F' : ℕ → ℕ) (x y : ℕ) → suc i ≤ s .size → isSon s p (suc i) ≡ false
+    → ((h : ℕ) → 1 ≤ h → h ≤ i → F' h ≡ F h) → Leads s p F i x y → Leads s p F' (suc i) x y
+leads-skip {s} p i F F' x y l n same w G a u =
+    let e : s .size - i ≡ suc (s .size - suc i) = omega arith in
+    let o : s .size - (s .size - suc i) ≡ suc i = omega arith in
+    w G (λ g j k. a g j (omega arith) ∙ same g (j .group .first) k)
+    (rw e (upto-skip s p G (s .size - suc i) x (rw o n) .1 u))
+
+module _ {s : Sheet} {may : ℕ → Bool → Bool} {z : ℕ → Bool → Span} (t : Tree s) (m : Measured s may z) where
+  -- what is left to the sons of a group before any of them
+  own-left : (g : ℕ) → Group s g → (x : ℕ) (c : Bool) → In x (z g c) → In x (later s z g (s .size - g) c)
+  own-left g q x c h =
+      let e : g + (s .size - g) ≡ s .size = omega arith in
+      let all = in-span s may z t m g q c x .0 h .0 in
+      subst (In x) (sym (ap (λ n. later s z g n c) e) ∙ later-own t z g c (q .last) g (le-refl g)) all
+
+  -- the root alone
+  pub parted-root : {f : ℕ → ℕ} {M : ℕ → Bool} {R : ℕ → ℕ} {C : ℕ → Bool} → Group s 1 → In (f 1) (z 1 (M 1))
+      → R 1 ≡ f 1 → C 1 ≡ M 1 → Parted s z f M R C 1
+  parted-root {f} {M} {R} {C} q h e o =
+      let one : (p : ℕ) → Group s p → p ≤ 1 → p ≡ 1 = λ p k l. omega arith in
+      record {
+        within = λ p k l. rw (one p k l) h;
+        left = λ p k l. rw (one p k l, e, o) (own-left 1 q (f 1) (M 1) h);
+        numbers = λ p k l. rw (one p k l, e) (leads-own t 1 f (f 1) (q .last));
+        marks = λ p k l. rw (one p k l, o) (leads-own t 1 (λ g. bit (M g)) (bit (M 1)) (q .last));
+      }
+
+  -- the number left to a group's later sons can be divided between the first of them and the others
+  pub parted-divisible : {f : ℕ → ℕ} {M : ℕ → Bool} {R : ℕ → ℕ} {C : ℕ → Bool} (p i : ℕ) → Son s p (suc i)
+      → Parted s z f M R C i
+      → Divisible (kindOf s p) (later s z p (s .size - suc i)) (z (suc i)) (R p) (C p)
+  parted-divisible {R = R} {C = C} p i k w =
+      let q = son-parent t k in
+      let e : s .size - i ≡ suc (s .size - suc i) = omega (arith, k .group .last) in
+      let o : s .size - (s .size - suc i) ≡ suc i = omega (arith, k .group .last) in
+      let h = w .left p q (omega (arith, t .before (suc i) (k .group), k .under)) in
+      rw o at
+      (step-states s may z t m p (s .size - suc i) (R p) (C p) (rw o (son-is k)) (subst (λ n. In (R p) (later s z p n
+      (C p))) e h))
+
+  -- one more group
+  pub parted-more : {f f' : ℕ → ℕ} {M M' : ℕ → Bool} {R R' : ℕ → ℕ} {C C' : ℕ → Bool} (p i : ℕ) → Son s p (suc i)
+      → Parted s z f M R C i → Dividing s z f M R C f' M' R' C' p (suc i) → Parted s z f' M' R' C' (suc i)
+  parted-more {f} {f'} {M} {M'} {R} {R'} {C} {C'} p i k w v =
+      let q = son-parent t k in
+      let up : p ≤ i = omega (arith, t .before (suc i) (k .group), k .under) in
+      let last = k .group .last in
+      let e : s .size - i ≡ suc (s .size - suc i) = omega arith in
+      let o : s .size - (s .size - suc i) ≡ suc i = omega arith in
+      let same : (h : ℕ) → 1 ≤ h → h ≤ i → f' h ≡ f h = λ h a l. v .numbers h a (λ x. omega arith) in
+      let mark : (h : ℕ) → 1 ≤ h → h ≤ i → M' h ≡ M h = λ h a l. v .marks h a (λ x. omega arith) in
+      let bits : (h : ℕ) → 1 ≤ h → h ≤ i → bit (M' h) ≡ bit (M h) = λ h a l. ap bit (mark h a l) in
+      record {
+        within = λ h j l. compare-eq h (suc i)
+            (λ x. rw x (v .share .son))
+            (λ n. rw (same h (j .first) (omega arith), mark h (j .first) (omega arith)) (w .within h j (omega arith)));
+        left = λ h j l. compare-eq h (suc i)
+            (λ x. rw (x, v .ownRest, v .ownState) (own-left (suc i) (k .group) (f' (suc i)) (M' (suc i)) (v .share .son)))
+            (λ n. compare-eq h p
+            (λ x. rw x (v .share .rest))
+            (λ y. rw (v .rests h (j .first) n y, v .states h (j .first) n y)
+            (subst (In (R h)) (ap (λ n. later s z h n (C h)) e ∙ later-skip s z h (s .size - suc i) (C h) (rw o (other h y)))
+            (w .left h j (omega arith)))));
+        numbers = λ h j l. compare-eq h (suc i)
+            (λ x. rw (x, v .ownRest) (leads-own t (suc i) f' (f' (suc i)) last))
+            (λ n. compare-eq h p
+            (λ x. rw (x, same p (q .first) up)
+            (leads-son p i f f' (R p) (R' p) (f p) k same (v .share .numbers) (w .numbers p q up)))
+            (λ y. rw (v .rests h (j .first) n y, same h (j .first) (omega arith))
+            (leads-skip h i f f' (R h) (f h) last (other h y) same (w .numbers h j (omega arith)))));
+        marks = λ h j l. compare-eq h (suc i)
+            (λ x. rw (x, v .ownState) (leads-own t (suc i) (λ g. bit (M' g)) (bit (M' (suc i))) last))
+            (λ n. compare-eq h p
+            (λ x. rw (x, mark p (q .first) up)
+            (leads-son p i (λ g. bit (M g)) (λ g. bit (M' g)) (bit (C p)) (bit (C' p)) (bit (M p)) k bits (v .share .states)
+            (w .marks p q up)))
+            (λ y. rw (v .states h (j .first) n y, mark h (j .first) (omega arith))
+            (leads-skip h i (λ g. bit (M g)) (λ g. bit (M' g)) (bit (C h)) (bit (M h)) last (other h y) bits (w .marks h j
+            (omega arith)))));
+      }
+    where
+      other : (h : ℕ) → (h ≡ p → ⊥) → isSon s h (suc i) ≡ false
+      other h n = split (isSon s h (suc i))
+          (λ e. absurd (n (sym (son-of s h (suc i) (k .group .last) e .under) ∙ k .under)))
+          (λ e. e)
+
+  -- past the last group
+  pub parted-choice : {f : ℕ → ℕ} {M : ℕ → Bool} {R : ℕ → ℕ} {C : ℕ → Bool} → Parted s z f M R C (s .size) → Choice s may f M
+  parted-choice {f} {M} {R} {C} w =
+      let none : s .size - s .size ≡ 0 = omega arith in
+      let ends : (p : ℕ) → Group s p → In (R p) (later s z p 0 (C p)) = λ p q. subst (λ n. In (R p) (later s z p n
+      (C p))) none (w .left p q (q .last)) in
+      let v = grow s may z t m (suc (s .size)) (omega arith) f M
+      (record {
+        others = λ p q l. rule-upto s p f .1
+            (w .numbers p q (q .last) f (λ g k j. refl)
+            (rw none (upto-none s p f (R p) .1 (start-in _ (C p) (R p) (rw (later-none s z p (C p)) at (ends p q)) .0))));
+        one = λ p q l. rule-upto s p (λ g. bit (M g)) .1
+            (w .marks p q (q .last) (λ g. bit (M g)) (λ g k j. refl)
+            (rw none (upto-none s p (λ g. bit (M g)) (bit (C p)) .1 (start-in _ (C p) (R p) (rw (later-none s z p (C p)) at
+            (ends p q)) .1))));
+        within = λ g q l. w .within g q (q .last);
+      }) in
+      choice-eq (λ g q. v .3 .numbers g q (omega (arith, t .before g q))) (λ g q. v .3 .marks g q (omega
+      (arith, t .before g q))) (v .2)

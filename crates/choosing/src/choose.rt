@@ -1,0 +1,45 @@
+// One question about a sheet: whether there are numbers for all groups and marks for one more member, in the groups that its
+// flags allow. The answer comes with them.
+use crate::divide::divide;
+use crate::parts::at_state;
+use measuring::measure::measure_sheet;
+use measuring::pairs::pair_at;
+use reading::tables::GroupNo;
+ghost use Prim.Native.Nat.{_≤_};
+ghost use lib.ListN.{length};
+ghost use Rattle.measuring.specs.Tables.{sheetIn, mayIn};
+ghost use Rattle.choosing.specs.Chosen.{Chose, Asking};
+
+// `c`: whether the member is in the root.
+pub fn choose(
+    groups: &[u16],
+    size: u16,
+    flags: &[u8],
+    c: bool,
+    sizes: &mut [u32],
+    marks: &mut [u8],
+) -> bool
+    requires { ⌜ Asking (now groups) size (now sizes) (now marks) × (size ≤ length (now flags)) ⌝ }
+    ensures { λ r. ⌜ Chose (sheetIn (now (groups .entry)) size) (mayIn (now (flags .entry))) c (now (sizes .exit)) (now
+        (marks .exit)) r ⌝ }
+{
+    let mut last = [0u16; 128];
+    let mut prev = [0u16; 128];
+    let mut spans = [0u32; 512];
+    let mut after = [0u32; 512];
+    measure_sheet(
+        groups,
+        size,
+        flags,
+        &mut last,
+        &mut prev,
+        &mut spans,
+        &mut after,
+    );
+    let root = at_state(pair_at(&spans, GroupNo(1)), c);
+    if root.most < root.least {
+        return false;
+    }
+    divide(groups, size, &spans, &after, root.least, c, sizes, marks);
+    true
+}

@@ -1,0 +1,78 @@
+-- `many_sets` meets its contract.
+use Prim.Native.Nat.{_+_, _-_, _*_}
+use mathlib.Core.Path.{_∙_}
+use lib.Seq.{set-set, set-getD}
+use Rattle.claims.specs.Counts.{many-sized, grown-lo}
+use borrow.Author.Needs.{needs}
+use Rattle.claims.proofs.count.many_sets.Statement.{statement}
+use Rattle.claims.proofs.count.many_sets.Tie as tie
+
+lo-of-requires : tie.Need-lo-of-requires
+lo-of-requires c κs = search needs
+
+larger-requires : tie.Need-larger-requires
+larger-requires c κs = search needs
+
+set-lo-requires : tie.Need-set-lo-requires
+set-lo-requires c κs = search needs
+
+any-sets-requires : tie.Need-any-sets-requires
+any-sets-requires c κs =
+    let c5 = c .before .before .before .before .before in
+    let c6 = c5 .before in
+    let c8 = c6 .before .before in
+    let s = c8 .before .before .before .before .before in
+    let e = c5 .set-lo .ensures in
+    let x = c6 .larger .ensures in
+    let o = c8 .lo-of .ensures in
+    let w = s .pre .0 in
+    rw (e, x, o)
+    (record {
+      grown = grown-lo (s .args .groups .now) (s .args .size) (s .args .g .0) (s .pre .1) (s .pre .2) (w .grown .long)
+          (s .args .k) (w .grown);
+      sizes-long = w .sizes-long;
+      marks-long = w .marks-long;
+    })
+
+set-lo-requires-2 : tie.Need-set-lo-requires-2
+set-lo-requires-2 c κs = search needs
+
+same-length : tie.Need-same-length
+same-length c = search needs
+
+same-length-2 : tie.Need-same-length-2
+same-length-2 c = search needs
+
+same-length-3 : tie.Need-same-length-3
+same-length-3 c = search needs
+
+returns : tie.Need-returns
+returns c =
+    let c8 = c .before .before .before .before .before .before .before .before in
+    let c14 = c8 .before .before .before .before .before .before in
+    let c15 = c14 .before in
+    let c17 = c15 .before .before in
+    let s = c17 .before .before .before .before .before in
+    let e = c14 .set-lo .ensures in
+    let x = c15 .larger .ensures in
+    let o = c17 .lo-of .ensures in
+    let w = s .pre .0 in
+    let z = rw (e, x, o) at (c8 .any-sets .ensures) in (
+      many-sized (s .args .groups .now) (s .args .size) (s .args .g .0) (s .pre .1) (s .pre .2) (w .grown .long) (s .args .k) z,
+      c .before .before .set-lo2 .ensures ∙ rw (e, o) (set-set (s .args .groups .now) (4 * (s .args .g .0 - 1) + 1) _ _
+          ∙ set-getD (s .args .groups .now) (4 * (s .args .g .0 - 1) + 1) 0),
+    )
+
+pub many-sets-spec : {M : Type 1} → statement M
+many-sets-spec =
+    tie.close
+    (tie.spec
+    lo-of-requires
+    larger-requires
+    set-lo-requires
+    any-sets-requires
+    set-lo-requires-2
+    same-length
+    same-length-2
+    same-length-3
+    returns)

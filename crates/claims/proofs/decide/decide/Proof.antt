@@ -1,0 +1,85 @@
+-- `decide` meets its contract.
+use native.Mathlib.Omega.{arith}
+use Rattle.choosing.specs.Divided.{in-tree, in-rooted, in-balanced, in-told}
+use Rattle.claims.specs.Decided.{denial-shows, decided-denied, decided-holds}
+use borrow.Author.Needs.{needs}
+use Rattle.claims.proofs.decide.decide.Statement.{statement}
+use Rattle.claims.proofs.decide.decide.Tie as tie
+
+judge-requires : tie.Need-judge-requires
+judge-requires c κs = search needs
+
+slice-aggregate-place-runs : tie.Need-slice-aggregate-place-runs
+slice-aggregate-place-runs c = search needs
+
+place-runs-requires : tie.Need-place-runs-requires
+place-runs-requires c κs =
+    let c4 = c .before .before .before .before in
+    let c11 = c4 .before .before .before .before .before .before .before in
+    let s = c11 .before .before .before .before .before .before .before .before .before .before in
+    let w = s .pre .0 in
+    let j = c11 .judge in
+    let d = j .ensures .0 .broken (c4 .if1 .taken) in
+    rw (j .ensures .1)
+    (record {
+      grown = w .grown;
+      sizes-long = omega (arith, w .sizes-long, j .kept .1 .1 .1 .1 .1 .0);
+      firsts-long = s .pre .2;
+      ends-long = omega (arith, w .grown .small);
+      balanced = in-balanced (s .args .groups .now) (s .args .size) (d .choice .others);
+      top = d .top;
+    })
+
+same-length : tie.Need-same-length
+same-length c = search needs
+
+same-length-2 : tie.Need-same-length-2
+same-length-2 c = search needs
+
+same-length-3 : tie.Need-same-length-3
+same-length-3 c = search needs
+
+same-length-4 : tie.Need-same-length-4
+same-length-4 c = search needs
+
+returns : tie.Need-returns
+returns c =
+    let c8 = c .before .before .before .before .before .before .before .before in
+    let c15 = c8 .before .before .before .before .before .before .before in
+    let s = c15 .before .before .before .before .before .before .before .before .before .before in
+    let w = s .pre .0 .grown in
+    let j = c15 .judge in
+    let d = j .ensures .0 .broken (c8 .if1 .taken) in
+    let t = rw (j .ensures .1) at (c .before .before .before .place-runs .ensures) in
+    (decided-denied (denial-shows (in-tree w) (in-rooted w) d (in-told (s .args .groups .now) (s .args .size) t)), j .ensures .1)
+
+same-length-5 : tie.Need-same-length-5
+same-length-5 c = search needs
+
+same-length-6 : tie.Need-same-length-6
+same-length-6 c = search needs
+
+same-length-7 : tie.Need-same-length-7
+same-length-7 c = search needs
+
+returns-2 : tie.Need-returns-2
+returns-2 c =
+    let j = c .before .before .before .before .before .before .before .judge in
+    (decided-holds (j .ensures .0 .kept (c .if1 .left)), j .ensures .1)
+
+pub decide-spec : {M : Type 1} → statement M
+decide-spec =
+    tie.close
+    (tie.spec
+    judge-requires
+    slice-aggregate-place-runs
+    place-runs-requires
+    same-length
+    same-length-2
+    same-length-3
+    same-length-4
+    returns
+    same-length-5
+    same-length-6
+    same-length-7
+    returns-2)

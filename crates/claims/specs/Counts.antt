@@ -1,0 +1,358 @@
+-- Sizes of sets that fit, with a condition on them, and the sheets whose table has one bound narrowed.
+use Prim.Native.Nat.{ℕ, suc, _+_, _-_, _*_, _≤_, _<_, min, max}
+use mathlib.Core.Path.{_≡_, refl, sym, ap, _∙_}
+use mathlib.Core.Bool.{Bool, true, false, cond, true≢false, false≢true}
+use mathlib.Core.List.{List}
+use mathlib.Core.Logic.{_⊎_, inl, inr, ⊎-elim}
+use native.Mathlib.Omega.{arith}
+use native.Mathlib.Nat.{le-refl}
+use borrow.Author.Tests.{eq-eqb, ne-eqb}
+use lib.ListN.{length, getD, set, length-set, replicate}
+use lib.Seq.{getD-set-same, getD-set-other}
+use Rattle.wire.specs.Limits.{noEnd}
+use Rattle.meaning.specs.Sum.{sum, bit}
+use Rattle.meaning.specs.Sheet.{Sheet, Group, Son, Tree, Top, fin}
+use Rattle.meaning.specs.Claim.{counted}
+use Rattle.meaning.specs.OfRecords.{endOf, disjointMode, coverMode, sameMode}
+use Rattle.meaning.specs.Sons.{only}
+use Rattle.meaning.specs.Shown.{above}
+use Rattle.sizes.specs.Balanced.{isSon, sons, Balanced, Choice}
+use Rattle.sizes.specs.Ranged.{Rooted, free}
+use Rattle.sizes.specs.Span.{smaller}
+use Rattle.sizes.specs.SumLaws.{split, compare-eq, sum-eq, son-of, son-is}
+use Rattle.sizes.specs.Runs.{above-runs}
+use Rattle.sizes.specs.Possible.{Sizes, nowhere, sizes-choice, possible}
+use Rattle.sizes.specs.ClaimsCount.{rebound, narrowHi, narrowLo, narrowHi-sizes, narrowLo-sizes, narrowHi-choice, narrowLo-choice}
+use Rattle.sizes.specs.ClaimsMath.{Above, breakable-size, breakable-empty, empty-breaks, shown-breaks-count}
+use Rattle.runs.specs.Told.{numberIn, Grown}
+use Rattle.measuring.specs.Tables.{sheetIn, mayIn, size-in, parent-in, lo-in, hi-in, disjoint-in, cover-in, same-in}
+use Rattle.choosing.specs.Divided.{markedIn}
+use Rattle.choosing.specs.Chosen.{Found, Chose}
+use Rattle.claims.specs.Flags.{free-flag, choice-may}
+use Rattle.claims.specs.Judged.{Judged, Denial, judged-broken, judged-kept}
+
+-- sizes without a condition, with at most and at least k members in group g
+abbrev pub Any : (ℕ → ℕ) → Type 0
+Any f = Unit {0}
+
+abbrev pub Few : ℕ → ℕ → (ℕ → ℕ) → Type 0
+Few g k f = f g ≤ k
+
+abbrev pub Many : ℕ → ℕ → (ℕ → ℕ) → Type 0
+Many g k f = k ≤ f g
+
+-- with fewer than lo members in g, and with more than the upper end
+abbrev pub Under : ℕ → ℕ → (ℕ → ℕ) → Type 0
+Under g lo f = f g < lo
+
+abbrev pub Over : ℕ → Top → (ℕ → ℕ) → Type 0
+Over g hi f = Above (f g) hi
+
+-- the counts that numbers and marks in tables give
+abbrev pub counts : List ℕ → List ℕ → ℕ → ℕ
+counts sizes marks g = numberIn sizes g + bit (markedIn marks g)
+
+-- the tables hold sizes that meet the condition, or there are none
+pub record Sized (s : Sheet) (P : (ℕ → ℕ) → Type 0) (sizes marks : List ℕ) (r : Bool) : Type 0 where
+  pub found : r ≡ true → Found s free false sizes marks × P (counts sizes marks)
+  pub lacking : r ≡ false → (f : ℕ → ℕ) → Sizes s f → P f → ⊥
+
+pub chose-sized : {s : Sheet} {sizes marks : List ℕ} {x : Bool} → s .size ≤ 128 → Chose s (mayIn
+    (replicate 128 3)) false sizes marks x
+    → Sized s Any sizes marks x
+chose-sized l w = record {
+  found = λ e. let v = w .found e in (
+    record {
+      choice = choice-may (λ g q c. free-flag g (q .first) (omega (arith, q .last)) c) (v .choice);
+      top = v .top;
+      state = v .state;
+      bits = v .bits;
+    },
+    tt,
+  );
+  lacking = λ e f z u.
+      w .lacking e f nowhere
+      (choice-may (λ g q c. sym (free-flag g (q .first) (omega (arith, q .last)) c)) (sizes-choice free (λ g q. refl) z)) refl;
+}
+
+-- two sheets that say the same of every group
+pub record Same (s r : Sheet) : Type 0 where
+  pub size : s .size ≡ r .size
+  pub parent : (g : ℕ) → Group s g → s .parent g ≡ r .parent g
+  pub lo : (g : ℕ) → Group s g → s .lo g ≡ r .lo g
+  pub hi : (g : ℕ) → Group s g → s .hi g ≡ r .hi g
+  pub disjoint : (g : ℕ) → Group s g → s .disjoint g ≡ r .disjoint g
+  pub cover : (g : ℕ) → Group s g → s .cover g ≡ r .cover g
+  pub same : (g : ℕ) → Group s g → s .same g ≡ r .same g
+
+pub same-turned : {s r : Sheet} → Same s r → Same r s
+same-turned {s} {r} w = record {
+  size = sym (w .size);
+  parent = λ g q. sym (w .parent g (back g q));
+  lo = λ g q. sym (w .lo g (back g q));
+  hi = λ g q. sym (w .hi g (back g q));
+  disjoint = λ g q. sym (w .disjoint g (back g q));
+  cover = λ g q. sym (w .cover g (back g q));
+  same = λ g q. sym (w .same g (back g q));
+}
+  where
+    back : (g : ℕ) → Group r g → Group s g
+    back g q = record { first = q .first; last = omega (arith, q .last, w .size) }
+
+module _ {s r : Sheet} (w : Same s r) where
+  group-back : {g : ℕ} → Group r g → Group s g
+  group-back q = record { first = q .first; last = omega (arith, q .last, w .size) }
+
+  son-back : {p g : ℕ} → Son r p g → Son s p g
+  son-back {p} {g} k =
+      let q = group-back (k .group) in
+      record { above = k .above; group = q; under = w .parent g q ∙ k .under }
+
+  is-son-same : (p g : ℕ) → g ≤ s .size → isSon s p g ≡ isSon r p g
+  is-son-same p g l =
+      split (isSon r p g)
+      (λ e. rw e (son-is (son-back (son-of r p g (omega (arith, w .size)) e))))
+      (λ e. split (isSon s p g)
+      (λ o. let k = son-of s p g l o in
+      let i : Son r p g =
+      record {
+        above = k .above;
+        group = record { first = k .group .first; last = omega (arith, w .size) };
+        under = sym
+            (w .parent g (k .group)) ∙ k .under;
+      } in
+      absurd (true≢false (sym (son-is i) ∙ e)))
+      (λ o. rw (e, o)))
+
+  sons-same : (p : ℕ) (f : ℕ → ℕ) → sons s p f ≡ sons r p f
+  unfolding sons
+  sons-same p f =
+      sum-eq (only s p f) (only r p f) (suc (s .size)) (λ g l. ap (λ b. cond b (f g) 0) (is-son-same p g (omega arith)))
+      ∙ ap (λ n. sum (only r p f) (suc n)) (w .size)
+
+  pub balanced-same : {f : ℕ → ℕ} → Balanced s f → Balanced r f
+  balanced-same {f} b = record {
+    at = λ p q. let i = group-back q in let a = b .at p i in record {
+      inside = λ g k. a .inside g (son-back k);
+      equal = λ g k e. a .equal g (son-back k) (w .same p i ∙ e);
+      apart = λ e. rw (sons-same p f) at (a .apart (w .disjoint p i ∙ e));
+      covered = λ e. rw (sons-same p f) at (a .covered (w .cover p i ∙ e));
+    };
+  }
+
+  pub sizes-same : {f : ℕ → ℕ} → Sizes s f → Sizes r f
+  sizes-same z = record {
+    balanced = balanced-same (z .balanced);
+    least = λ g q. let i = group-back q in rw (w .lo g i) at (z .least g i);
+    most = λ g q. let i = group-back q in rw (w .hi g i) at (z .most g i);
+  }
+
+  pub choice-same : {may : ℕ → Bool → Bool} {f : ℕ → ℕ} {M : ℕ → Bool} → Choice s may f M → Choice r may f M
+  choice-same c = record {
+    others = balanced-same (c .others);
+    one = balanced-same (c .one);
+    least = λ g q. let i = group-back q in rw (w .lo g i) at (c .least g i);
+    most = λ g q. let i = group-back q in rw (w .hi g i) at (c .most g i);
+    allowed = λ g q. c .allowed g (group-back q);
+  }
+
+  pub tree-same : Tree s → Tree r
+  tree-same t = record { before = λ g q. let i = group-back q in rw (w .parent g i) at (t .before g i) }
+
+  pub rooted-same : Rooted s → Rooted r
+  rooted-same t = record {
+    one = record { first = le-refl 1; last = omega (arith, t .one .last, w .size) };
+    top = sym (w .parent 1 (t .one)) ∙ t .top;
+    rest = λ g q l. let i = group-back q in rw (w .parent g i) at (t .rest g i l);
+  }
+
+-- a condition that narrows a sheet: the sizes of the narrowed one are those of the sheet that meet it
+pub sized-narrow : {s u v : Sheet} {P : (ℕ → ℕ) → Type 0} {sizes marks : List ℕ} {x : Bool} → Same u v → s .size ≡ u .size
+    → ((f : ℕ → ℕ) (M : ℕ → Bool) → Choice v free f M → Choice s free f M × P (λ g. f g + bit (M g)))
+    → ((f : ℕ → ℕ) → Sizes s f → P f → Sizes v f) → Sized u Any sizes marks x → Sized s P sizes marks x
+sized-narrow w n i o z = record {
+  found = λ e. let f = z .found e .0 in let c = i _ _ (choice-same w (f .choice)) in (
+    record {
+      choice = c .0;
+      top = f .top;
+      state = f .state;
+      bits = λ g q. f .bits g (record { first = q .first; last = omega (arith, q .last, n) });
+    },
+    c .1,
+  );
+  lacking = λ e f y p. z .lacking e f (sizes-same (same-turned w) (o f y p)) tt;
+}
+
+-- bounds bear neither on the tree nor on its root
+tree-bound : (s : Sheet) (l : ℕ → ℕ) (h : ℕ → Top) → Tree s → Tree (rebound s l h)
+tree-bound s l h t = record { before = λ g q. t .before g (record { first = q .first; last = q .last }) }
+
+rooted-bound : (s : Sheet) (l : ℕ → ℕ) (h : ℕ → Top) → Rooted s → Rooted (rebound s l h)
+rooted-bound s l h t = record {
+  one = record { first = t .one .first; last = t .one .last };
+  top = t .top;
+  rest = λ g q i. t .rest g (record { first = q .first; last = q .last }) i;
+}
+
+-- the smaller of an upper end and a number that is one
+end-smaller : (h k : ℕ) → k < noEnd → endOf (min h k) ≡ smaller (endOf h) (fin k)
+unfolding endOf
+end-smaller h k l =
+    let n : min h k ≡ noEnd → ⊥ = λ e. omega arith in
+    compare-eq h noEnd
+    (λ e. let o : min h k ≡ k = omega arith in rw (ne-eqb (min h k) noEnd n, e) (ap fin (rw e at o)))
+    (λ o. rw (ne-eqb (min h k) noEnd n, ne-eqb h noEnd o))
+
+module _ (t : List ℕ) (n g : ℕ) (a : 1 ≤ g) (b : g ≤ n) (l : 4 * n ≤ length t) where
+  group-in : (u v : List ℕ) {h : ℕ} → Group (sheetIn u n) h → Group (sheetIn v n) h
+  group-in u v q = record { first = q .first; last = omega (arith, q .last, size-in u n, size-in v n) }
+
+  -- a bound of g stored (lo is field 1 of its record, hi field 2): the sheet with other bounds
+  stored : (j x : ℕ) (L : ℕ → ℕ) (H : ℕ → Top) → 1 ≤ j → j ≤ 2
+      → ((h : ℕ) → Group (sheetIn t n) h → getD (set t (4 * (g - 1) + j) x) (4 * (h - 1) + 1) 0 ≡ L h)
+      → ((h : ℕ) → Group (sheetIn t n) h → endOf (getD (set t (4 * (g - 1) + j) x) (4 * (h - 1) + 2) 0) ≡ H h)
+      → Same (sheetIn (set t (4 * (g - 1) + j) x) n) (rebound (sheetIn t n) L H)
+  stored j x L H low high lo hi =
+      let u : List ℕ = set t (4 * (g - 1) + j) x in
+      let back : (h : ℕ) → Group (sheetIn u n) h → Group (sheetIn t n) h = λ h q. group-in u t q in
+      let mode : (h : ℕ) → getD u (4 * (h - 1) + 3) 0 ≡ getD t (4 * (h - 1) + 3) 0 =
+      λ h. getD-set-other t (4 * (g - 1) + j) (4 * (h - 1) + 3) x 0 (λ e. omega arith) in
+      record {
+        size = size-in u n ∙ sym (size-in t n);
+        parent = λ h q. parent-in u n h q
+            ∙ getD-set-other t (4 * (g - 1) + j) (4 * (h - 1)) x 0 (λ e. omega arith)
+            ∙ sym (parent-in t n h (back h q));
+        lo = λ h q. lo-in u n h q ∙ lo h (back h q);
+        hi = λ h q. hi-in u n h q ∙ hi h (back h q);
+        disjoint = λ h q. disjoint-in u n h q ∙ ap disjointMode (mode h) ∙ sym (disjoint-in t n h (back h q));
+        cover = λ h q. cover-in u n h q ∙ ap coverMode (mode h) ∙ sym (cover-in t n h (back h q));
+        same = λ h q. same-in u n h q ∙ ap sameMode (mode h) ∙ sym (same-in t n h (back h q));
+      }
+
+  here : Group (sheetIn t n) g
+  here = record { first = a; last = omega (arith, size-in t n) }
+
+  pub same-hi : (k : ℕ) → k < noEnd
+      → Same (sheetIn (set t (4 * (g - 1) + 2) (min (getD t (4 * (g - 1) + 2) 0) k)) n) (narrowHi (sheetIn t n) g k)
+  same-hi k o =
+      let i : ℕ = 4 * (g - 1) + 2 in
+      let x : ℕ = min (getD t (4 * (g - 1) + 2) 0) k in
+      stored 2 x _ _ (omega arith) (omega arith)
+      (λ h q. getD-set-other t i (4 * (h - 1) + 1) x 0 (λ e. omega arith) ∙ sym (lo-in t n h q))
+      (λ h q. compare-eq h g
+      (λ e. rw (e, eq-eqb g g refl)
+      (ap endOf (getD-set-same t i x 0 (omega arith)) ∙ end-smaller (getD t i 0) k o
+      ∙ ap (λ z. smaller z (fin k)) (sym (hi-in t n g here))))
+      (λ m. rw (ne-eqb h g m)
+      (ap endOf (getD-set-other t i (4 * (h - 1) + 2) x 0 (λ e. m (omega (arith, q .first)))) ∙ sym (hi-in t n h q))))
+
+  pub same-lo : (k : ℕ)
+      → Same (sheetIn (set t (4 * (g - 1) + 1) (max (getD t (4 * (g - 1) + 1) 0) k)) n) (narrowLo (sheetIn t n) g k)
+  same-lo k =
+      let i : ℕ = 4 * (g - 1) + 1 in
+      let x : ℕ = max (getD t (4 * (g - 1) + 1) 0) k in
+      stored 1 x _ _ (omega arith) (omega arith)
+      (λ h q. compare-eq h g
+      (λ e. rw (e, eq-eqb g g refl) (getD-set-same t i x 0 (omega arith) ∙ ap (λ z. max z k) (sym (lo-in t n g here))))
+      (λ m. rw (ne-eqb h g m)
+      (getD-set-other t i (4 * (h - 1) + 1) x 0 (λ e. m (omega (arith, q .first))) ∙ sym (lo-in t n h q))))
+      (λ h q. ap endOf (getD-set-other t i (4 * (h - 1) + 2) x 0 (λ e. omega arith)) ∙ sym (hi-in t n h q))
+
+  -- what the narrowed table says of the sheet
+  pub few-sized : (k : ℕ) → k < noEnd → {sizes marks : List ℕ} {x : Bool}
+      → Sized (sheetIn (set t (4 * (g - 1) + 2) (min (getD t (4 * (g - 1) + 2) 0) k)) n) Any sizes marks x
+      → Sized (sheetIn t n) (Few g k) sizes marks x
+  few-sized k o z =
+      sized-narrow (same-hi k o) (size-in t n ∙ sym (size-in _ n)) (λ f M c. narrowHi-choice g k here .0 c)
+      (λ f y p. narrowHi-sizes g k here .1 (y, p)) z
+
+  pub many-sized : (k : ℕ) → {sizes marks : List ℕ} {x : Bool}
+      → Sized (sheetIn (set t (4 * (g - 1) + 1) (max (getD t (4 * (g - 1) + 1) 0) k)) n) Any sizes marks x
+      → Sized (sheetIn t n) (Many g k) sizes marks x
+  many-sized k z =
+      sized-narrow (same-lo k) (size-in t n ∙ sym (size-in _ n)) (λ f M c. narrowLo-choice g k here .0 c)
+      (λ f y p. narrowLo-sizes g k here .1 (y, p)) z
+
+  -- the narrowed table is that of a tree
+  grown-bound : (u : List ℕ) (L : ℕ → ℕ) (H : ℕ → Top) → length u ≡ length t → Same (sheetIn u n) (rebound (sheetIn t n) L H)
+      → Grown t n → Grown u n
+  unfolding sheetIn
+  grown-bound u L H e w v = record {
+    small = v .small;
+    long = omega (arith, v .long);
+    tree = tree-same (same-turned w) (tree-bound (sheetIn t n) L H (v .tree));
+    rooted = rooted-same (same-turned w) (rooted-bound (sheetIn t n) L H (v .rooted));
+  }
+
+  pub grown-hi : (k : ℕ) → k < noEnd → Grown t n → Grown (set t (4 * (g - 1) + 2) (min (getD t (4 * (g - 1) + 2) 0) k)) n
+  grown-hi k o w = grown-bound _ _ _ (length-set t _ _) (same-hi k o) w
+
+  pub grown-lo : (k : ℕ) → Grown t n → Grown (set t (4 * (g - 1) + 1) (max (getD t (4 * (g - 1) + 1) 0) k)) n
+  grown-lo k w = grown-bound _ _ _ (length-set t _ _) (same-lo k) w
+
+-- fewer than lo: at most lo - 1, where lo is not 0
+pub sized-under : {s : Sheet} {sizes marks : List ℕ} {x : Bool} (g lo k : ℕ) → k + 1 ≡ lo → Sized s (Few g k) sizes marks x
+    → Sized s (Under g lo) sizes marks x
+sized-under g lo k e z = record {
+  found = λ o. let f = z .found o in (f .0, omega (arith, f .1));
+  lacking = λ o f y p. z .lacking o f y (omega arith);
+}
+
+pub sized-never : {s : Sheet} {P : (ℕ → ℕ) → Type 0} {sizes marks : List ℕ} → ((f : ℕ → ℕ) → P f → ⊥)
+    → Sized s P sizes marks false
+sized-never h = record { found = λ e. absurd (false≢true e); lacking = λ e f y p. h f p }
+
+-- more than hi: at least hi + 1, where hi is an upper end
+pub sized-over : {s : Sheet} {sizes marks : List ℕ} {x : Bool} (g h : ℕ) → (h ≡ noEnd → ⊥)
+    → Sized s (Many g (h + 1)) sizes marks x
+    → Sized s (Over g (endOf h)) sizes marks x
+unfolding endOf
+sized-over g h n z = record {
+  found = λ o. let f = z .found o in (f .0, rw (ne-eqb h noEnd n) (omega (arith, f .1)));
+  lacking = λ o f y p. z .lacking o f y (let q = rw (ne-eqb h noEnd n) at p in omega arith);
+}
+
+pub over-never : {s : Sheet} {sizes marks : List ℕ} (g h : ℕ) → h ≡ noEnd → Sized s (Over g (endOf h)) sizes marks false
+unfolding endOf
+over-never g h e = sized-never (λ f p. rw e at p)
+
+-- a count claim on the empty set
+pub empty-judged : {s : Sheet} {sizes marks : List ℕ} {x : Bool} (lo : ℕ) (hi : Top) → Tree s → 1 ≤ lo → Sized s Any sizes marks x
+    → Judged s (counted 0 lo hi) sizes marks x
+empty-judged lo hi t l z = record {
+  broken = λ e. let f = z .found e .0 in record {
+    may = free;
+    choice = f .choice;
+    top = f .top;
+    bits = f .bits;
+    breaks = λ st h. empty-breaks _ lo hi l;
+  };
+  kept = λ e w. let v = possible t .0 (breakable-empty lo hi .0 w .0) in z .lacking e (v .0) (v .1) tt;
+}
+
+pub empty-kept : {s : Sheet} {sizes marks : List ℕ} (lo : ℕ) (hi : Top) → lo ≡ 0 → Judged s (counted 0 lo hi) sizes marks false
+empty-kept lo hi e = judged-kept (λ w. let l = breakable-empty lo hi .0 w .1 in omega arith)
+
+-- a count claim on a group: too few, then too many
+count-denied : {s : Sheet} {sizes marks : List ℕ} (g lo : ℕ) (hi : Top) → Tree s → Group s g → Found s free false sizes marks
+    → Under g lo (counts sizes marks) ⊎ Over g hi (counts sizes marks) → Denial s (counted g lo hi) sizes marks
+count-denied {s} {sizes} g lo hi t q f w = record {
+  may = free;
+  choice = f .choice;
+  top = f .top;
+  bits = f .bits;
+  breaks = λ st h. shown-breaks-count t (f .choice) h _ g lo hi q (above-runs (s .size) st (numberIn sizes) g (q .last)) w;
+}
+
+pub under-judged : {s : Sheet} {sizes marks : List ℕ} (g lo : ℕ) (hi : Top) → Tree s → Group s g
+    → Sized s (Under g lo) sizes marks true → Judged s (counted g lo hi) sizes marks true
+under-judged g lo hi t q z = let f = z .found refl in judged-broken (count-denied g lo hi t q (f .0) (inl (f .1)))
+
+pub over-judged : {s : Sheet} {sizes marks sizes' marks' : List ℕ} {x : Bool} (g lo : ℕ) (hi : Top) → Tree s → Group s g
+    → Sized s (Under g lo) sizes' marks' false → Sized s (Over g hi) sizes marks x → Judged s (counted g lo hi) sizes marks x
+over-judged g lo hi t q y z = record {
+  broken = λ e. let f = z .found e in count-denied g lo hi t q (f .0) (inr (f .1));
+  kept = λ e w.
+      let v = breakable-size t g lo hi q .0 w in
+      ⊎-elim (λ u. y .lacking refl (v .0) (v .1) u) (λ u. z .lacking e (v .0) (v .1) u) (v .2);
+}

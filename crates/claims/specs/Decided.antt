@@ -1,0 +1,60 @@
+-- The verdict on a claim: document 01, "Replies" (kinds 18 and 19). Which sets a denial shows is open but for this: they fit,
+-- and they break the claim.
+use Prim.Native.Nat.{ℕ, _≤_}
+use mathlib.Core.Path.{_≡_, ap}
+use mathlib.Core.List.{List}
+use native.Mathlib.Omega.{arith}
+use Rattle.meaning.specs.Sheet.{Sheet, Group, Tree}
+use Rattle.meaning.specs.Sets.{Sets}
+use Rattle.meaning.specs.Fits.{Fits}
+use Rattle.meaning.specs.Claim.{Claim, Breaks, Breakable}
+use Rattle.meaning.specs.Shown.{shown, above}
+use Rattle.sizes.specs.Ranged.{Rooted}
+use Rattle.sizes.specs.Runs.{runs-first, shown-fits-above}
+use Rattle.runs.specs.Told.{numberIn, Told, told-runs}
+use Rattle.choosing.specs.Divided.{markedIn}
+use Rattle.claims.specs.Judged.{Denial}
+use Rattle.claims.specs.declared.decide.Verdict.{Verdict}
+use Rattle.claims.specs.declared.decide.Verdict.the-variants.{Holds, Denied}
+
+-- "verdict 1 holds or 0 denied"
+abbrev pub verdictNumber : Verdict → ℕ
+verdictNumber Holds = 1
+verdictNumber Denied = 0
+
+-- the sets that the tables show: for each group a run (first, count), and member 0 where the mark is 1
+abbrev pub setsIn : Sheet → List ℕ → List ℕ → List ℕ → Sets ℕ
+setsIn s firsts sizes marks =
+    shown (numberIn firsts) (numberIn sizes) (markedIn marks) (above (s .size) (numberIn firsts) (numberIn sizes))
+
+-- the tables show sets that fit and break the claim
+pub record Shows (s : Sheet) (k : Claim) (firsts sizes marks : List ℕ) : Type 0 where
+  pub fits : Fits s (setsIn s firsts sizes marks)
+  pub breaks : Breaks k (setsIn s firsts sizes marks)
+  pub first : (g : ℕ) → Group s g → 1 ≤ numberIn firsts g
+  pub mark : (g : ℕ) → Group s g → numberIn marks g ≤ 1
+
+pub record Decided (s : Sheet) (k : Claim) (firsts sizes marks : List ℕ) (r : Verdict) : Type 0 where
+  -- no sets that fit break the claim
+  pub holds : r ≡ Holds → Breakable s k → ⊥
+  pub denied : r ≡ Denied → Shows s k firsts sizes marks
+
+-- a denial with starts for its numbers
+pub denial-shows : {s : Sheet} {k : Claim} {firsts sizes marks : List ℕ} → Tree s → Rooted s → Denial s k sizes marks
+    → Told s (numberIn sizes) (numberIn firsts) → Shows s k firsts sizes marks
+denial-shows {firsts = firsts} t r d w =
+    let h = told-runs t r (d .choice .others) w in
+    record {
+      fits = shown-fits-above t (d .choice) h;
+      breaks = d .breaks (numberIn firsts) h;
+      first = runs-first t (d .choice .others) h;
+      mark = d .bits;
+    }
+
+pub decided-denied : {s : Sheet} {k : Claim} {firsts sizes marks : List ℕ} → Shows s k firsts sizes marks
+    → Decided s k firsts sizes marks Denied
+decided-denied w = record { holds = λ e. absurd (let n = ap verdictNumber e in omega arith); denied = λ e. w }
+
+pub decided-holds : {s : Sheet} {k : Claim} {firsts sizes marks : List ℕ} → (Breakable s k → ⊥)
+    → Decided s k firsts sizes marks Holds
+decided-holds h = record { holds = λ e. h; denied = λ e. absurd (let n = ap verdictNumber e in omega arith) }

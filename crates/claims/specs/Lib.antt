@@ -1,0 +1,5 @@
+pub mod Flags
+pub mod Named
+pub mod Judged
+pub mod Counts
+pub mod Decided

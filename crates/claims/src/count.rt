@@ -1,0 +1,142 @@
+// Claims of kind 4 (count): the claim is broken where the sheet with one bound narrowed is possible.
+use choosing::choose::choose;
+use reading::tables::GroupNo;
+use reading::tables::hi_of;
+use reading::tables::lo_of;
+use reading::tables::set_hi;
+use reading::tables::set_lo;
+ghost use mathlib.Core.Path.{_≡_};
+ghost use Prim.Native.Nat.{_≤_, _<_, min, max};
+ghost use Rattle.meaning.specs.Claim.{counted};
+ghost use Rattle.meaning.specs.OfRecords.{endOf};
+ghost use Rattle.measuring.specs.Tables.{sheetIn};
+ghost use Rattle.choosing.specs.Chosen.{Asking};
+ghost use Rattle.claims.specs.Counts.{Sized, Any, Few, Many, Under, Over};
+ghost use Rattle.claims.specs.Judged.{Judged};
+
+fn smaller(a: u16, b: u16) -> u16
+    ensures { λ r. ⌜ r ≡ min a b ⌝ }
+{
+    if a < b { a } else { b }
+}
+
+fn larger(a: u16, b: u16) -> u16
+    ensures { λ r. ⌜ r ≡ max a b ⌝ }
+{
+    if a < b { b } else { a }
+}
+
+// whether some sets fit
+fn any_sets(groups: &[u16], size: u16, sizes: &mut [u32], marks: &mut [u8]) -> bool
+    requires { ⌜ Asking (now groups) size (now sizes) (now marks) ⌝ }
+    ensures { λ r. ⌜ Sized (sheetIn (now (groups .entry)) size) Any (now (sizes .exit)) (now (marks .exit)) r ⌝ }
+{
+    let flags = [3u8; 128];
+    choose(groups, size, &flags, false, sizes, marks)
+}
+
+// whether some sets that fit have at most k members in a group; k does not stand for no end
+fn few_sets(
+    groups: &mut [u16],
+    size: u16,
+    g: GroupNo,
+    k: u16,
+    sizes: &mut [u32],
+    marks: &mut [u8],
+) -> bool
+    requires { ⌜ Asking (now groups) size (now sizes) (now marks) × (1 ≤ g .0) × (g .0 ≤ size) × (k < 65535) ⌝ }
+    ensures { λ r. ⌜ Sized (sheetIn (now (groups .entry)) size) (Few (g .0) k) (now (sizes .exit)) (now (marks .exit)) r ⌝ }
+    ensures { λ _. ⌜ now (groups .exit) ≡ now (groups .entry) ⌝ }
+{
+    let old = hi_of(groups, g);
+    set_hi(groups, g, smaller(old, k));
+    let r = any_sets(groups, size, sizes, marks);
+    set_hi(groups, g, old);
+    r
+}
+
+// whether some sets that fit have at least k members in a group
+fn many_sets(
+    groups: &mut [u16],
+    size: u16,
+    g: GroupNo,
+    k: u16,
+    sizes: &mut [u32],
+    marks: &mut [u8],
+) -> bool
+    requires { ⌜ Asking (now groups) size (now sizes) (now marks) × (1 ≤ g .0) × (g .0 ≤ size) ⌝ }
+    ensures { λ r. ⌜ Sized (sheetIn (now (groups .entry)) size) (Many (g .0) k) (now (sizes .exit)) (now (marks .exit)) r ⌝ }
+    ensures { λ _. ⌜ now (groups .exit) ≡ now (groups .entry) ⌝ }
+{
+    let old = lo_of(groups, g);
+    set_lo(groups, g, larger(old, k));
+    let r = any_sets(groups, size, sizes, marks);
+    set_lo(groups, g, old);
+    r
+}
+
+// whether some sets that fit have fewer than lo members in a group
+fn under(
+    groups: &mut [u16],
+    size: u16,
+    g: GroupNo,
+    lo: u16,
+    sizes: &mut [u32],
+    marks: &mut [u8],
+) -> bool
+    requires { ⌜ Asking (now groups) size (now sizes) (now marks) × (1 ≤ g .0) × (g .0 ≤ size) ⌝ }
+    ensures { λ r. ⌜ Sized (sheetIn (now (groups .entry)) size) (Under (g .0) lo) (now (sizes .exit)) (now (marks .exit)) r ⌝ }
+    ensures { λ _. ⌜ now (groups .exit) ≡ now (groups .entry) ⌝ }
+{
+    if lo == 0 {
+        return false;
+    }
+    few_sets(groups, size, g, lo - 1, sizes, marks)
+}
+
+// whether some sets that fit have more members in a group than hi, 65535 for no upper end
+fn over(
+    groups: &mut [u16],
+    size: u16,
+    g: GroupNo,
+    hi: u16,
+    sizes: &mut [u32],
+    marks: &mut [u8],
+) -> bool
+    requires { ⌜ Asking (now groups) size (now sizes) (now marks) × (1 ≤ g .0) × (g .0 ≤ size) ⌝ }
+    ensures { λ r. ⌜ Sized (sheetIn (now (groups .entry)) size) (Over (g .0) (endOf hi)) (now (sizes .exit)) (now
+        (marks .exit)) r ⌝ }
+    ensures { λ _. ⌜ now (groups .exit) ≡ now (groups .entry) ⌝ }
+{
+    if hi == 65535 {
+        return false;
+    }
+    many_sets(groups, size, g, hi + 1, sizes, marks)
+}
+
+// Whether some sets that fit break the claim that group g, 0 for the empty set, has from lo to hi members.
+pub fn judge_count(
+    groups: &mut [u16],
+    size: u16,
+    g: u16,
+    lo: u16,
+    hi: u16,
+    sizes: &mut [u32],
+    marks: &mut [u8],
+) -> bool
+    requires { ⌜ Asking (now groups) size (now sizes) (now marks) × (g ≤ size) ⌝ }
+    ensures { λ r. ⌜ Judged (sheetIn (now (groups .entry)) size) (counted g lo (endOf hi)) (now (sizes .exit)) (now
+        (marks .exit)) r ⌝ }
+    ensures { λ _. ⌜ now (groups .exit) ≡ now (groups .entry) ⌝ }
+{
+    if g == 0 {
+        if lo == 0 {
+            return false;
+        }
+        return any_sets(groups, size, sizes, marks);
+    }
+    if under(groups, size, GroupNo(g), lo, sizes, marks) {
+        return true;
+    }
+    over(groups, size, GroupNo(g), hi, sizes, marks)
+}
