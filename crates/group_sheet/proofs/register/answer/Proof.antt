@@ -1,0 +1,35 @@
+use mathlib.Core.Path.{refl}
+use native.Mathlib.Omega.{arith}
+use Rattle.replies.specs.Wrote.{rest-kept}
+use borrow.Author.Needs.{needs}
+use Rattle.group_sheet.proofs.register.answer.Statement.{statement}
+use Rattle.group_sheet.proofs.register.answer.Tie as tie
+
+pack-requires : tie.Need-pack-requires
+pack-requires c κs = search needs
+
+returns : tie.Need-returns
+returns c =
+    record { short = λ h. record { returned = c .pack .ensures; unchanged = refl }; replied = λ h. absurd (omega arith) }
+
+put-answer-requires : tie.Need-put-answer-requires
+put-answer-requires c κs = search needs
+
+pack-requires-2 : tie.Need-pack-requires-2
+pack-requires-2 c κs = search needs
+
+same-length : tie.Need-same-length
+same-length c = search needs
+
+returns-2 : tie.Need-returns-2
+returns-2 c =
+    let w = c .before .before .before .put-answer .ensures in
+    record {
+      short = λ h. absurd (omega arith);
+      replied = λ h. (record { returned = c .pack2 .ensures; sized = w .0 .sized; rest = rest-kept (w .0) 8 (omega arith) }, w .1);
+    }
+
+pub answer-spec : {M : Type 1} → statement M
+answer-spec =
+    tie.close
+    (tie.spec pack-requires returns put-answer-requires pack-requires-2 same-length returns-2)

@@ -1,0 +1,72 @@
+use mathlib.Core.Path.{refl}
+use Rattle.reading.specs.Tables.{length-groupsIn}
+use Rattle.group_sheet.proofs.LoadedLaws.{sheet-loaded, sheet-held, sheet-refused, sheet-tree}
+use Rattle.group_sheet.proofs.RegisterLaws.{register-refused, register-read}
+use borrow.Author.Needs.{needs}
+use Rattle.group_sheet.proofs.register.sheet_register.Statement.{statement}
+use Rattle.group_sheet.proofs.register.sheet_register.Tie as tie
+
+slice-aggregate-load-sheet : tie.Need-slice-aggregate-load-sheet
+slice-aggregate-load-sheet c = search needs
+
+slice-aggregate-load-sheet-2 : tie.Need-slice-aggregate-load-sheet-2
+slice-aggregate-load-sheet-2 c = search needs
+
+slice-aggregate-load-sheet-3 : tie.Need-slice-aggregate-load-sheet-3
+slice-aggregate-load-sheet-3 c = search needs
+
+slice-aggregate-load-sheet-4 : tie.Need-slice-aggregate-load-sheet-4
+slice-aggregate-load-sheet-4 c = search needs
+
+load-sheet-requires : tie.Need-load-sheet-requires
+load-sheet-requires c κs = search needs
+
+enum-known-n : tie.Need-enum-known-n
+enum-known-n c = search needs
+
+pack-requires : tie.Need-pack-requires
+pack-requires c κs = search needs
+
+enum-known-head : tie.Need-enum-known-head
+enum-known-head c = search needs
+
+slice-aggregate-check : tie.Need-slice-aggregate-check
+slice-aggregate-check c = search needs
+
+check-requires : tie.Need-check-requires
+check-requires c κs =
+    let w = c .before .before .before .before .before .before .before .before .before .load-sheet .ensures in
+    let e = c .before .before .before .head .given .1 in
+    let l = sheet-held w _ e .limits in
+    record { most = l .fewGroups; room = search needs; tree = sheet-tree w _ e }
+
+returns : tie.Need-returns
+returns c =
+    register-refused _ _ (sheet-refused (c .before .before .before .before .before .before .before .before .load-sheet .ensures) _ _ (c .before .before .n .given .1)) (c .pack .ensures) refl
+
+same-length : tie.Need-same-length
+same-length c = search needs
+
+returns-2 : tie.Need-returns-2
+returns-2 c =
+    let w = c .before .before .before .before .before .before .before .before .before .before .before .before .load-sheet .ensures in
+    let e = c .before .before .before .before .before .before .head .given .1 in
+    register-read _ (sheet-loaded w _ e) _ (length-groupsIn _ _) (c .before .before .check .ensures)
+
+pub sheet-register-spec : {M : Type 1} → statement M
+sheet-register-spec =
+    tie.close
+    (tie.spec
+    slice-aggregate-load-sheet
+    slice-aggregate-load-sheet-2
+    slice-aggregate-load-sheet-3
+    slice-aggregate-load-sheet-4
+    load-sheet-requires
+    enum-known-n
+    pack-requires
+    enum-known-head
+    slice-aggregate-check
+    check-requires
+    returns
+    same-length
+    returns-2)

@@ -1,0 +1,71 @@
+use borrow.Author.Needs.{needs}
+use Rattle.replies.specs.Written.{range-put}
+use Rattle.replies.proofs.put_range.Statement.{statement}
+use Rattle.replies.proofs.put_range.Tie as tie
+
+put-word-requires : tie.Need-put-word-requires
+put-word-requires c κs = search needs
+
+add-put-word : tie.Need-add-put-word
+add-put-word c = search needs
+
+put-word-requires-2 : tie.Need-put-word-requires-2
+put-word-requires-2 c κs = search needs
+
+add-put-long : tie.Need-add-put-long
+add-put-long c = search needs
+
+put-long-requires : tie.Need-put-long-requires
+put-long-requires c κs = search needs
+
+add-put-long-2 : tie.Need-add-put-long-2
+add-put-long-2 c = search needs
+
+put-long-requires-2 : tie.Need-put-long-requires-2
+put-long-requires-2 c κs = search needs
+
+add-put-long-3 : tie.Need-add-put-long-3
+add-put-long-3 c = search needs
+
+put-long-requires-3 : tie.Need-put-long-requires-3
+put-long-requires-3 c κs = search needs
+
+add-put-long-4 : tie.Need-add-put-long-4
+add-put-long-4 c = search needs
+
+put-long-requires-4 : tie.Need-put-long-requires-4
+put-long-requires-4 c κs = search needs
+
+same-length : tie.Need-same-length
+same-length c = search needs
+
+returns : tie.Need-returns
+returns c =
+    let w = range-put _ _ _ _ _ _ _ _ _ _ _ _
+    (c .before .before .before .before .before .before .before .before .before .before .before .before .before .before .before .before .before .before .before .before .before .before .put-word .ensures)
+    (c .before .before .before .before .before .before .before .before .before .before .before .before .before .before .before .before .before .before .put-word2 .ensures)
+    (c .before .before .before .before .before .before .before .before .before .before .before .before .before .before .put-long .ensures)
+    (c .before .before .before .before .before .before .before .before .before .before .put-long2 .ensures)
+    (c .before .before .before .before .before .before .put-long3 .ensures)
+    (c .before .before .put-long4 .ensures)
+    (c .before .before .before .before .before .before .before .before .before .before .before .before .before .before .before .before .before .before .before .before .before .before .before .before .before .pre)
+    (c .before .before .before .before .before .before .before .before .before .before .before .before .before .before .before .before .before .before .before .before .before .before .before .before .before .fits .least .fits) (c .before .before .before .before .before .before .before .before .before .before .before .before .before .before .before .before .before .before .before .before .before .before .before .before .before .fits .greatest .fits) (c .before .before .before .before .before .before .before .before .before .before .before .before .before .before .before .before .before .before .before .before .before .before .before .before .before .fits .first .fits) (c .before .before .before .before .before .before .before .before .before .before .before .before .before .before .before .before .before .before .before .before .before .before .before .before .before .fits .count .fits) in
+    (w .0, w .1)
+
+pub put-range-spec : {M : Type 1} → statement M
+put-range-spec =
+    tie.close
+    (tie.spec
+    put-word-requires
+    add-put-word
+    put-word-requires-2
+    add-put-long
+    put-long-requires
+    add-put-long-2
+    put-long-requires-2
+    add-put-long-3
+    put-long-requires-3
+    add-put-long-4
+    put-long-requires-4
+    same-length
+    returns)

@@ -1,0 +1,183 @@
+-- What is read back from the records of a reply: document 01, "Replies".
+use Prim.Native.Nat.{ℕ, suc, _+_, _-_, _*_, _≤_, _<_}
+use mathlib.Core.Path.{_≡_, _∙_}
+use mathlib.Core.List.{List}
+use mathlib.Core.Logic.{inl, ⊎-elim}
+use native.Mathlib.Omega.{arith}
+use native.Mathlib.Nat.{eq-or-lt-of-le}
+use lib.ListN.{length, getD}
+use lib.Seq.{sets}
+use Rattle.wire.specs.Limits.{rangeBytes, verdictBytes, shownBytes, answerBytes}
+use Rattle.wire.specs.Bytes.{u16At, u32At, le16, le32}
+use Rattle.replies.specs.Wrote.{Wrote, wrote-then, word-kept, long-kept, wrote-word, word-put, wrote-long, long-put}
+
+-- kind 20: group and rule
+pub record AnswerAt (out : List ℕ) (g r : ℕ) : Type 0 where
+  pub sized : u16At out 0 ≡ answerBytes - 2
+  pub kind : u16At out 2 ≡ 20
+  pub group : u16At out 4 ≡ g
+  pub rule : u16At out 6 ≡ r
+
+-- kind 18: verdict
+pub record VerdictAt (out : List ℕ) (v : ℕ) : Type 0 where
+  pub sized : u16At out 0 ≡ verdictBytes - 2
+  pub kind : u16At out 2 ≡ 18
+  pub verdict : u16At out 4 ≡ v
+
+-- kind 17: least, greatest, first, count
+pub record RangeAt (out : List ℕ) (at l u f n : ℕ) : Type 0 where
+  pub sized : u16At out at ≡ rangeBytes - 2
+  pub kind : u16At out (at + 2) ≡ 17
+  pub least : u32At out (at + 4) ≡ l
+  pub greatest : u32At out (at + 8) ≡ u
+  pub first : u32At out (at + 12) ≡ f
+  pub count : u32At out (at + 16) ≡ n
+
+-- kind 19: first, count, mark
+pub record ShownAt (out : List ℕ) (at f n m : ℕ) : Type 0 where
+  pub sized : u16At out at ≡ shownBytes - 2
+  pub kind : u16At out (at + 2) ≡ 19
+  pub first : u32At out (at + 4) ≡ f
+  pub count : u32At out (at + 8) ≡ n
+  pub mark : u16At out (at + 12) ≡ m
+
+-- every group's record of kind 17, and of kind 19; the groups are numbered from 0 here
+abbrev pub RangesPut : List ℕ → ℕ → List ℕ → List ℕ → List ℕ → Type 0
+RangesPut out n ranges firsts counts =
+    (g : ℕ) → g < n → RangeAt out (rangeBytes * g) (getD ranges (2 * g) 0) (getD ranges (2 * g + 1) 0) (getD firsts g 0) (getD counts g 0)
+
+abbrev pub SetsPut : List ℕ → ℕ → List ℕ → List ℕ → List ℕ → Type 0
+SetsPut out n firsts counts marks =
+    (g : ℕ) → g < n → ShownAt out (verdictBytes + shownBytes * g) (getD firsts g 0) (getD counts g 0) (getD marks g 0)
+
+-- a record stays under a write after it
+pub range-kept : {l m : List ℕ} {at k a u f c b : ℕ} → Wrote l b k m → at + rangeBytes ≤ b → RangeAt l at a u f c → RangeAt m at a u f c
+range-kept {at = at} w h r = record {
+  sized = word-kept w at (inl (omega arith)) ∙ r .sized;
+  kind = word-kept w (at + 2) (inl (omega arith)) ∙ r .kind;
+  least = long-kept w (at + 4) (inl (omega arith)) ∙ r .least;
+  greatest = long-kept w (at + 8) (inl (omega arith)) ∙ r .greatest;
+  first = long-kept w (at + 12) (inl (omega arith)) ∙ r .first;
+  count = long-kept w (at + 16) (inl (omega arith)) ∙ r .count;
+}
+
+pub shown-kept : {l m : List ℕ} {at k f c b v : ℕ} → Wrote l b k m → at + shownBytes ≤ b → ShownAt l at f c v → ShownAt m at f c v
+shown-kept {at = at} w h r = record {
+  sized = word-kept w at (inl (omega arith)) ∙ r .sized;
+  kind = word-kept w (at + 2) (inl (omega arith)) ∙ r .kind;
+  first = long-kept w (at + 4) (inl (omega arith)) ∙ r .first;
+  count = long-kept w (at + 8) (inl (omega arith)) ∙ r .count;
+  mark = word-kept w (at + 12) (inl (omega arith)) ∙ r .mark;
+}
+
+-- one more record
+pub ranges-more : {l m : List ℕ} (ranges firsts counts : List ℕ) (n : ℕ) → RangesPut l n ranges firsts counts → Wrote l (rangeBytes * n) rangeBytes m
+    → RangeAt m (rangeBytes * n) (getD ranges (2 * n) 0) (getD ranges (2 * n + 1) 0) (getD firsts n 0) (getD counts n 0)
+    → RangesPut m (n + 1) ranges firsts counts
+ranges-more ranges firsts counts n p w r g h =
+    ⊎-elim (λ (e : suc g ≡ n + 1). let same : g ≡ n = omega arith in rw same r)
+    (λ (k : suc g < n + 1). range-kept w (omega arith) (p g (omega arith))) (eq-or-lt-of-le h)
+
+pub sets-more : {l m : List ℕ} (firsts counts marks : List ℕ) (n : ℕ) → SetsPut l n firsts counts marks → Wrote l (verdictBytes + shownBytes * n) shownBytes m
+    → ShownAt m (verdictBytes + shownBytes * n) (getD firsts n 0) (getD counts n 0) (getD marks n 0) → SetsPut m (n + 1) firsts counts marks
+sets-more firsts counts marks n p w r g h =
+    ⊎-elim (λ (e : suc g ≡ n + 1). let same : g ≡ n = omega arith in rw same r)
+    (λ (k : suc g < n + 1). shown-kept w (omega arith) (p g (omega arith))) (eq-or-lt-of-le h)
+
+-- The records as the stores leave them. `w` is what the stores from one of them on change.
+pub verdict-put : (l0 l1 l2 l3 : List ℕ) (v : ℕ) →
+    l1 ≡ sets l0 0 (le16 4) →
+    l2 ≡ sets l1 2 (le16 18) →
+    l3 ≡ sets l2 4 (le16 v) → 6 ≤ length l0 → v < 65536 → Wrote l0 0 6 l3 × VerdictAt l3 v
+verdict-put l0 l1 l2 l3 v e0 e1 e2 h b0 =
+    let w2 : Wrote l2 4 2 l3 = wrote-word 4 v e2 in
+    let w1 : Wrote l1 2 4 l3 = wrote-then (wrote-word 2 18 e1) w2 (omega arith) (omega arith) (omega arith) (omega arith) in
+    let w0 : Wrote l0 0 6 l3 = wrote-then (wrote-word 0 4 e0) w1 (omega arith) (omega arith) (omega arith) (omega arith) in
+    let n1 : 6 ≤ length l1 = omega (arith, wrote-word 0 4 e0 .sized) in
+    let n2 : 6 ≤ length l2 = omega (arith, wrote-word 2 18 e1 .sized) in (
+      w0,
+      record {
+        sized = word-kept w1 0 (inl (omega arith)) ∙ word-put l0 0 4 e0 (omega arith) (omega arith);
+        kind = word-kept w2 2 (inl (omega arith)) ∙ word-put l1 2 18 e1 (omega arith) (omega arith);
+        verdict = word-put l2 4 v e2 (omega arith) (omega arith);
+      },
+    )
+
+pub answer-put : (l0 l1 l2 l3 l4 : List ℕ) (g r : ℕ) →
+    l1 ≡ sets l0 0 (le16 6) →
+    l2 ≡ sets l1 2 (le16 20) →
+    l3 ≡ sets l2 4 (le16 g) →
+    l4 ≡ sets l3 6 (le16 r) → 8 ≤ length l0 → g < 65536 → r < 65536 → Wrote l0 0 8 l4 × AnswerAt l4 g r
+answer-put l0 l1 l2 l3 l4 g r e0 e1 e2 e3 h b0 b1 =
+    let w3 : Wrote l3 6 2 l4 = wrote-word 6 r e3 in
+    let w2 : Wrote l2 4 4 l4 = wrote-then (wrote-word 4 g e2) w3 (omega arith) (omega arith) (omega arith) (omega arith) in
+    let w1 : Wrote l1 2 6 l4 = wrote-then (wrote-word 2 20 e1) w2 (omega arith) (omega arith) (omega arith) (omega arith) in
+    let w0 : Wrote l0 0 8 l4 = wrote-then (wrote-word 0 6 e0) w1 (omega arith) (omega arith) (omega arith) (omega arith) in
+    let n1 : 8 ≤ length l1 = omega (arith, wrote-word 0 6 e0 .sized) in
+    let n2 : 8 ≤ length l2 = omega (arith, wrote-word 2 20 e1 .sized) in
+    let n3 : 8 ≤ length l3 = omega (arith, wrote-word 4 g e2 .sized) in (
+      w0,
+      record {
+        sized = word-kept w1 0 (inl (omega arith)) ∙ word-put l0 0 6 e0 (omega arith) (omega arith);
+        kind = word-kept w2 2 (inl (omega arith)) ∙ word-put l1 2 20 e1 (omega arith) (omega arith);
+        group = word-kept w3 4 (inl (omega arith)) ∙ word-put l2 4 g e2 (omega arith) (omega arith);
+        rule = word-put l3 6 r e3 (omega arith) (omega arith);
+      },
+    )
+
+pub range-put : (l0 l1 l2 l3 l4 l5 l6 : List ℕ) (at l u f n : ℕ) →
+    l1 ≡ sets l0 at (le16 18) →
+    l2 ≡ sets l1 (at + 2) (le16 17) →
+    l3 ≡ sets l2 (at + 4) (le32 l) →
+    l4 ≡ sets l3 (at + 8) (le32 u) →
+    l5 ≡ sets l4 (at + 12) (le32 f) →
+    l6 ≡ sets l5 (at + 16) (le32 n) → at + 20 ≤ length l0 →
+    l < 4294967296 → u < 4294967296 → f < 4294967296 → n < 4294967296 → Wrote l0 at 20 l6 × RangeAt l6 at l u f n
+range-put l0 l1 l2 l3 l4 l5 l6 at l u f n e0 e1 e2 e3 e4 e5 h b0 b1 b2 b3 =
+    let w5 : Wrote l5 (at + 16) 4 l6 = wrote-long (at + 16) n e5 in
+    let w4 : Wrote l4 (at + 12) 8 l6 = wrote-then (wrote-long (at + 12) f e4) w5 (omega arith) (omega arith) (omega arith) (omega arith) in
+    let w3 : Wrote l3 (at + 8) 12 l6 = wrote-then (wrote-long (at + 8) u e3) w4 (omega arith) (omega arith) (omega arith) (omega arith) in
+    let w2 : Wrote l2 (at + 4) 16 l6 = wrote-then (wrote-long (at + 4) l e2) w3 (omega arith) (omega arith) (omega arith) (omega arith) in
+    let w1 : Wrote l1 (at + 2) 18 l6 = wrote-then (wrote-word (at + 2) 17 e1) w2 (omega arith) (omega arith) (omega arith) (omega arith) in
+    let w0 : Wrote l0 at 20 l6 = wrote-then (wrote-word at 18 e0) w1 (omega arith) (omega arith) (omega arith) (omega arith) in
+    let n1 : at + 20 ≤ length l1 = omega (arith, wrote-word at 18 e0 .sized) in
+    let n2 : at + 20 ≤ length l2 = omega (arith, wrote-word (at + 2) 17 e1 .sized) in
+    let n3 : at + 20 ≤ length l3 = omega (arith, wrote-long (at + 4) l e2 .sized) in
+    let n4 : at + 20 ≤ length l4 = omega (arith, wrote-long (at + 8) u e3 .sized) in
+    let n5 : at + 20 ≤ length l5 = omega (arith, wrote-long (at + 12) f e4 .sized) in (
+      w0,
+      record {
+        sized = word-kept w1 at (inl (omega arith)) ∙ word-put l0 at 18 e0 (omega arith) (omega arith);
+        kind = word-kept w2 (at + 2) (inl (omega arith)) ∙ word-put l1 (at + 2) 17 e1 (omega arith) (omega arith);
+        least = long-kept w3 (at + 4) (inl (omega arith)) ∙ long-put l2 (at + 4) l e2 (omega arith) (omega arith);
+        greatest = long-kept w4 (at + 8) (inl (omega arith)) ∙ long-put l3 (at + 8) u e3 (omega arith) (omega arith);
+        first = long-kept w5 (at + 12) (inl (omega arith)) ∙ long-put l4 (at + 12) f e4 (omega arith) (omega arith);
+        count = long-put l5 (at + 16) n e5 (omega arith) (omega arith);
+      },
+    )
+
+pub shown-put : (l0 l1 l2 l3 l4 l5 : List ℕ) (at f n m : ℕ) →
+    l1 ≡ sets l0 at (le16 12) →
+    l2 ≡ sets l1 (at + 2) (le16 19) →
+    l3 ≡ sets l2 (at + 4) (le32 f) →
+    l4 ≡ sets l3 (at + 8) (le32 n) →
+    l5 ≡ sets l4 (at + 12) (le16 m) → at + 14 ≤ length l0 → f < 4294967296 → n < 4294967296 → m < 65536 → Wrote l0 at 14 l5 × ShownAt l5 at f n m
+shown-put l0 l1 l2 l3 l4 l5 at f n m e0 e1 e2 e3 e4 h b0 b1 b2 =
+    let w4 : Wrote l4 (at + 12) 2 l5 = wrote-word (at + 12) m e4 in
+    let w3 : Wrote l3 (at + 8) 6 l5 = wrote-then (wrote-long (at + 8) n e3) w4 (omega arith) (omega arith) (omega arith) (omega arith) in
+    let w2 : Wrote l2 (at + 4) 10 l5 = wrote-then (wrote-long (at + 4) f e2) w3 (omega arith) (omega arith) (omega arith) (omega arith) in
+    let w1 : Wrote l1 (at + 2) 12 l5 = wrote-then (wrote-word (at + 2) 19 e1) w2 (omega arith) (omega arith) (omega arith) (omega arith) in
+    let w0 : Wrote l0 at 14 l5 = wrote-then (wrote-word at 12 e0) w1 (omega arith) (omega arith) (omega arith) (omega arith) in
+    let n1 : at + 14 ≤ length l1 = omega (arith, wrote-word at 12 e0 .sized) in
+    let n2 : at + 14 ≤ length l2 = omega (arith, wrote-word (at + 2) 19 e1 .sized) in
+    let n3 : at + 14 ≤ length l3 = omega (arith, wrote-long (at + 4) f e2 .sized) in
+    let n4 : at + 14 ≤ length l4 = omega (arith, wrote-long (at + 8) n e3 .sized) in (
+      w0,
+      record {
+        sized = word-kept w1 at (inl (omega arith)) ∙ word-put l0 at 12 e0 (omega arith) (omega arith);
+        kind = word-kept w2 (at + 2) (inl (omega arith)) ∙ word-put l1 (at + 2) 19 e1 (omega arith) (omega arith);
+        first = long-kept w3 (at + 4) (inl (omega arith)) ∙ long-put l2 (at + 4) f e2 (omega arith) (omega arith);
+        count = long-kept w4 (at + 8) (inl (omega arith)) ∙ long-put l3 (at + 8) n e3 (omega arith) (omega arith);
+        mark = word-put l4 (at + 12) m e4 (omega arith) (omega arith);
+      },
+    )

@@ -1,0 +1,103 @@
+// Replies: the records of kinds 17 to 20, written into the lent buffer.
+// Each writer says what is read back from its bytes, and that no other byte changes.
+// Document 01, "Replies".
+use wire::bytes::put_long;
+use wire::bytes::put_word;
+ghost use mathlib.Core.Path.{_≡_};
+ghost use Prim.Native.Nat.{_+_, _*_, _≤_};
+ghost use lib.ListN.{length};
+ghost use Rattle.replies.specs.Wrote.{Wrote};
+ghost use Rattle.replies.specs.Written.{AnswerAt, VerdictAt, RangeAt, ShownAt, RangesPut, SetsPut};
+
+// The answer to a register, of kind 20.
+pub fn put_answer(out: &mut [u8], group: u16, rule: u16)
+    requires { ⌜ 8 ≤ length (now out) ⌝ }
+    ensures kept { λ _. ⌜ Wrote (now (out .entry)) 0 8 (now (out .exit)) ⌝ }
+    ensures put { λ _. ⌜ AnswerAt (now (out .exit)) group rule ⌝ }
+{
+    put_word(out, 0, 6);
+    put_word(out, 2, 20);
+    put_word(out, 4, group);
+    put_word(out, 6, rule);
+}
+
+// The verdict on a claim, of kind 18.
+pub fn put_verdict(out: &mut [u8], verdict: u16)
+    requires { ⌜ 6 ≤ length (now out) ⌝ }
+    ensures kept { λ _. ⌜ Wrote (now (out .entry)) 0 6 (now (out .exit)) ⌝ }
+    ensures put { λ _. ⌜ VerdictAt (now (out .exit)) verdict ⌝ }
+{
+    put_word(out, 0, 4);
+    put_word(out, 2, 18);
+    put_word(out, 4, verdict);
+}
+
+// A group's range and run, of kind 17.
+pub fn put_range(out: &mut [u8], at: usize, least: u32, greatest: u32, first: u32, count: u32)
+    requires { ⌜ at + 20 ≤ length (now out) ⌝ }
+    ensures kept { λ _. ⌜ Wrote (now (out .entry)) at 20 (now (out .exit)) ⌝ }
+    ensures put { λ _. ⌜ RangeAt (now (out .exit)) at least greatest first count ⌝ }
+{
+    put_word(out, at, 18);
+    put_word(out, at + 2, 17);
+    put_long(out, at + 4, least);
+    put_long(out, at + 8, greatest);
+    put_long(out, at + 12, first);
+    put_long(out, at + 16, count);
+}
+
+// A group's run and mark in a denial, of kind 19.
+pub fn put_shown(out: &mut [u8], at: usize, first: u32, count: u32, mark: u16)
+    requires { ⌜ at + 14 ≤ length (now out) ⌝ }
+    ensures kept { λ _. ⌜ Wrote (now (out .entry)) at 14 (now (out .exit)) ⌝ }
+    ensures put { λ _. ⌜ ShownAt (now (out .exit)) at first count mark ⌝ }
+{
+    put_word(out, at, 12);
+    put_word(out, at + 2, 19);
+    put_long(out, at + 4, first);
+    put_long(out, at + 8, count);
+    put_word(out, at + 12, mark);
+}
+
+// The ranges and runs of all groups. `ranges` has two numbers for each group (least, greatest), `firsts` and `counts` one.
+pub fn put_ranges(out: &mut [u8], size: u16, ranges: &[u32], firsts: &[u32], counts: &[u32])
+    requires { ⌜ 20 * size ≤ length (now out) ⌝ }
+    requires { ⌜ (2 * size ≤ length (now ranges)) × ((size ≤ length (now firsts)) × (size ≤ length (now counts))) ⌝ }
+    ensures kept { λ _. ⌜ Wrote (now (out .entry)) 0 (20 * size) (now (out .exit)) ⌝ }
+    ensures put { λ _. ⌜ RangesPut (now (out .exit)) size (now (ranges .entry)) (now (firsts .entry)) (now (counts .entry)) ⌝ }
+{
+    let end = size as usize;
+    let mut g: usize = 0;
+    while g < end {
+        put_range(
+            out,
+            20 * g,
+            ranges[2 * g],
+            ranges[2 * g + 1],
+            firsts[g],
+            counts[g],
+        );
+        g += 1;
+    }
+}
+
+fn mark_word(mark: u8) -> u16
+    ensures { λ r. ⌜ r ≡ mark ⌝ }
+{
+    mark as u16
+}
+
+// The runs and marks of all groups, after the verdict.
+pub fn put_sets(out: &mut [u8], size: u16, firsts: &[u32], counts: &[u32], marks: &[u8])
+    requires { ⌜ 6 + 14 * size ≤ length (now out) ⌝ }
+    requires { ⌜ (size ≤ length (now firsts)) × ((size ≤ length (now counts)) × (size ≤ length (now marks))) ⌝ }
+    ensures kept { λ _. ⌜ Wrote (now (out .entry)) 6 (14 * size) (now (out .exit)) ⌝ }
+    ensures put { λ _. ⌜ SetsPut (now (out .exit)) size (now (firsts .entry)) (now (counts .entry)) (now (marks .entry)) ⌝ }
+{
+    let n = size as usize;
+    let mut g: usize = 0;
+    while g < n {
+        put_shown(out, 6 + 14 * g, firsts[g], counts[g], mark_word(marks[g]));
+        g += 1;
+    }
+}

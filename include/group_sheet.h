@@ -1,0 +1,170 @@
+/* Group sheet engine: the three operations for C.
+
+   Every operation takes a sheet in lent bytes, writes its reply to a lent buffer and returns one
+   64-bit number: the refusal (0 for success) times 4,294,967,296 plus a second number. On success
+   the second number is how many bytes were written; the bytes after them keep what they had. On a
+   refusal it is the record number, nothing is written, and no byte of the buffer changes.
+
+   What is asked of the caller:
+   - each pointer leads to as many bytes as the length after it says, and the bytes of the sheet and
+     of the register don't change during the call;
+   - the reply buffer shares no byte with the sheet or the register (these two may overlap);
+   - (NULL, 0) is an empty buffer, for the sheet, the register and the reply; a null pointer comes
+     with no other length;
+   - nothing else. Any content and any length has an answer. No call keeps anything for the next,
+     so calls with different reply buffers may run at the same time.
+
+   All fields, of sheets and of replies, are unsigned and have their low byte first. A record is a
+   two-byte length L of all that follows it, a two-byte kind, and a body of L - 2 bytes: it takes
+   L + 2 bytes in all. */
+#ifndef GROUP_SHEET_H
+#define GROUP_SHEET_H
+
+#include <stddef.h>
+#include <stdint.h>
+
+#ifdef __cplusplus
+extern "C" {
+#endif
+
+/* Limits of a sheet and of a register. */
+enum {
+    SHEET_EDITION = 1,
+    SHEET_MAX_GROUPS = 128,
+    SHEET_MAX_NAMES = 128,
+    SHEET_MAX_CLAIMS = 64,
+    SHEET_MAX_LABEL = 16,
+    SHEET_MAX_LIST = 8,         /* names on one side of a claim of kind 5 or 6 */
+    SHEET_MAX_BOUND = 65534,    /* greatest lo, and greatest hi that is an end */
+    SHEET_NO_UPPER_END = 65535, /* as hi, in a group and in a count claim */
+    SHEET_MAX_BYTES = 6924,     /* the longest sheet that can be read */
+    SHEET_MAX_ROWS = 2048,
+    SHEET_ROW_BYTES = 24
+};
+
+/* In a reply of sheet_ranges, for a greatest count that doesn't exist. */
+#define SHEET_NO_GREATEST UINT32_C(4294967295)
+
+/* Kinds of records. */
+enum sheet_kind {
+    SHEET_KIND_HEAD = 1,    /* L = 10: edition, groups G, names S, claims Q; two bytes each */
+    SHEET_KIND_GROUP = 2,   /* L = 10: parent, lo, hi, mode; two bytes each */
+    SHEET_KIND_NAME = 3,    /* L = 5 to 20: group (0: the empty set), label of 1 to 16 bytes */
+    SHEET_KIND_COUNT = 4,   /* L = 8: name, lo, hi; two bytes each */
+    SHEET_KIND_INSIDE = 5,  /* L = 6 + 2(m + n): m, n, m left names, n right names */
+    SHEET_KIND_APART = 6,   /* the same */
+    SHEET_KIND_RANGE = 17,  /* reply, L = 18: least, greatest, first, count; four bytes each */
+    SHEET_KIND_VERDICT = 18,/* reply, L = 4: verdict, two bytes */
+    SHEET_KIND_SHOWN = 19,  /* reply, L = 12: first, count (four bytes each), mark (two bytes) */
+    SHEET_KIND_RESULT = 20, /* reply, L = 6: group, rule; two bytes each */
+    SHEET_KIND_ROW = 32     /* register, L = 22: member (four bytes), 16 bytes of membership */
+};
+
+/* A group's mode is a sum of these. */
+enum sheet_mode {
+    SHEET_DISJOINT = 1,
+    SHEET_COVER = 2,
+    SHEET_SAME = 4
+};
+
+/* Refusals, in checking order. The record number is the one in brackets. */
+enum sheet_refusal {
+    SHEET_OK = 0,
+    SHEET_CUT = 1,               /* fewer than four bytes or than the length asks remain, or the
+                                    length is below 2 [the record] */
+    SHEET_WRONG_KIND = 2,        /* the kind is not one for this place [the record] */
+    SHEET_WRONG_LENGTH = 3,      /* the length is not that kind's [the record] */
+    SHEET_FIELD_RANGE = 4,       /* a field outside its range, or m and n don't give the length
+                                    [the record] */
+    SHEET_BAD_REFERENCE = 5,     /* a parent, group or name number not allowed there [the record] */
+    SHEET_LABEL_TWICE = 6,       /* a label was used before [the record] */
+    SHEET_TRAILING = 7,          /* bytes follow the last record [G + S + Q + 2] */
+    SHEET_IMPOSSIBLE = 8,        /* no finite sets fit [0]; ranges and claim only */
+    SHEET_NO_SUCH_CLAIM = 9,     /* the claim number is 0 or above Q [0]; claim only */
+    SHEET_TOO_MANY_ROWS = 10,    /* bytes follow the 2,048th row [2049]; 10 to 13 register only */
+    SHEET_BAD_ROW = 11,          /* a row is cut, or its kind or length is wrong [the row] */
+    SHEET_MEMBER_ORDER = 12,     /* a member is 0 or not above the row before [the row] */
+    SHEET_BIT_ABOVE = 13,        /* a bit above G is set [the row] */
+    SHEET_REPLY_SHORT = 14       /* the reply buffer is shorter than this reply [0] */
+};
+
+/* Rules of a register, as the reply of sheet_register names them. */
+enum sheet_rule {
+    SHEET_FITS = 0,
+    SHEET_RULE_OUTSIDE_PARENT = 1, /* a member outside the parent */
+    SHEET_RULE_NOT_SAME = 2,       /* the parent is 'same' and has a member the group lacks */
+    SHEET_RULE_NOT_COVERED = 3,    /* 'cover' and a member in no son */
+    SHEET_RULE_NOT_DISJOINT = 4,   /* 'disjoint' and a member in two sons */
+    SHEET_RULE_BELOW_LO = 5,
+    SHEET_RULE_ABOVE_HI = 6
+};
+
+/* Verdicts. */
+enum sheet_verdict {
+    SHEET_DENIED = 0,
+    SHEET_HOLDS = 1
+};
+
+/* Bytes of a reply. groups is the G of the sheet's head. */
+#define SHEET_RANGES_REPLY(groups) ((size_t)20 * (groups))
+#define SHEET_HOLDS_REPLY ((size_t)6)
+#define SHEET_DENIED_REPLY(groups) ((size_t)6 + (size_t)14 * (groups))
+#define SHEET_REGISTER_REPLY ((size_t)8)
+/* Enough for every reply. */
+#define SHEET_MAX_REPLY ((size_t)20 * SHEET_MAX_GROUPS)
+
+/* The two halves of what an operation returns. */
+static inline uint32_t sheet_refusal_of(uint64_t returned) { return (uint32_t)(returned >> 32); }
+static inline uint32_t sheet_second_of(uint64_t returned) { return (uint32_t)returned; }
+
+/* Reading and writing fields. */
+static inline uint32_t sheet_get16(const uint8_t *at)
+{
+    return (uint32_t)at[0] | (uint32_t)at[1] << 8;
+}
+static inline uint32_t sheet_get32(const uint8_t *at)
+{
+    return sheet_get16(at) | sheet_get16(at + 2) << 16;
+}
+static inline void sheet_put16(uint8_t *at, uint32_t value)
+{
+    at[0] = (uint8_t)value;
+    at[1] = (uint8_t)(value >> 8);
+}
+static inline void sheet_put32(uint8_t *at, uint32_t value)
+{
+    sheet_put16(at, value);
+    sheet_put16(at + 2, value >> 16);
+}
+
+/* The range of every group, and one arrangement of sets that fits.
+   Refusals 1 to 8 and 14. Reply: G records of kind 17 (20 bytes each), the g-th for group g:
+       at 4 least, at 8 greatest (SHEET_NO_GREATEST for none), at 12 first, at 16 count.
+   In the arrangement group g has the members first, first + 1, .., first + count - 1. */
+uint64_t sheet_ranges(const uint8_t *sheet, size_t sheet_len,
+                      uint8_t *reply, size_t reply_len);
+
+/* The verdict on one claim, numbered from 1 in the order of the sheet.
+   Refusals 1 to 9 and 14. Reply: one record of kind 18 (6 bytes), at 4 the verdict; it holds when
+   all finite sets that fit the sheet do as it says. A denial adds G records of kind 19 (14 bytes
+   each, the first at 6), which show sets that fit and break the claim:
+       at 4 first (1 or more), at 8 count, at 12 mark.
+   Group g is shown with the members first, .., first + count - 1, and with member 0 where mark
+   is 1. Which such sets are shown is free. A denial that doesn't find room for all its records is
+   refused by 14. */
+uint64_t sheet_claim(const uint8_t *sheet, size_t sheet_len, uint32_t claim,
+                     uint8_t *reply, size_t reply_len);
+
+/* Whether the sets that a register lists fit the sheet.
+   Refusals 1 to 7 and 10 to 14; a sheet that no sets fit is not refused here. Reply: one record of
+   kind 20 (8 bytes): at 4 the lowest group with a broken rule, at 6 its first broken rule
+   (enum sheet_rule); 0 and 0 when all fits. */
+uint64_t sheet_register(const uint8_t *sheet, size_t sheet_len,
+                        const uint8_t *reg, size_t reg_len,
+                        uint8_t *reply, size_t reply_len);
+
+#ifdef __cplusplus
+}
+#endif
+
+#endif
