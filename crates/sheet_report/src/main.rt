@@ -1,0 +1,123 @@
+// The program: a sheet from standard input, of which at most 8,192 bytes are taken, gives a line for each group and each
+// claim, or the line of its refusal.
+// Document 01, "Worked sheets", the printed case.
+ghost use mathlib.Core.Path.{_≡_};
+ghost use Prim.Native.Nat.{_<_};
+use libc::STDIN_FILENO;
+use libc::STDOUT_FILENO;
+
+// a four-byte field of a reply, 0 where it is cut
+fn field(reply: &[u8], at: usize) -> u64 {
+    if reply.len() < 4 {
+        return 0;
+    }
+    if reply.len() - 4 < at {
+        return 0;
+    }
+    wide(reply[at])
+        + 256 * wide(reply[at + 1])
+        + 65536 * wide(reply[at + 2])
+        + 16777216 * wide(reply[at + 3])
+}
+
+fn wide(x: u8) -> u64
+    ensures { λ r. ⌜ (r ≡ x) × (r < 256) ⌝ }
+{
+    x as u64
+}
+
+fn number(n: u64) {
+    io::print_decimal(STDOUT_FILENO, n);
+}
+
+fn text(s: &[u8]) {
+    io::write_all(STDOUT_FILENO, s);
+}
+
+fn after_space(n: u64) {
+    text(b" ");
+    number(n);
+}
+
+// The greatest count, a hyphen where there is none.
+fn greatest(n: u64) {
+    if n == 4294967295 {
+        text(b" -");
+        return;
+    }
+    after_space(n);
+}
+
+fn print_refusal(answer: u64) {
+    text(b"refused");
+    after_space(answer / 4294967296);
+    after_space(answer % 4294967296);
+    text(b"\n");
+}
+
+// The line of the group numbered i + 1.
+fn print_group(reply: &[u8], i: usize)
+    requires { ⌜ i < 128 ⌝ }
+{
+    number(i as u64 + 1);
+    after_space(field(reply, 20 * i + 4));
+    greatest(field(reply, 20 * i + 8));
+    after_space(field(reply, 20 * i + 12));
+    after_space(field(reply, 20 * i + 16));
+    text(b"\n");
+}
+
+fn print_groups(reply: &[u8], size: u64) {
+    let mut i: usize = 0;
+    while i < 128 {
+        if size <= i as u64 {
+            return;
+        }
+        print_group(reply, i);
+        i += 1;
+    }
+}
+
+// The line of one claim; answers whether there is such a claim.
+fn print_claim(sheet: &[u8], claim: u32) -> bool {
+    let mut reply = [0u8; 1798];
+    let answer = group_sheet::claim::sheet_claim(sheet, claim, &mut reply);
+    if answer / 4294967296 != 0 {
+        return false;
+    }
+    text(b"claim");
+    after_space(claim as u64);
+    if reply[4] == 1 {
+        text(b" holds\n");
+    } else {
+        text(b" denied\n");
+    }
+    true
+}
+
+fn print_claims(sheet: &[u8]) {
+    let mut k: u32 = 1;
+    while k <= 64 {
+        if !print_claim(sheet, k) {
+            return;
+        }
+        k += 1;
+    }
+}
+
+fn report(sheet: &[u8]) {
+    let mut reply = [0u8; 2560];
+    let answer = group_sheet::ranges::sheet_ranges(sheet, &mut reply);
+    if answer / 4294967296 != 0 {
+        print_refusal(answer);
+        return;
+    }
+    print_groups(&reply, answer % 4294967296 / 20);
+    print_claims(sheet);
+}
+
+fn main() {
+    let mut sheet = [0u8; 8192];
+    let n = io::read_full(STDIN_FILENO, &mut sheet);
+    report(&sheet[..n]);
+}
