@@ -1,0 +1,187 @@
+// Our operations beside ordinary Rust of the same algorithm, on the same bytes, in turns.
+//   ops FOLDER     FOLDER has the sheets NAME.sheet; prints a line 'what ours rust' in ns for each
+
+#[path = "engine.rs"]
+mod engine;
+
+use std::fs;
+use std::hint::black_box;
+use std::time::Instant;
+
+extern "C" {
+    fn sheet_ranges(s: *const u8, sl: usize, reply: *mut u8, rl: usize) -> u64;
+    fn sheet_claim(s: *const u8, sl: usize, claim: u32, reply: *mut u8, rl: usize) -> u64;
+    fn sheet_register(
+        s: *const u8,
+        sl: usize,
+        reg: *const u8,
+        gl: usize,
+        reply: *mut u8,
+        rl: usize,
+    ) -> u64;
+}
+
+fn ranges(s: &[u8], r: &mut [u8]) -> u64 {
+    unsafe { sheet_ranges(s.as_ptr(), s.len(), r.as_mut_ptr(), r.len()) }
+}
+
+fn claim(s: &[u8], c: u32, r: &mut [u8]) -> u64 {
+    unsafe { sheet_claim(s.as_ptr(), s.len(), c, r.as_mut_ptr(), r.len()) }
+}
+
+fn register(s: &[u8], g: &[u8], r: &mut [u8]) -> u64 {
+    unsafe { sheet_register(s.as_ptr(), s.len(), g.as_ptr(), g.len(), r.as_mut_ptr(), r.len()) }
+}
+
+const RUNS: usize = 101;
+
+// The middle of 101 runs of each, in nanoseconds per call; a run is long enough to be measured.
+fn middle(mut a: impl FnMut(), mut b: impl FnMut()) -> (f64, f64) {
+    let times = |f: &mut dyn FnMut(), n: u32| {
+        let start = Instant::now();
+        for _ in 0..n {
+            f();
+        }
+        start.elapsed().as_nanos() as f64 / n as f64
+    };
+    let warm = times(&mut a, 20).max(times(&mut b, 20));
+    let turns = ((100_000.0 / warm) as u32).clamp(1, 2000);
+    let (mut x, mut y) = (Vec::new(), Vec::new());
+    for _ in 0..RUNS {
+        x.push(times(&mut a, turns));
+        y.push(times(&mut b, turns));
+    }
+    x.sort_by(f64::total_cmp);
+    y.sort_by(f64::total_cmp);
+    (x[RUNS / 2], y[RUNS / 2])
+}
+
+fn say(what: &str, times: (f64, f64)) {
+    println!("{what}\t{:.0}\t{:.0}", times.0, times.1);
+}
+
+fn same(what: &str, a: (u64, &[u8]), b: (u64, &[u8])) {
+    assert!(a == b, "{what}: the two differ, {:?} and {:?}", a.0, b.0);
+}
+
+fn word(b: &[u8], at: usize) -> usize {
+    b[at] as usize + 256 * b[at + 1] as usize
+}
+
+// 2,048 rows over a tree with the parents of the sheet: every row is the way from some group up to
+// the root, so that no row and no group is empty.
+fn rows(sheet: &[u8], number: usize) -> Vec<u8> {
+    let groups = word(sheet, 6);
+    let mut out = Vec::new();
+    for m in 1..=number {
+        let mut bits = 0u128;
+        let mut g = (m - 1) % groups + 1;
+        while g > 0 {
+            bits |= 1 << (g - 1);
+            g = word(sheet, 12 * g + 4);
+        }
+        out.extend([22, 0, 32, 0]);
+        out.extend((m as u32).to_le_bytes());
+        out.extend(bits.to_le_bytes());
+    }
+    out
+}
+
+// The sheet's tree with no bounds; modes 0, but the last group may have a lo that is broken.
+fn loose(sheet: &[u8], last_lo: u16) -> Vec<u8> {
+    let groups = word(sheet, 6);
+    let mut out = sheet[..12].to_vec();
+    out[8..12].fill(0);
+    for g in 1..=groups {
+        let mut r = sheet[12 * g..12 * g + 12].to_vec();
+        r[6..12].copy_from_slice(&[0, 0, 255, 255, 0, 0]);
+        if g == groups {
+            r[6..8].copy_from_slice(&last_lo.to_le_bytes());
+        }
+        out.extend(r);
+    }
+    out
+}
+
+fn main() {
+    let folder = std::env::args().nth(1).expect("a folder of sheets");
+    let mut x = vec![0u8; 2560];
+    let mut y = vec![0u8; 2560];
+    let sheet = |name: &str| fs::read(format!("{folder}/{name}.sheet")).expect(name);
+
+    // Reading: a largest sheet, an empty register.
+    let s = sheet("largest");
+    same("reading", (register(&s, &[], &mut x), &x), (engine::register_walk(&s, &[], &mut y), &y));
+    say(
+        "reading a largest sheet",
+        middle(
+            || {
+                black_box(register(black_box(&s), &[], &mut x));
+            },
+            || {
+                black_box(engine::register_walk(black_box(&s), &[], &mut y));
+            },
+        ),
+    );
+
+    for shape in ["chain", "star", "bushy"] {
+        for size in [16, 32, 64, 128] {
+            let s = sheet(&format!("{shape}-{size}"));
+            same(shape, (ranges(&s, &mut x), &x), (engine::ranges(&s, &mut y), &y));
+            say(
+                &format!("ranges {shape} {size}"),
+                middle(
+                    || {
+                        black_box(ranges(black_box(&s), &mut x));
+                    },
+                    || {
+                        black_box(engine::ranges(black_box(&s), &mut y));
+                    },
+                ),
+            );
+            let q = word(&s, 10) as u32;
+            for c in 1..=q {
+                let (a, b) = (claim(&s, c, &mut x), engine::claim(&s, c, &mut y));
+                assert!(a == b && x[..6] == y[..6], "{shape} {size}, claim {c}");
+            }
+            say(
+                &format!("claims {shape} {size}"),
+                middle(
+                    || {
+                        for c in 1..=q {
+                            black_box(claim(black_box(&s), c, &mut x));
+                        }
+                    },
+                    || {
+                        for c in 1..=q {
+                            black_box(engine::claim(black_box(&s), c, &mut y));
+                        }
+                    },
+                ),
+            );
+        }
+        let s = sheet(&format!("{shape}-128"));
+        let reg = rows(&s, 2048);
+        for (lo, what) in [(0, "fits"), (65534, "broken at the last group")] {
+            let s = loose(&s, lo);
+            for (how, rust) in [
+                ("scan", engine::register_scan as fn(&[u8], &[u8], &mut [u8]) -> u64),
+                ("walk", engine::register_walk),
+            ] {
+                same(what, (register(&s, &reg, &mut x), &x[..8]), (rust(&s, &reg, &mut y), &y[..8]));
+                assert!(word(&x, 4) == if lo == 0 { 0 } else { 128 });
+                say(
+                    &format!("register {shape} {what}, Rust by {how}"),
+                    middle(
+                        || {
+                            black_box(register(black_box(&s), &reg, &mut x));
+                        },
+                        || {
+                            black_box(rust(black_box(&s), &reg, &mut y));
+                        },
+                    ),
+                );
+            }
+        }
+    }
+}

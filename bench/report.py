@@ -1,0 +1,170 @@
+"""Makes the sheets, runs the measurements and prints them as Markdown.
+
+    report.py FOLDER OPS STACK DRIVER FLAGS     FOLDER for the sheets; FLAGS are shown as they are"""
+import os
+import random
+import statistics
+import struct
+import subprocess
+import sys
+import time
+
+sys.path.insert(0, os.path.join(os.path.dirname(os.path.abspath(__file__)), '..', 'tests', 'solvers'))
+from models import Cvc5Sizes, GlpkSizes, Unanswered, Z3Sizes, search_range  # noqa: E402
+from sheets import Library, largest, record  # noqa: E402
+
+folder, ops, stack, driver, flags = sys.argv[1:]
+SHAPES, SIZES = ['chain', 'star', 'bushy'], [16, 32, 64, 128]
+RUNS = 3
+
+
+def longest(sheet):
+    """A largest sheet by bytes: 128 groups, 128 labels of 16, 64 claims of 8 and 8 names."""
+    out = record(1, [1, 128, 128, 64])
+    for parent, lo, hi, mode in sheet.groups:
+        out += record(2, [parent, lo, 65535 if hi is None else hi, mode])
+    for i in range(1, 129):
+        out += struct.pack('<HHH', 20, 3, i) + b'SIXTEEN-BYTES%03d' % i
+    for c in range(64):
+        out += record(5 + c % 2, [8, 8] + [1 + (c + 7 * k) % 128 for k in range(16)])
+    assert len(out) == 6924
+    return out
+
+
+def middle(f, runs=RUNS):
+    times = []
+    for _ in range(runs):
+        start = time.perf_counter()
+        answer = f()
+        times.append(time.perf_counter() - start)
+    return statistics.median(times), answer
+
+
+def show(seconds):
+    if seconds >= 0.1:
+        return format(round(seconds * 1e3), ',') + ' ms'
+    return '%.3g ms' % (seconds * 1e3) if seconds >= 1e-4 else '%.3g us' % (seconds * 1e6)
+
+
+def glpk_ranges(s):
+    m = GlpkSizes(s)
+    return [m.range(g) for g in s.numbers]
+
+
+def z3_ranges(s):
+    m = Z3Sizes(s).plain()
+    return [search_range(m, g) for g in s.numbers]
+
+
+def cvc5_ranges(s):
+    m = Cvc5Sizes(s)
+    out = [search_range(m, g) for g in s.numbers]
+    m.close()
+    return out
+
+
+def claims_with(plain, marked, s):
+    return [plain.count_broken(c) if c[0] == 'count' else marked.place_broken(c) for c in s.claims]
+
+
+def glpk_claims(s):
+    return claims_with(GlpkSizes(s), GlpkSizes(s, marked=True), s)
+
+
+def z3_claims(s):
+    return claims_with(Z3Sizes(s).plain(), Z3Sizes(s).marked(), s)
+
+
+def cvc5_claims(s):
+    plain, marked = Cvc5Sizes(s), Cvc5Sizes(s, marked=True)
+    out = claims_with(plain, marked, s)
+    plain.close()
+    marked.close()
+    return out
+
+
+def main():
+    rng = random.Random(11)
+    sheets = {(shape, n): largest(n, shape, rng) for shape in SHAPES for n in SIZES}
+    for (shape, n), s in sheets.items():
+        with open('%s/%s-%d.sheet' % (folder, shape, n), 'wb') as f:
+            f.write(s.bytes())
+    with open(folder + '/largest.sheet', 'wb') as f:
+        f.write(longest(sheets['bushy', 128]))
+    library = Library(driver)
+
+    measured = {}
+    for line in subprocess.run([ops, folder], check=True, capture_output=True, text=True).stdout.splitlines():
+        what, ours, rust = line.split('\t')
+        measured[what] = (float(ours) * 1e-9, float(rust) * 1e-9)
+
+    print('# Benchmarks\n')
+    print('Printed by `bench/run`. Middle of 101 runs for our operations and for Rust, on the same bytes and '
+          'taken in turns; middle of %d for solvers. A ratio of times taken in turns stands where the machine '
+          'does other work too; single times, and with them the growth, want an idle one.\n' % RUNS)
+    cpu = next((l.split(':')[1].strip() for l in open('/proc/cpuinfo') if 'model name' in l), 'unknown')
+    print('- processor: %s, %d cores' % (cpu, os.cpu_count()))
+    print('- ' + flags.replace('; ', '\n- ') + '\n')
+
+    print('## Against ordinary Rust of the same algorithm\n')
+    print('| operation | ours | Rust | ratio | goal |\n|---|---|---|---|---|')
+    for what, (a, b) in measured.items():
+        parts = what.split()
+        if parts[0] in ('ranges', 'claims') and parts[-1] != '128':
+            continue
+        label = what.replace('claims', '64 claims,').replace('ranges', 'ranges,').replace('register', 'register of 2,048 rows,')
+        goal = '2' if parts[0] == 'claims' else '1.5'
+        print('| %s | %s | %s | %.2f | at most %s |' % (label, show(a), show(b), a / b, goal))
+    print('\n`scan` goes through groups, rules and rows in this order; `walk` takes all rules in one walk over '
+          'the rows. Reading is a call with an empty register.\n')
+
+    print('## Growth\n')
+    print('| operation | tree | %s |\n|---|---|%s' % (' | '.join('%d groups' % n for n in SIZES), '---|' * len(SIZES)))
+    for op in ['ranges', 'claims']:
+        for shape in SHAPES:
+            print('| %s | %s | %s |' % ('64 claims' if op == 'claims' else op, shape,
+                                        ' | '.join(show(measured['%s %s %d' % (op, shape, n)][0]) for n in SIZES)))
+
+    print('\n## Against solvers, 128 groups\n')
+    print('Model building included, start-up of Python not. GLPK and z3 through their Python modules, cvc5 as one '
+          'process per sheet; all three over sizes. All answers agreed with ours.\n')
+    print('| task | tree | ours | GLPK | z3 | cvc5 | fastest over ours | goal |\n|---|---|---|---|---|---|---|---|')
+    for op, label, solvers in [('ranges', 'all ranges', [glpk_ranges, z3_ranges, cvc5_ranges]),
+                               ('claims', '64 claims', [glpk_claims, z3_claims, cvc5_claims])]:
+        for shape in SHAPES:
+            s = sheets[shape, 128]
+            if op == 'ranges':
+                want = library.ranges(s)
+            else:
+                want = [library.claim(s, i + 1) is not True for i in range(len(s.claims))]
+            ours = measured['%s %s 128' % (op, shape)][0]
+            times = []
+            for solver in solvers:
+                try:
+                    seconds, got = middle(lambda: solver(s))
+                except Unanswered:
+                    times.append(None)
+                    continue
+                if got != want:
+                    sys.exit('%s differs on %s\n%s' % (solver.__name__, label, s))
+                times.append(seconds)
+            fastest = min(t for t in times if t is not None)
+            print('| %s | %s | %s | %s | %.0f | at least %d |' % (
+                label, shape, show(ours),
+                ' | '.join('no answer' if t is None else show(t) for t in times), fastest / ours,
+                300 if op == 'ranges' else 10))
+
+    print('\n## Stack of the deepest call\n')
+    print('On a painted stack, below the caller, for a sheet of 128 groups.\n')
+    print('| operation | chain | star | bushy |\n|---|---|---|---|')
+    depth = {}
+    for shape in SHAPES:
+        out = subprocess.run([stack, '%s/%s-128.sheet' % (folder, shape)], check=True, capture_output=True, text=True)
+        for line in out.stdout.splitlines():
+            what, used = line.split('\t')
+            depth.setdefault(what, []).append('%s bytes' % format(int(used), ','))
+    for what, row in depth.items():
+        print('| %s | %s |' % (what, ' | '.join(row)))
+
+
+main()

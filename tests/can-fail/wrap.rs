@@ -1,0 +1,36 @@
+// The three symbols over bench/engine.rs: a library in ordinary Rust, to be spoilt on purpose.
+#[path = "engine.rs"]
+#[allow(dead_code)]
+mod engine;
+
+use std::slice::{from_raw_parts, from_raw_parts_mut};
+
+unsafe fn lent<'a>(p: *const u8, n: usize) -> &'a [u8] {
+    if n == 0 { &[] } else { from_raw_parts(p, n) }
+}
+
+unsafe fn buffer<'a>(p: *mut u8, n: usize) -> &'a mut [u8] {
+    if n == 0 { &mut [] } else { from_raw_parts_mut(p, n) }
+}
+
+#[no_mangle]
+pub unsafe extern "C" fn sheet_ranges(s: *const u8, sl: usize, r: *mut u8, rl: usize) -> u64 {
+    engine::ranges(lent(s, sl), buffer(r, rl))
+}
+
+#[no_mangle]
+pub unsafe extern "C" fn sheet_claim(s: *const u8, sl: usize, c: u32, r: *mut u8, rl: usize) -> u64 {
+    engine::claim(lent(s, sl), c, buffer(r, rl))
+}
+
+#[no_mangle]
+pub unsafe extern "C" fn sheet_register(
+    s: *const u8,
+    sl: usize,
+    g: *const u8,
+    gl: usize,
+    r: *mut u8,
+    rl: usize,
+) -> u64 {
+    engine::register_walk(lent(s, sl), lent(g, gl), buffer(r, rl))
+}

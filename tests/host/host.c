@@ -1,0 +1,212 @@
+/* A small host: builds a sheet and a register, calls the three operations, prints what they say. */
+#include <stdio.h>
+#include <string.h>
+
+#include "group_sheet.h"
+
+struct bytes {
+    uint8_t at[8192];
+    size_t len;
+};
+
+static void begin(struct bytes *b, uint32_t length, uint32_t kind)
+{
+    sheet_put16(b->at + b->len, length);
+    sheet_put16(b->at + b->len + 2, kind);
+    b->len += 4;
+}
+
+static void word(struct bytes *b, uint32_t value)
+{
+    sheet_put16(b->at + b->len, value);
+    b->len += 2;
+}
+
+static void head(struct bytes *b, uint32_t groups, uint32_t names, uint32_t claims)
+{
+    begin(b, 10, SHEET_KIND_HEAD);
+    word(b, SHEET_EDITION);
+    word(b, groups);
+    word(b, names);
+    word(b, claims);
+}
+
+static void group(struct bytes *b, uint32_t parent, uint32_t lo, uint32_t hi, uint32_t mode)
+{
+    begin(b, 10, SHEET_KIND_GROUP);
+    word(b, parent);
+    word(b, lo);
+    word(b, hi);
+    word(b, mode);
+}
+
+static void name(struct bytes *b, uint32_t of, const char *label)
+{
+    size_t n = strlen(label);
+    begin(b, (uint32_t)(4 + n), SHEET_KIND_NAME);
+    word(b, of);
+    memcpy(b->at + b->len, label, n);
+    b->len += n;
+}
+
+static void count_claim(struct bytes *b, uint32_t of, uint32_t lo, uint32_t hi)
+{
+    begin(b, 8, SHEET_KIND_COUNT);
+    word(b, of);
+    word(b, lo);
+    word(b, hi);
+}
+
+/* Inside or apart, one name on each side. */
+static void pair_claim(struct bytes *b, uint32_t kind, uint32_t left, uint32_t right)
+{
+    begin(b, 10, kind);
+    word(b, 1);
+    word(b, 1);
+    word(b, left);
+    word(b, right);
+}
+
+/* groups: bit g - 1 for group g, for the first 32 groups. */
+static void row(struct bytes *b, uint32_t member, uint32_t groups)
+{
+    begin(b, 22, SHEET_KIND_ROW);
+    sheet_put32(b->at + b->len, member);
+    memset(b->at + b->len + 4, 0, 16);
+    sheet_put32(b->at + b->len + 4, groups);
+    b->len += 20;
+}
+
+/* The printed case of the paper. */
+static void clinic(struct bytes *b)
+{
+    b->len = 0;
+    head(b, 4, 4, 3);
+    group(b, 0, 10, 12, SHEET_DISJOINT + SHEET_COVER);
+    group(b, 1, 0, 5, 0);
+    group(b, 1, 2, 6, 0);
+    group(b, 2, 3, SHEET_NO_UPPER_END, 0);
+    name(b, 1, "ALL");
+    name(b, 2, "LEFT");
+    name(b, 3, "RIGHT");
+    name(b, 4, "NEW");
+    count_claim(b, 2, 4, 5);
+    pair_claim(b, SHEET_KIND_APART, 4, 3);
+    pair_claim(b, SHEET_KIND_INSIDE, 2, 4);
+}
+
+static void refused(const char *what, uint64_t got)
+{
+    printf("%s: refused %u %u\n", what, (unsigned)sheet_refusal_of(got), (unsigned)sheet_second_of(got));
+}
+
+static void show_ranges(const char *what, const struct bytes *sheet, uint8_t *reply, size_t len)
+{
+    uint64_t got = sheet_ranges(sheet->at, sheet->len, reply, len);
+    if (sheet_refusal_of(got) != SHEET_OK) {
+        refused(what, got);
+        return;
+    }
+    printf("%s: %u bytes\n", what, (unsigned)sheet_second_of(got));
+    for (size_t at = 0, g = 1; at < sheet_second_of(got); at += 20, g++) {
+        uint32_t greatest = sheet_get32(reply + at + 8);
+        printf("  group %u: %u to ", (unsigned)g, (unsigned)sheet_get32(reply + at + 4));
+        if (greatest == SHEET_NO_GREATEST)
+            printf("any");
+        else
+            printf("%u", (unsigned)greatest);
+        printf(" members, arranged from %u, %u of them\n", (unsigned)sheet_get32(reply + at + 12),
+               (unsigned)sheet_get32(reply + at + 16));
+    }
+}
+
+/* Whether the run in a record of kind 19, with its mark, has this member. */
+static int shown(const uint8_t *record, uint32_t member)
+{
+    uint32_t first = sheet_get32(record + 4), count = sheet_get32(record + 8);
+    if (member == 0)
+        return sheet_get16(record + 12) == 1;
+    return first <= member && member - first < count;
+}
+
+static void show_claim(const struct bytes *sheet, uint32_t claim, uint8_t *reply, size_t len)
+{
+    char what[32];
+    uint64_t got = sheet_claim(sheet->at, sheet->len, claim, reply, len);
+    snprintf(what, sizeof what, "claim %u", (unsigned)claim);
+    if (sheet_refusal_of(got) != SHEET_OK) {
+        refused(what, got);
+        return;
+    }
+    int holds = sheet_get16(reply + 4) == SHEET_HOLDS;
+    printf("%s: %s, %u bytes\n", what, holds ? "holds" : "denied", (unsigned)sheet_second_of(got));
+    if (!holds && claim == 3) {
+        /* Which sets are shown is free, so say only what must be true of them: somebody is in
+           LEFT (group 2) and not in NEW (group 4), and LEFT has 4 or 5. */
+        const uint8_t *left = reply + 6 + 14, *new = reply + 6 + 3 * 14;
+        uint32_t first = sheet_get32(left + 4), run = sheet_get32(left + 8);
+        uint32_t size = run + sheet_get16(left + 12);
+        int found = shown(left, 0) && !shown(new, 0);
+        /* What a run has beyond another run begins or ends it. */
+        if (run > 0)
+            found |= !shown(new, first) || !shown(new, first + run - 1);
+        printf("  somebody in LEFT and not in NEW: %s; LEFT has 4 or 5: %s\n", found ? "yes" : "no",
+               size == 4 || size == 5 ? "yes" : "no");
+    }
+}
+
+static void show_register(const char *what, const struct bytes *sheet, const struct bytes *reg,
+                          uint8_t *reply, size_t len)
+{
+    uint64_t got = sheet_register(sheet->at, sheet->len, reg->at, reg->len, reply, len);
+    if (sheet_refusal_of(got) != SHEET_OK) {
+        refused(what, got);
+        return;
+    }
+    uint32_t g = sheet_get16(reply + 4), rule = sheet_get16(reply + 6);
+    if (rule == SHEET_FITS)
+        printf("%s: fits\n", what);
+    else
+        printf("%s: group %u breaks rule %u\n", what, (unsigned)g, (unsigned)rule);
+}
+
+int main(void)
+{
+    static struct bytes sheet, other, reg;
+    static uint8_t reply[SHEET_MAX_REPLY];
+
+    clinic(&sheet);
+    show_ranges("ranges", &sheet, reply, sizeof reply);
+    show_ranges("ranges, buffer of 79", &sheet, reply, SHEET_RANGES_REPLY(4) - 1);
+    for (uint32_t c = 0; c <= 4; c++)
+        show_claim(&sheet, c, reply, sizeof reply);
+    show_claim(&sheet, 1, reply, SHEET_HOLDS_REPLY);
+    show_claim(&sheet, 3, reply, SHEET_HOLDS_REPLY);
+    show_claim(&sheet, 3, reply, SHEET_DENIED_REPLY(4));
+
+    /* Ten recipients: 1 to 4 in LEFT (of them 1 to 3 in NEW), 5 to 10 in RIGHT. */
+    for (uint32_t m = 1; m <= 10; m++)
+        row(&reg, m, m <= 3 ? 1 + 2 + 8 : m <= 4 ? 1 + 2 : 1 + 4);
+    show_register("register", &sheet, &reg, reply, sizeof reply);
+    show_register("register, buffer of 7", &sheet, &reg, reply, SHEET_REGISTER_REPLY - 1);
+    row(&reg, 11, 1 + 2 + 4);
+    show_register("register with somebody in both", &sheet, &reg, reply, sizeof reply);
+    row(&reg, 11, 1 + 2);
+    show_register("register with member 11 again", &sheet, &reg, reply, sizeof reply);
+    reg.len = 0;
+    show_register("empty register", &sheet, &reg, reply, sizeof reply);
+
+    /* A clinic that cannot be. */
+    head(&other, 3, 0, 0);
+    group(&other, 0, 0, 3, SHEET_DISJOINT);
+    group(&other, 1, 2, SHEET_NO_UPPER_END, 0);
+    group(&other, 1, 2, SHEET_NO_UPPER_END, 0);
+    show_ranges("impossible sheet", &other, reply, sizeof reply);
+    sheet_put16(other.at + 12 + 8, 4);
+    show_ranges("with one more", &other, reply, sizeof reply);
+
+    refused("no bytes at all", sheet_ranges(NULL, 0, NULL, 0));
+    refused("no bytes, a claim", sheet_claim(NULL, 0, 1, NULL, 0));
+    refused("no bytes, a register", sheet_register(NULL, 0, NULL, 0, NULL, 0));
+    return 0;
+}

@@ -1,0 +1,348 @@
+// Sheets and registers as document 01 writes them, read in the plainest way.
+
+#[derive(Clone, Debug)]
+pub struct Group {
+    pub parent: Option<usize>, // index, from 0
+    pub lo: u64,
+    pub hi: Option<u64>,
+    pub mode: u16,
+}
+
+impl Group {
+    pub fn disjoint(&self) -> bool {
+        self.mode & 1 != 0
+    }
+    pub fn cover(&self) -> bool {
+        self.mode & 2 != 0
+    }
+    pub fn same(&self) -> bool {
+        self.mode & 4 != 0
+    }
+}
+
+// A set that a claim speaks of: a group's, or the empty one.
+pub type Named = Option<usize>;
+
+#[derive(Clone, Debug)]
+pub enum Claim {
+    Count { set: Named, lo: u64, hi: Option<u64> },
+    Inside { left: Vec<Named>, right: Vec<Named> },
+    Apart { left: Vec<Named>, right: Vec<Named> },
+}
+
+#[derive(Clone, Debug)]
+pub struct Sheet {
+    pub groups: Vec<Group>,
+    pub sons: Vec<Vec<usize>>,
+    pub names: Vec<Named>,
+    pub claims: Vec<Claim>,
+}
+
+// A refusal and its record number.
+pub type Refusal = (u32, u32);
+
+pub fn make_sons(groups: &[Group]) -> Vec<Vec<usize>> {
+    let mut sons = vec![Vec::new(); groups.len()];
+    for (i, g) in groups.iter().enumerate() {
+        if let Some(p) = g.parent {
+            sons[p].push(i);
+        }
+    }
+    sons
+}
+
+struct Reader<'a> {
+    rest: &'a [u8],
+    no: u32,
+}
+
+impl<'a> Reader<'a> {
+    // The next record: kind and body, with refusal 1 met.
+    fn next(&mut self) -> Result<(u16, &'a [u8]), Refusal> {
+        self.no += 1;
+        if self.rest.len() < 4 {
+            return Err((1, self.no));
+        }
+        let l = word(self.rest, 0) as usize;
+        if l < 2 || self.rest.len() < 2 + l {
+            return Err((1, self.no));
+        }
+        let record = &self.rest[2..2 + l];
+        self.rest = &self.rest[2 + l..];
+        Ok((word(record, 0), &record[2..]))
+    }
+}
+
+pub fn word(b: &[u8], at: usize) -> u16 {
+    b[at] as u16 + 256 * b[at + 1] as u16
+}
+
+pub fn dword(b: &[u8], at: usize) -> u32 {
+    word(b, at) as u32 + 65536 * word(b, at + 2) as u32
+}
+
+fn upper(hi: u16) -> Option<u64> {
+    if hi == 65535 { None } else { Some(hi as u64) }
+}
+
+pub fn read_sheet(bytes: &[u8]) -> Result<Sheet, Refusal> {
+    let mut reader = Reader { rest: bytes, no: 0 };
+
+    let (kind, body) = reader.next()?;
+    if kind != 1 {
+        return Err((2, 1));
+    }
+    if body.len() != 8 {
+        return Err((3, 1));
+    }
+    let (edition, g, s, q) = (word(body, 0), word(body, 2), word(body, 4), word(body, 6));
+    if edition != 1 || g < 1 || g > 128 || s > 128 || q > 64 {
+        return Err((4, 1));
+    }
+
+    let mut groups = Vec::new();
+    for number in 1..=g {
+        let (kind, body) = reader.next()?;
+        let no = reader.no;
+        if kind != 2 {
+            return Err((2, no));
+        }
+        if body.len() != 8 {
+            return Err((3, no));
+        }
+        let (parent, lo, hi, mode) = (word(body, 0), word(body, 2), word(body, 4), word(body, 6));
+        if lo > 65534 || mode > 7 {
+            return Err((4, no));
+        }
+        let allowed = if number == 1 { parent == 0 } else { parent >= 1 && parent < number };
+        if !allowed {
+            return Err((5, no));
+        }
+        groups.push(Group {
+            parent: if parent == 0 { None } else { Some(parent as usize - 1) },
+            lo: lo as u64,
+            hi: upper(hi),
+            mode,
+        });
+    }
+
+    let mut names = Vec::new();
+    let mut labels: Vec<&[u8]> = Vec::new();
+    for _ in 0..s {
+        let (kind, body) = reader.next()?;
+        let no = reader.no;
+        if kind != 3 {
+            return Err((2, no));
+        }
+        if body.len() < 3 || body.len() > 18 {
+            return Err((3, no));
+        }
+        let (group, label) = (word(body, 0), &body[2..]);
+        let alphabet = b"ABCDEFGHIJKLMNOPQRSTUVWXYZ0123456789-";
+        if label.iter().any(|b| !alphabet.contains(b)) {
+            return Err((4, no));
+        }
+        if group > g {
+            return Err((5, no));
+        }
+        if labels.contains(&label) {
+            return Err((6, no));
+        }
+        labels.push(label);
+        names.push(if group == 0 { None } else { Some(group as usize - 1) });
+    }
+
+    let mut claims = Vec::new();
+    for _ in 0..q {
+        let (kind, body) = reader.next()?;
+        let no = reader.no;
+        let look_up = |n: u16| -> Result<Named, Refusal> {
+            if n >= 1 && n <= s { Ok(names[n as usize - 1]) } else { Err((5, no)) }
+        };
+        match kind {
+            4 => {
+                if body.len() != 6 {
+                    return Err((3, no));
+                }
+                let (name, lo, hi) = (word(body, 0), word(body, 2), word(body, 4));
+                if lo > 65534 {
+                    return Err((4, no));
+                }
+                claims.push(Claim::Count { set: look_up(name)?, lo: lo as u64, hi: upper(hi) });
+            }
+            5 | 6 => {
+                let l = body.len() + 2;
+                if l % 2 != 0 || l < 10 || l > 38 {
+                    return Err((3, no));
+                }
+                let (m, n) = (word(body, 0) as usize, word(body, 2) as usize);
+                if m < 1 || m > 8 || n < 1 || n > 8 || l != 6 + 2 * (m + n) {
+                    return Err((4, no));
+                }
+                let mut all = Vec::new();
+                for i in 0..m + n {
+                    all.push(look_up(word(body, 4 + 2 * i))?);
+                }
+                let right = all.split_off(m);
+                claims.push(if kind == 5 {
+                    Claim::Inside { left: all, right }
+                } else {
+                    Claim::Apart { left: all, right }
+                });
+            }
+            _ => return Err((2, no)),
+        }
+    }
+    if !reader.rest.is_empty() {
+        return Err((7, reader.no + 1));
+    }
+    let sons = make_sons(&groups);
+    Ok(Sheet { groups, sons, names, claims })
+}
+
+// The rows of a register: member and membership.
+pub fn read_register(bytes: &[u8], groups: usize) -> Result<Vec<(u32, u128)>, Refusal> {
+    let mut rows: Vec<(u32, u128)> = Vec::new();
+    let mut rest = bytes;
+    while !rest.is_empty() {
+        let no = rows.len() as u32 + 1;
+        if no == 2049 {
+            return Err((10, no));
+        }
+        if rest.len() < 24 || word(rest, 0) != 22 || word(rest, 2) != 32 {
+            return Err((11, no));
+        }
+        let member = dword(rest, 4);
+        let before = rows.last().map_or(0, |r| r.0);
+        if member == 0 || member <= before {
+            return Err((12, no));
+        }
+        let mut bits = 0u128;
+        for g in 0..128 {
+            if rest[8 + g / 8] >> (g % 8) & 1 == 1 {
+                if g >= groups {
+                    return Err((13, no));
+                }
+                bits |= 1 << g;
+            }
+        }
+        rows.push((member, bits));
+        rest = &rest[24..];
+    }
+    Ok(rows)
+}
+
+// Lowest broken group, from 1, and its first broken rule; 0 and 0 where all fits. Members come
+// with a weight, so that a run of equal members is one entry.
+pub fn broken_rule(sheet: &Sheet, members: &[(u128, u64)]) -> (u16, u16) {
+    let has = |set: u128, g: usize| set >> g & 1 == 1;
+    for (g, group) in sheet.groups.iter().enumerate() {
+        let found = |rule: u16| (g as u16 + 1, rule);
+        if let Some(p) = group.parent {
+            if members.iter().any(|&(m, _)| has(m, g) && !has(m, p)) {
+                return found(1);
+            }
+            if sheet.groups[p].same() && members.iter().any(|&(m, _)| has(m, p) && !has(m, g)) {
+                return found(2);
+            }
+        }
+        let in_sons = |m: u128| sheet.sons[g].iter().filter(|&&s| has(m, s)).count();
+        if group.cover() && members.iter().any(|&(m, _)| has(m, g) && in_sons(m) == 0) {
+            return found(3);
+        }
+        if group.disjoint() && members.iter().any(|&(m, _)| in_sons(m) >= 2) {
+            return found(4);
+        }
+        let count: u64 = members.iter().filter(|&&(m, _)| has(m, g)).map(|&(_, w)| w).sum();
+        if count < group.lo {
+            return found(5);
+        }
+        if group.hi.is_some_and(|hi| count > hi) {
+            return found(6);
+        }
+    }
+    (0, 0)
+}
+
+// Whether these members break the claim.
+pub fn breaks(claim: &Claim, members: &[(u128, u64)]) -> bool {
+    let inside = |m: u128, set: &Named| set.is_some_and(|g| m >> g & 1 == 1);
+    let any = |m: u128, sets: &[Named]| sets.iter().any(|s| inside(m, s));
+    match claim {
+        Claim::Count { set, lo, hi } => {
+            let count: u64 =
+                members.iter().filter(|&&(m, _)| inside(m, set)).map(|&(_, w)| w).sum();
+            count < *lo || hi.is_some_and(|hi| count > hi)
+        }
+        Claim::Inside { left, right } => {
+            members.iter().any(|&(m, w)| w > 0 && any(m, left) && !any(m, right))
+        }
+        Claim::Apart { left, right } => {
+            members.iter().any(|&(m, w)| w > 0 && any(m, left) && any(m, right))
+        }
+    }
+}
+
+// Runs (first, count, mark) as members with weights, by cutting at all ends. Every entry has
+// weight 1 or more.
+pub fn expand(runs: &[(u32, u32, u16)]) -> Vec<(u128, u64)> {
+    let mut cuts: Vec<u64> = Vec::new();
+    for &(first, count, _) in runs {
+        cuts.push(first as u64);
+        cuts.push(first as u64 + count as u64);
+    }
+    cuts.sort_unstable();
+    cuts.dedup();
+    let mut members = Vec::new();
+    for pair in cuts.windows(2) {
+        let mut set = 0u128;
+        for (g, &(first, count, _)) in runs.iter().enumerate() {
+            if first as u64 <= pair[0] && pair[0] < first as u64 + count as u64 {
+                set |= 1 << g;
+            }
+        }
+        members.push((set, pair[1] - pair[0]));
+    }
+    let mut zero = 0u128;
+    for (g, &(_, _, mark)) in runs.iter().enumerate() {
+        if mark == 1 {
+            zero |= 1 << g;
+        }
+    }
+    members.push((zero, 1));
+    members
+}
+
+pub fn show(sheet: &Sheet) -> String {
+    let mut out = String::new();
+    let end = |hi: &Option<u64>| hi.map_or("-".to_string(), |h| h.to_string());
+    let set = |s: &Named| s.map_or("{}".to_string(), |g| format!("g{}", g + 1));
+    let list = |l: &[Named]| l.iter().map(set).collect::<Vec<_>>().join(" ");
+    for (i, g) in sheet.groups.iter().enumerate() {
+        out += &format!(
+            "group {}: parent {}, {} to {}, mode {}\n",
+            i + 1,
+            g.parent.map_or(0, |p| p + 1),
+            g.lo,
+            end(&g.hi),
+            g.mode
+        );
+    }
+    for (i, n) in sheet.names.iter().enumerate() {
+        out += &format!("name {}: {}\n", i + 1, set(n));
+    }
+    for (i, c) in sheet.claims.iter().enumerate() {
+        out += &match c {
+            Claim::Count { set: s, lo, hi } => {
+                format!("claim {}: count of {} is {} to {}\n", i + 1, set(s), lo, end(hi))
+            }
+            Claim::Inside { left, right } => {
+                format!("claim {}: {} inside {}\n", i + 1, list(left), list(right))
+            }
+            Claim::Apart { left, right } => {
+                format!("claim {}: {} apart {}\n", i + 1, list(left), list(right))
+            }
+        };
+    }
+    out
+}

@@ -1,0 +1,592 @@
+// Sheets, registers and damage by chance, from one seed.
+
+use std::collections::HashSet;
+
+pub struct Rng(u64);
+
+impl Rng {
+    pub fn new(seed: u64) -> Rng {
+        let mut r = Rng(seed.wrapping_mul(0x9e37_79b9_7f4a_7c15) ^ 0x2545_f491_4f6c_dd1d);
+        if r.0 == 0 {
+            r.0 = 1;
+        }
+        for _ in 0..8 {
+            r.next();
+        }
+        r
+    }
+    pub fn next(&mut self) -> u64 {
+        self.0 ^= self.0 << 13;
+        self.0 ^= self.0 >> 7;
+        self.0 ^= self.0 << 17;
+        self.0.wrapping_mul(0x2545_f491_4f6c_dd1d)
+    }
+    pub fn below(&mut self, n: u64) -> u64 {
+        (self.next() >> 33) % n.max(1)
+    }
+    pub fn index(&mut self, n: usize) -> usize {
+        self.below(n as u64) as usize
+    }
+    // True in p of 100.
+    pub fn chance(&mut self, p: u64) -> bool {
+        self.below(100) < p
+    }
+    pub fn pick<T: Copy>(&mut self, from: &[T]) -> T {
+        from[self.index(from.len())]
+    }
+}
+
+pub struct Tree {
+    pub parent: Vec<usize>, // of group i, from 0; the root's is not used
+    pub mode: Vec<u16>,
+    pub sons: Vec<Vec<usize>>,
+    can: Vec<bool>, // can one member be in it at all?
+}
+
+impl Tree {
+    fn new(rng: &mut Rng, n: usize) -> Tree {
+        let shape = rng.below(7);
+        let mut parent = vec![0];
+        for i in 1..n {
+            parent.push(match shape {
+                0 => i - 1,
+                1 => 0,
+                2 => (i - 1) / 2,
+                3 => (i - 1) / 5,
+                4 => i - 1 - rng.index(i.min(3)),
+                5 => rng.index(i.min(4)),
+                _ => rng.index(i),
+            });
+        }
+        let style = rng.below(6);
+        let one = rng.below(8) as u16;
+        let mode: Vec<u16> = (0..n)
+            .map(|_| match style {
+                0 => rng.below(8) as u16,
+                1 => one,
+                2 => rng.pick(&[0, 1, 2, 3]),
+                3 => rng.pick(&[2, 2, 3, 0, 4]),
+                4 => if rng.chance(15) { rng.below(8) as u16 } else { rng.pick(&[0, 2, 3]) },
+                _ => rng.pick(&[0, 1, 2, 3, 1, 3, 4, 6]),
+            })
+            .collect();
+        let mut sons = vec![Vec::new(); n];
+        for i in 1..n {
+            sons[parent[i]].push(i);
+        }
+        let mut tree = Tree { parent, mode, sons, can: vec![true; n] };
+        // Mostly no cover on leaves: it leaves them empty, and all above that they force.
+        let keep = rng.below(30);
+        for g in 0..n {
+            if tree.sons[g].is_empty() && tree.mode[g] & 2 != 0 && !rng.chance(keep) {
+                tree.mode[g] &= 5;
+            }
+            if tree.sons[g].len() >= 2 && tree.mode[g] & 5 == 5 && !rng.chance(keep) {
+                tree.mode[g] &= 4;
+            }
+        }
+        for g in (0..n).rev() {
+            let (m, sons) = (tree.mode[g], &tree.sons[g]);
+            let able = sons.iter().filter(|&&s| tree.can[s]).count();
+            tree.can[g] = if sons.is_empty() {
+                m & 2 == 0
+            } else if m & 4 != 0 {
+                able == sons.len() && (m & 1 == 0 || sons.len() == 1)
+            } else {
+                m & 2 == 0 || able >= 1
+            };
+        }
+        tree
+    }
+
+    // What one member may be in, drawn from the root down.
+    pub fn member(&self, rng: &mut Rng) -> u128 {
+        let mut set = 0;
+        if self.can[0] {
+            self.fill(rng, 0, &mut set);
+        }
+        set
+    }
+
+    fn fill(&self, rng: &mut Rng, g: usize, set: &mut u128) {
+        *set |= 1 << g;
+        let able: Vec<usize> = self.sons[g].iter().copied().filter(|&s| self.can[s]).collect();
+        let m = self.mode[g];
+        if m & 4 != 0 {
+            for &s in &self.sons[g] {
+                self.fill(rng, s, set);
+            }
+        } else if !able.is_empty() {
+            let sure = rng.index(able.len());
+            let share = rng.pick(&[10, 50, 90]);
+            for (k, &s) in able.iter().enumerate() {
+                let take = if k == sure {
+                    m & 2 != 0 || rng.chance(70)
+                } else {
+                    m & 1 == 0 && rng.chance(share)
+                };
+                if take {
+                    self.fill(rng, s, set);
+                }
+            }
+        }
+    }
+
+    fn near(&self, rng: &mut Rng, g: usize) -> usize {
+        let p = self.parent[g];
+        match rng.below(6) {
+            0 => p,
+            1 if !self.sons[g].is_empty() => rng.pick(&self.sons[g]),
+            2 | 3 if !self.sons[p].is_empty() => rng.pick(&self.sons[p]),
+            4 => g,
+            _ => rng.index(self.parent.len()),
+        }
+    }
+}
+
+pub struct Draft {
+    pub tree: Tree,
+    pub members: Vec<(u128, u64)>, // members, with how often, that the bounds were drawn around
+    pub records: Vec<Vec<u8>>,
+    pub groups: usize,
+    pub names: usize,
+    pub claims: usize,
+}
+
+pub fn record(kind: u16, body: &[u8]) -> Vec<u8> {
+    let mut r = Vec::with_capacity(body.len() + 4);
+    r.extend(((body.len() + 2) as u16).to_le_bytes());
+    r.extend(kind.to_le_bytes());
+    r.extend(body);
+    r
+}
+
+fn words(ws: &[u16]) -> Vec<u8> {
+    ws.iter().flat_map(|w| w.to_le_bytes()).collect()
+}
+
+fn field(x: u64) -> u16 {
+    x.min(65534) as u16
+}
+
+struct Namer {
+    groups: Vec<u16>,
+    limit: usize,
+}
+
+impl Namer {
+    fn name(&mut self, rng: &mut Rng, group: u16) -> u16 {
+        let known: Vec<usize> =
+            (0..self.groups.len()).filter(|&i| self.groups[i] == group).collect();
+        if (known.is_empty() || rng.chance(10)) && self.groups.len() < self.limit {
+            self.groups.push(group);
+            return self.groups.len() as u16;
+        }
+        if known.is_empty() {
+            return rng.index(self.groups.len()) as u16 + 1;
+        }
+        rng.pick(&known) as u16 + 1
+    }
+}
+
+pub fn draft(rng: &mut Rng) -> Draft {
+    let large = rng.chance(22);
+    let n = if large {
+        match rng.below(5) {
+            0 => 128,
+            1 => 9 + rng.index(20),
+            2 => 120 + rng.index(9),
+            _ => 2 + rng.index(127),
+        }
+    } else {
+        1 + rng.index(6)
+    };
+    let tree = Tree::new(rng, n);
+
+    let kinds = if large { rng.below(20) } else { rng.below(4) };
+    let heavy = rng.chance(if large { 50 } else { 4 });
+    let mut members: Vec<(u128, u64)> = Vec::new();
+    for _ in 0..kinds {
+        let weight = if heavy {
+            rng.pick(&[1, 2, 100, 5000, 20000, 65534])
+        } else {
+            1 + rng.below(2)
+        };
+        members.push((tree.member(rng), weight));
+    }
+    members.retain(|m| m.0 != 0);
+
+    let mut bounds: Vec<(u16, u16)> = Vec::new();
+    let tight = rng.below(5);
+    for g in 0..n {
+        let size: u64 = members.iter().filter(|m| m.0 >> g & 1 == 1).map(|m| m.1).sum();
+        let style = match tight {
+            0 => 0,
+            1 => rng.below(3),
+            2 => rng.below(10),
+            3 => 3 + rng.below(8),
+            _ => rng.below(8),
+        };
+        let hi = |x: u64| if x > 65534 { 65535 } else { x as u16 };
+        bounds.push(match style {
+            0 => (field(size), hi(size)),
+            1 => (field(size.saturating_sub(rng.below(2))), hi(size + rng.below(2))),
+            2 => (field(size.saturating_sub(rng.below(3))), hi(size)),
+            3 => (0, hi(size)),
+            4 => (field(size), 65535),
+            5 => (field(size), hi(size + rng.below(3))),
+            6 => (0, 65535),
+            7 => (field(size.saturating_sub(rng.below(4))), hi(size + rng.below(4))),
+            8 => (rng.below(3) as u16, rng.below(5) as u16),
+            9 => (0, if large { 65534 } else { 3 }),
+            _ => (field(size.saturating_sub(rng.below(1000))), hi(size + rng.below(1000))),
+        });
+    }
+    if rng.chance(40) {
+        for _ in 0..1 + rng.below(3) {
+            let b = &mut bounds[rng.index(n)];
+            match rng.below(5) {
+                0 => b.0 = (b.0 + 1).min(65534),
+                1 => b.1 = b.1.saturating_sub(1),
+                2 => b.0 = b.0.saturating_sub(1),
+                3 if b.1 < 65534 => b.1 += 1,
+                4 if rng.chance(15) => *b = (65534, rng.pick(&[0, 3, 65533, 65534, 65535])),
+                _ => {}
+            }
+        }
+    }
+
+    // Claims first, in terms of groups; the names that they need are made on the way.
+    let wanted = match rng.below(12) {
+        0 => 0,
+        1 => 64,
+        _ => 1 + rng.index(8),
+    };
+    let limit = match rng.below(8) {
+        0 => 1,
+        1 => 3,
+        _ => 128,
+    };
+    let mut namer = Namer { groups: Vec::new(), limit };
+    let mut claims = Vec::new();
+    for _ in 0..wanted {
+        let g = rng.index(n);
+        let size: u64 = members.iter().filter(|m| m.0 >> g & 1 == 1).map(|m| m.1).sum();
+        if rng.chance(30) {
+            let group = if rng.chance(6) { 0 } else { g as u16 + 1 };
+            let name = namer.name(rng, group);
+            let lo = match rng.below(5) {
+                0 | 1 => 0,
+                2 => field(size + rng.below(2)),
+                3 => field(size.saturating_sub(rng.below(2))),
+                _ => rng.pick(&[0, 1, 2, 65533, 65534]),
+            };
+            let hi = match rng.below(6) {
+                0 | 1 => 65535,
+                2 => field(size + rng.below(2)),
+                3 => field(size.saturating_sub(rng.below(2))),
+                4 => field(size + rng.below(5)),
+                _ => rng.pick(&[0, 1, 65533, 65534]),
+            };
+            claims.push(record(4, &words(&[name, lo, hi])));
+            continue;
+        }
+        let kind = 5 + rng.below(2) as u16;
+        let most = if rng.chance(15) { 8 } else { 3 };
+        let (mut m, mut k) = (1 + rng.index(most), 1 + rng.index(most));
+        let mut left: Vec<usize> = Vec::new();
+        let mut right: Vec<usize> = Vec::new();
+        let sons = &tree.sons[g];
+        match rng.below(4) {
+            0 if !sons.is_empty() => {
+                left.push(g);
+                right.extend(sons.iter().take(8));
+                if rng.chance(30) && right.len() > 1 {
+                    right.remove(rng.index(right.len()));
+                }
+                (m, k) = (1, right.len());
+            }
+            1 if sons.len() >= 2 => {
+                for _ in 0..m {
+                    left.push(rng.pick(sons));
+                }
+                for _ in 0..k {
+                    right.push(rng.pick(sons));
+                }
+            }
+            2 => {
+                left = vec![g; m];
+                for _ in 0..k {
+                    right.push(tree.near(rng, g));
+                }
+            }
+            _ => {
+                for _ in 0..m {
+                    left.push(tree.near(rng, g));
+                }
+                let h = tree.near(rng, g);
+                for _ in 0..k {
+                    right.push(tree.near(rng, h));
+                }
+            }
+        }
+        let mut list = vec![m as u16, k as u16];
+        for x in left.iter().chain(&right) {
+            let group = if rng.chance(4) { 0 } else { *x as u16 + 1 };
+            list.push(namer.name(rng, group));
+        }
+        claims.push(record(kind, &words(&list)));
+    }
+    let extra = match rng.below(10) {
+        0 => 128,
+        1 => rng.index(128),
+        2..=5 => rng.index(4),
+        _ => 0,
+    };
+    for _ in 0..extra {
+        if namer.groups.len() < 128 {
+            namer.groups.push(rng.index(n + 1) as u16);
+        }
+    }
+
+    let alphabet = b"ABCDEFGHIJKLMNOPQRSTUVWXYZ0123456789-";
+    let mut labels: HashSet<Vec<u8>> = HashSet::new();
+    let mut records = vec![record(
+        1,
+        &words(&[1, n as u16, namer.groups.len() as u16, claims.len() as u16]),
+    )];
+    for g in 0..n {
+        let parent = if g == 0 { 0 } else { tree.parent[g] as u16 + 1 };
+        records.push(record(2, &words(&[parent, bounds[g].0, bounds[g].1, tree.mode[g]])));
+    }
+    let longest = rng.pick(&[3, 5, 16]);
+    for &group in &namer.groups {
+        let mut label = Vec::new();
+        loop {
+            label.clear();
+            for _ in 0..1 + rng.index(longest) {
+                label.push(rng.pick(alphabet));
+            }
+            if labels.insert(label.clone()) {
+                break;
+            }
+        }
+        let mut body = group.to_le_bytes().to_vec();
+        body.extend(&label);
+        records.push(record(3, &body));
+    }
+    let (names, number) = (namer.groups.len(), claims.len());
+    records.extend(claims);
+    Draft { tree, members, records, groups: n, names, claims: number }
+}
+
+fn set_word(r: &mut [u8], at: usize, x: u16) {
+    if at + 1 < r.len() {
+        r[at..at + 2].copy_from_slice(&x.to_le_bytes());
+    }
+}
+
+// The first, a middle or the last record, or any; often the first or last of its kind.
+fn some_record(rng: &mut Rng, d: &Draft) -> usize {
+    let n = d.records.len();
+    let i = match rng.below(10) {
+        0 => 0,
+        1 => n / 2,
+        2 => n - 1,
+        3 => 1,
+        4 => d.groups,
+        5 => d.groups + 1,
+        6 => d.groups + d.names,
+        7 => d.groups + d.names + 1,
+        _ => rng.index(n),
+    };
+    i.min(n - 1)
+}
+
+pub fn damage(rng: &mut Rng, d: &Draft) -> Vec<u8> {
+    let mut records = d.records.clone();
+    let at = some_record(rng, d);
+    let odd = |rng: &mut Rng| -> u16 {
+        let own = at as u16;
+        let (g, s) = (d.groups as u16, d.names as u16);
+        rng.pick(&[
+            0, 1, 2, 3, 7, 8, 9, 63, 64, 65, 127, 128, 129, 255, 256, 257, 65533, 65534, 65535, own,
+            own.wrapping_sub(1), own + 1, g, g + 1, s, s + 1,
+        ])
+    };
+    match rng.below(14) {
+        0 => {
+            let now = (records[at].len() - 2) as u16;
+            let x = rng.pick(&[
+                0, 1, 2, 3, 4, 5, 6, 8, 9, 10, 11, 12, 20, 21, 22, 38, 39, 40, 65535, now + 1,
+                now.wrapping_sub(1), now + 2,
+            ]);
+            set_word(&mut records[at], 0, x);
+        }
+        1 => {
+            let x = rng.pick(&[0, 1, 2, 3, 4, 5, 6, 7, 8, 17, 32, 256, 258, 259, 260, 65535]);
+            set_word(&mut records[at], 2, x);
+        }
+        2 | 3 | 4 | 5 => {
+            let fields = (records[at].len() - 4) / 2;
+            let k = rng.index(fields.max(1));
+            let x = odd(rng);
+            set_word(&mut records[at], 4 + 2 * k, x);
+            if rng.chance(25) {
+                let (k, x) = (rng.index(fields.max(1)), odd(rng));
+                set_word(&mut records[at], 4 + 2 * k, x);
+            }
+        }
+        6 => {
+            // Another length, and the record made to it.
+            let len = rng.pick(&[0usize, 1, 2, 3, 6, 7, 8, 9, 10, 12, 18, 19, 20, 34, 36, 37, 38, 40]);
+            let mut body = records[at][4..].to_vec();
+            body.resize(len, b'A');
+            let kind = records[at][2] as u16;
+            records[at] = record(kind, &body);
+        }
+        7 if d.names >= 2 => {
+            let a = 1 + d.groups + rng.index(d.names);
+            let b = 1 + d.groups + rng.index(d.names);
+            let label = records[a][6..].to_vec();
+            let mut body = records[b][4..6].to_vec();
+            body.extend(label);
+            records[b] = record(3, &body);
+        }
+        8 if d.names >= 1 => {
+            let a = 1 + d.groups + rng.index(d.names);
+            let k = 6 + rng.index(records[a].len() - 6);
+            records[a][k] = rng.pick(b"a@[/:,. \0\xff_z`{");
+        }
+        9 => {
+            records.remove(at);
+        }
+        10 => {
+            let b = rng.index(records.len());
+            records.swap(at, b);
+        }
+        11 => {
+            let copy = records[at].clone();
+            records.insert(at, copy);
+        }
+        _ => {}
+    }
+    let mut bytes = records.concat();
+    if bytes.is_empty() || rng.chance(40) {
+        match rng.below(6) {
+            0 | 1 => bytes.truncate(rng.index(bytes.len() + 1)),
+            2 => {
+                for _ in 0..1 + rng.below(5) {
+                    let k = rng.index(bytes.len() + 1);
+                    bytes.insert(k, rng.next() as u8);
+                }
+            }
+            3 => {
+                if !bytes.is_empty() {
+                    let k = rng.index(bytes.len());
+                    bytes.remove(k);
+                }
+            }
+            4 => {
+                for _ in 0..1 + rng.below(3) {
+                    if !bytes.is_empty() {
+                        let k = rng.index(bytes.len());
+                        bytes[k] ^= 1 << rng.below(8);
+                    }
+                }
+            }
+            _ => {
+                let n = rng.pick(&[1, 2, 3, 4, 12, 100]);
+                for _ in 0..n {
+                    bytes.push(rng.next() as u8);
+                }
+            }
+        }
+    }
+    bytes
+}
+
+pub fn register(rng: &mut Rng, d: &Draft) -> Vec<u8> {
+    let n = d.groups;
+    let all = if n == 128 { u128::MAX } else { (1u128 << n) - 1 };
+    let mut rows: Vec<u128> = Vec::new();
+    match rng.below(8) {
+        0 => {}
+        // Nearly what the bounds were drawn around.
+        1..=5 => {
+            for &(set, weight) in &d.members {
+                for _ in 0..weight.min(40) {
+                    rows.push(set);
+                }
+            }
+            for _ in 0..rng.below(3) {
+                rows.push(0);
+            }
+        }
+        6 => {
+            for _ in 0..rng.below(12) {
+                rows.push((rng.next() as u128 | (rng.next() as u128) << 64) & all);
+            }
+        }
+        _ => {
+            let many = if rng.chance(4) { rng.pick(&[2047, 2048, 2048, 2049, 500]) } else { rng.index(30) };
+            for _ in 0..many {
+                rows.push(d.tree.member(rng));
+            }
+        }
+    }
+    if rng.chance(50) && !rows.is_empty() {
+        for _ in 0..1 + rng.below(2) {
+            let r = rng.index(rows.len());
+            match rng.below(4) {
+                0 => rows[r] = d.tree.member(rng),
+                1 => rows.push(d.tree.member(rng)),
+                2 if rows.len() > 1 => {
+                    rows.remove(r);
+                }
+                _ => rows[r] ^= 1 << rng.index(n),
+            }
+        }
+    }
+    let mut member = 0u32;
+    let mut bytes: Vec<u8> = Vec::new();
+    let step = rng.pick(&[1u64, 2, 1000, 1_000_000]);
+    for set in &rows {
+        member += 1 + rng.below(step) as u32;
+        let mut body = member.to_le_bytes().to_vec();
+        body.extend(set.to_le_bytes());
+        bytes.extend(record(32, &body));
+    }
+    if rng.chance(30) {
+        let count = rows.len();
+        let r = match rng.below(3) {
+            0 => 0,
+            1 => count / 2,
+            _ => count.saturating_sub(1),
+        } * 24;
+        match rng.below(10) {
+            0 => bytes.truncate(rng.index(bytes.len() + 1)),
+            1 => bytes.push(rng.next() as u8),
+            2 => bytes.extend([22, 0, 32]),
+            3 if count > 0 => set_word(&mut bytes, r, rng.pick(&[0, 1, 21, 23, 278, 65535])),
+            4 if count > 0 => set_word(&mut bytes, r + 2, rng.pick(&[0, 31, 33, 288, 2])),
+            5 if count > 0 => bytes[r + 4..r + 8].fill(0),
+            6 if count > 1 && r > 0 => {
+                let before = bytes[r - 20..r - 16].to_vec();
+                bytes[r + 4..r + 8].copy_from_slice(&before);
+            }
+            7 if count > 0 && n < 128 => {
+                let g = n + rng.index(128 - n);
+                bytes[r + 8 + g / 8] |= 1 << (g % 8);
+            }
+            8 if count > 0 => bytes[r + 4..r + 8].fill(255),
+            _ => {
+                if !bytes.is_empty() {
+                    let k = rng.index(bytes.len());
+                    bytes[k] ^= 1 << rng.below(8);
+                }
+            }
+        }
+    }
+    bytes
+}

@@ -1,0 +1,466 @@
+// Holds the library to an independent implementation, through its C symbols.
+//
+//   oracle [--seed N] [--cases N] [--only I]   compare; I is one sheet's number from a report
+//   oracle --self-test [--seed N]              hold the implementation's own methods together
+//
+// A case is one operation on one input (sheet, and claim number or register); it is called with
+// one or more reply buffers. Built with a cfg flag for each operation to link.
+#![allow(unexpected_cfgs)]
+#![allow(dead_code)]
+
+mod format;
+mod gen;
+mod large;
+mod selftest;
+mod small;
+
+use format::*;
+use gen::Rng;
+use large::{arrangement, Large};
+use small::Small;
+use std::collections::BTreeMap;
+use std::process::exit;
+
+extern "C" {
+    #[cfg(op_ranges)]
+    fn sheet_ranges(sheet: *const u8, sheet_len: usize, reply: *mut u8, reply_len: usize) -> u64;
+    #[cfg(op_claim)]
+    fn sheet_claim(
+        sheet: *const u8,
+        sheet_len: usize,
+        claim: u32,
+        reply: *mut u8,
+        reply_len: usize,
+    ) -> u64;
+    #[cfg(op_register)]
+    fn sheet_register(
+        sheet: *const u8,
+        sheet_len: usize,
+        reg: *const u8,
+        reg_len: usize,
+        reply: *mut u8,
+        reply_len: usize,
+    ) -> u64;
+}
+
+const HAS_RANGES: bool = cfg!(op_ranges);
+const HAS_CLAIM: bool = cfg!(op_claim);
+const HAS_REGISTER: bool = cfg!(op_register);
+
+enum Ask<'a> {
+    Ranges,
+    Claim(u32),
+    Register(&'a [u8]),
+}
+
+fn pointer(b: &[u8]) -> *const u8 {
+    if b.is_empty() { std::ptr::null() } else { b.as_ptr() }
+}
+
+#[allow(unused_variables)]
+fn call(ask: &Ask, sheet: &[u8], reply: *mut u8, len: usize) -> u64 {
+    match ask {
+        #[cfg(op_ranges)]
+        Ask::Ranges => unsafe { sheet_ranges(pointer(sheet), sheet.len(), reply, len) },
+        #[cfg(op_claim)]
+        Ask::Claim(n) => unsafe { sheet_claim(pointer(sheet), sheet.len(), *n, reply, len) },
+        #[cfg(op_register)]
+        Ask::Register(reg) => unsafe {
+            sheet_register(pointer(sheet), sheet.len(), pointer(reg), reg.len(), reply, len)
+        },
+        #[allow(unreachable_patterns)]
+        _ => unreachable!("an operation that was not linked"),
+    }
+}
+
+// What must come back: a refusal, these bytes, or a denial of this claim.
+enum Want<'a> {
+    Refused(u32, u32),
+    Bytes(Vec<u8>),
+    Denial(&'a Sheet, &'a Claim),
+}
+
+const GUARD: usize = 24;
+
+struct Run {
+    seed: u64,
+    number: u64,
+    cases: u64,
+    calls: u64,
+    met: BTreeMap<String, u64>,
+}
+
+impl Run {
+    fn met(&mut self, what: &str) {
+        match self.met.get_mut(what) {
+            Some(n) => *n += 1,
+            None => {
+                self.met.insert(what.to_string(), 1);
+            }
+        }
+    }
+
+    fn fail(&self, sheet: &[u8], ask: &Ask, len: usize, why: &str) -> ! {
+        let mut text = format!(
+            "DISAGREEMENT: {why}\nseed {}, sheet {} (see it again: --seed {} --only {})\n",
+            self.seed, self.number, self.seed, self.number
+        );
+        text += &match ask {
+            Ask::Ranges => "operation: ranges\n".to_string(),
+            Ask::Claim(n) => format!("operation: claim {n}\n"),
+            Ask::Register(reg) => {
+                format!("operation: register\nregister in hex: {}\n", hex(reg))
+            }
+        };
+        text += &format!("reply buffer: {len} bytes\nsheet in hex: {}\n", hex(sheet));
+        text += &match read_sheet(sheet) {
+            Ok(s) => show(&s),
+            Err((n, r)) => format!("(not readable: refusal {n}, record {r})\n"),
+        };
+        eprint!("{text}");
+        exit(1)
+    }
+
+    fn try_one(&mut self, sheet: &[u8], ask: &Ask, len: usize, want: &Want) {
+        self.calls += 1;
+        let salt = (self.calls % 251) as usize;
+        let pattern = |i: usize| (i * 37 + salt) as u8;
+        let mut buffer: Vec<u8> = (0..len + 2 * GUARD).map(pattern).collect();
+        let reply = if len == 0 && salt % 2 == 0 {
+            std::ptr::null_mut()
+        } else {
+            unsafe { buffer.as_mut_ptr().add(GUARD) }
+        };
+        let lent: Box<[u8]> = sheet.into();
+        let got = call(ask, &lent, reply, len);
+        if *lent != *sheet {
+            self.fail(sheet, ask, len, "the sheet's own bytes were changed");
+        }
+        let (number, second) = (got >> 32, got & 0xffff_ffff);
+        let said = format!("returned {number} and {second}");
+        let written = match want {
+            Want::Refused(n, r) => {
+                if (number, second) != (*n as u64, *r as u64) {
+                    self.fail(sheet, ask, len, &format!("{said}, wanted refusal {n} with {r}"));
+                }
+                0
+            }
+            Want::Bytes(bytes) => {
+                if (number, second) != (0, bytes.len() as u64) {
+                    let n = bytes.len();
+                    self.fail(sheet, ask, len, &format!("{said}, wanted 0 and {n}"));
+                }
+                if buffer[GUARD..GUARD + bytes.len()] != bytes[..] {
+                    let why = format!(
+                        "reply {}\n  wanted {}",
+                        hex(&buffer[GUARD..GUARD + bytes.len()]),
+                        hex(bytes)
+                    );
+                    self.fail(sheet, ask, len, &why);
+                }
+                bytes.len()
+            }
+            Want::Denial(s, claim) => {
+                let need = 6 + 14 * s.groups.len();
+                if (number, second) != (0, need as u64) {
+                    let why = format!("{said}, wanted 0 and {need} (a denial)");
+                    self.fail(sheet, ask, len, &why);
+                }
+                if let Err(why) = denial(s, claim, &buffer[GUARD..GUARD + need]) {
+                    self.fail(sheet, ask, len, &why);
+                }
+                need
+            }
+        };
+        let touched = (0..buffer.len())
+            .find(|&i| !(GUARD..GUARD + written).contains(&i) && buffer[i] != pattern(i));
+        if let Some(i) = touched {
+            let at = i as i64 - GUARD as i64;
+            self.fail(sheet, ask, len, &format!("byte {at} of the reply buffer was changed"));
+        }
+    }
+
+    // One case: with a buffer of the right length, and with some others.
+    fn case(&mut self, rng: &mut Rng, sheet: &[u8], ask: &Ask, want: Want) {
+        self.cases += 1;
+        let op = match ask {
+            Ask::Ranges => "ranges",
+            Ask::Claim(_) => "claim",
+            Ask::Register(_) => "register",
+        };
+        let need = match &want {
+            Want::Refused(n, r) => {
+                self.met(&format!("{op}: refusal {n:2}"));
+                // A refusal by 1 to 13 doesn't ask how long the buffer is.
+                let len = rng.pick(&[0, 1, 5, 6, 7, 8, 9, 20, 26, 2560, 4000]);
+                self.try_one(sheet, ask, len, &Want::Refused(*n, *r));
+                return;
+            }
+            Want::Bytes(b) => b.len(),
+            Want::Denial(s, _) => 6 + 14 * s.groups.len(),
+        };
+        self.met(&format!("{op}: answered"));
+        let more = need + rng.pick(&[1, 2, 7, 14, 20, 300]);
+        for len in [need, more] {
+            self.try_one(sheet, ask, len, &want);
+        }
+        let less = rng.index(need);
+        for len in [need - 1, less, rng.pick(&[0, 5, 6, 7]).min(need - 1)] {
+            self.met(&format!("{op}: refusal 14"));
+            self.try_one(sheet, ask, len, &Want::Refused(14, 0));
+        }
+    }
+
+    fn sheet(&mut self, number: u64) {
+        self.number = number;
+        let mut rng = Rng::new(self.seed.wrapping_mul(1_000_003).wrapping_add(number));
+        let rng = &mut rng;
+        let draft = gen::draft(rng);
+        let bytes = if rng.chance(35) { gen::damage(rng, &draft) } else { draft.records.concat() };
+        let sheet = match read_sheet(&bytes) {
+            Ok(s) => s,
+            Err((n, r)) => {
+                self.met("sheets: not readable");
+                if HAS_RANGES {
+                    self.case(rng, &bytes, &Ask::Ranges, Want::Refused(n, r));
+                }
+                if HAS_CLAIM {
+                    let c = rng.pick(&[0, 1, 2, 64, 65537, u32::MAX]);
+                    self.case(rng, &bytes, &Ask::Claim(c), Want::Refused(n, r));
+                }
+                if HAS_REGISTER {
+                    let reg = gen::register(rng, &draft);
+                    self.case(rng, &bytes, &Ask::Register(&reg), Want::Refused(n, r));
+                }
+                return;
+            }
+        };
+        if HAS_RANGES || HAS_CLAIM {
+            self.ranges_and_claims(rng, &bytes, &sheet);
+        }
+        if HAS_REGISTER {
+            for _ in 0..1 + rng.below(3) {
+                let reg = gen::register(rng, &draft);
+                let want = match read_register(&reg, sheet.groups.len()) {
+                    Err((n, r)) => Want::Refused(n, r),
+                    Ok(rows) => {
+                        let members: Vec<(u128, u64)> = rows.iter().map(|r| (r.1, 1)).collect();
+                        let (g, rule) = broken_rule(&sheet, &members);
+                        self.met(&format!("register: rule {rule}"));
+                        let mut b = vec![6, 0, 20, 0];
+                        b.extend(g.to_le_bytes());
+                        b.extend(rule.to_le_bytes());
+                        Want::Bytes(b)
+                    }
+                };
+                self.case(rng, &bytes, &Ask::Register(&reg), want);
+            }
+        }
+    }
+
+    fn ranges_and_claims(&mut self, rng: &mut Rng, bytes: &[u8], sheet: &Sheet) {
+        let large = Large::new(sheet);
+        let small = Small::new(sheet, 120_000);
+        self.met(if small.is_some() { "sheets: enumerated" } else { "sheets: by closed forms alone" });
+        let possible = large.possible();
+        if small.as_ref().is_some_and(|s| s.possible != possible) {
+            self.fail(bytes, &Ask::Ranges, 0, "the oracle's two methods differ: possible");
+        }
+        let q = sheet.claims.len() as u32;
+        if !possible {
+            self.met("sheets: impossible");
+            if HAS_RANGES {
+                self.case(rng, bytes, &Ask::Ranges, Want::Refused(8, 0));
+            }
+            if HAS_CLAIM {
+                for c in [1 + rng.below(1 + q as u64) as u32, rng.pick(&[0, q + 1, 65537, u32::MAX])] {
+                    self.case(rng, bytes, &Ask::Claim(c), Want::Refused(8, 0));
+                }
+            }
+            return;
+        }
+        self.met("sheets: possible");
+        if HAS_RANGES {
+            let mut reply = Vec::new();
+            let runs = arrangement(sheet, &large.up);
+            for g in 0..sheet.groups.len() {
+                let (least, greatest) = large.range(g);
+                if small.as_ref().is_some_and(|s| s.ranges[g] != (least, greatest)) {
+                    self.fail(bytes, &Ask::Ranges, 0, "the oracle's two methods differ: range");
+                }
+                reply.extend([18, 0, 17, 0]);
+                for x in [least, greatest.unwrap_or(u32::MAX as u64), runs[g].0, runs[g].1] {
+                    reply.extend((x as u32).to_le_bytes());
+                }
+            }
+            let shown: Vec<(u32, u32, u16)> =
+                runs.iter().map(|r| (r.0 as u32, r.1 as u32, 0)).collect();
+            if broken_rule(sheet, &expand(&shown)) != (0, 0) {
+                self.fail(bytes, &Ask::Ranges, 0, "the oracle's arrangement doesn't fit");
+            }
+            self.case(rng, bytes, &Ask::Ranges, Want::Bytes(reply));
+        }
+        if HAS_CLAIM {
+            let bad = rng.pick(&[0, q + 1, q + 1, q + 2, 65537, u32::MAX]);
+            self.case(rng, bytes, &Ask::Claim(bad), Want::Refused(9, 0));
+            let few = if small.is_some() { q } else { q.min(12) };
+            let start = rng.below(q.max(1) as u64) as u32;
+            for k in 0..few {
+                let c = (start + k) % q;
+                let claim = &sheet.claims[c as usize];
+                let broken = large.breaks(claim);
+                if small.as_ref().is_some_and(|s| s.breaks(claim) != broken) {
+                    self.fail(bytes, &Ask::Claim(c + 1), 0, "the oracle's two methods differ");
+                }
+                let kind = match claim {
+                    Claim::Count { .. } => "count",
+                    Claim::Inside { .. } => "inside",
+                    Claim::Apart { .. } => "apart",
+                };
+                let size = if small.is_some() { "small" } else { "large" };
+                let verdict = if broken { "denied" } else { "holds" };
+                self.met(&format!("claim: {kind} {verdict}, {size}"));
+                let want = if broken {
+                    Want::Denial(sheet, claim)
+                } else {
+                    Want::Bytes(vec![4, 0, 18, 0, 1, 0])
+                };
+                self.case(rng, bytes, &Ask::Claim(c + 1), want);
+            }
+        }
+    }
+}
+
+// A denial's reply: its frames, and that the sets it shows fit and break the claim.
+fn denial(sheet: &Sheet, claim: &Claim, reply: &[u8]) -> Result<(), String> {
+    if reply[..6] != [4, 0, 18, 0, 0, 0] {
+        return Err(format!("verdict record {}, wanted a denial", hex(&reply[..6])));
+    }
+    let mut runs = Vec::new();
+    for (g, r) in reply[6..].chunks(14).enumerate() {
+        let (first, count, mark) = (dword(r, 4), dword(r, 8), word(r, 12));
+        if word(r, 0) != 12 || word(r, 2) != 19 || first < 1 || mark > 1 {
+            return Err(format!("record {} of the denial is {}", g + 1, hex(r)));
+        }
+        runs.push((first, count, mark));
+    }
+    let members = expand(&runs);
+    let (g, rule) = broken_rule(sheet, &members);
+    if g != 0 {
+        return Err(format!("the denial's sets don't fit: group {g}, rule {rule}; {runs:?}"));
+    }
+    if !breaks(claim, &members) {
+        return Err(format!("the denial's sets don't break the claim; {runs:?}"));
+    }
+    Ok(())
+}
+
+fn hex(b: &[u8]) -> String {
+    b.iter().map(|x| format!("{x:02x}")).collect()
+}
+
+// What a full run must have met, so that nothing was compared in name only.
+fn wanted() -> Vec<String> {
+    let mut all = Vec::new();
+    let mut refusals = |op: &str, list: &[u32]| {
+        for n in list {
+            all.push(format!("{op}: refusal {n:2}"));
+        }
+        all.push(format!("{op}: answered"));
+    };
+    if HAS_RANGES {
+        refusals("ranges", &[1, 2, 3, 4, 5, 6, 7, 8, 14]);
+    }
+    if HAS_CLAIM {
+        refusals("claim", &[1, 2, 3, 4, 5, 6, 7, 8, 9, 14]);
+    }
+    if HAS_REGISTER {
+        refusals("register", &[1, 2, 3, 4, 5, 6, 7, 10, 11, 12, 13, 14]);
+        for rule in 0..7 {
+            all.push(format!("register: rule {rule}"));
+        }
+    }
+    if HAS_CLAIM {
+        for kind in ["count", "inside", "apart"] {
+            for verdict in ["holds", "denied"] {
+                for size in ["small", "large"] {
+                    all.push(format!("claim: {kind} {verdict}, {size}"));
+                }
+            }
+        }
+    }
+    all
+}
+
+const WORKERS: u64 = 2;
+
+fn main() {
+    let (mut seed, mut cases, mut only, mut own) = (20_240_229u64, 1_000_000u64, None, false);
+    let mut args = std::env::args().skip(1);
+    while let Some(a) = args.next() {
+        let mut number = || -> u64 {
+            args.next().and_then(|v| v.parse().ok()).unwrap_or_else(|| {
+                eprintln!("{a} wants a number");
+                exit(2)
+            })
+        };
+        match a.as_str() {
+            "--seed" => seed = number(),
+            "--cases" => cases = number(),
+            "--only" => only = Some(number()),
+            "--self-test" => own = true,
+            _ => {
+                eprintln!("oracle [--seed N] [--cases N] [--only I] | --self-test [--seed N]");
+                exit(2)
+            }
+        }
+    }
+    if own {
+        selftest::run(seed);
+        return;
+    }
+    let new = || Run { seed, number: 0, cases: 0, calls: 0, met: BTreeMap::new() };
+    if let Some(i) = only {
+        let mut run = new();
+        run.sheet(i);
+        println!("sheet {i}: {} cases agree", run.cases);
+        return;
+    }
+    let workers: Vec<_> = (0..WORKERS)
+        .map(|w| {
+            let mut run = new();
+            std::thread::spawn(move || {
+                let mut number = w;
+                while run.cases < cases / WORKERS {
+                    run.sheet(number);
+                    number += WORKERS;
+                }
+                run
+            })
+        })
+        .collect();
+    let mut all = new();
+    for w in workers {
+        let Ok(run) = w.join() else {
+            eprintln!("a worker broke off");
+            exit(1)
+        };
+        all.cases += run.cases;
+        all.calls += run.calls;
+        for (k, n) in run.met {
+            *all.met.entry(k).or_insert(0) += n;
+        }
+    }
+    for (k, n) in &all.met {
+        println!("  {k}: {n}");
+    }
+    if cases >= 50_000 {
+        for k in wanted() {
+            if !all.met.contains_key(&k) {
+                eprintln!("this run never met '{k}'");
+                exit(1);
+            }
+        }
+    }
+    println!("oracle: {} cases agree in {} calls, seed {seed}", all.cases, all.calls);
+}

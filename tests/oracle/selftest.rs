@@ -1,0 +1,176 @@
+// The oracle held to document 01's meaning in its plainest form: families of sets, one set of
+// members for each group, all of them gone through.
+
+use crate::format::*;
+use crate::gen::Rng;
+use crate::large::Large;
+use crate::small::Small;
+
+// Families over members 0..people; a set is the bits of its members.
+fn families(sheet: &Sheet, people: u32, mut each: impl FnMut(&[u32])) {
+    let n = sheet.groups.len();
+    let sets = 1u32 << people;
+    let mut family = vec![0u32; n];
+    loop {
+        if fits(sheet, &family) {
+            each(&family);
+        }
+        let mut g = 0;
+        while g < n {
+            family[g] += 1;
+            if family[g] < sets {
+                break;
+            }
+            family[g] = 0;
+            g += 1;
+        }
+        if g == n {
+            return;
+        }
+    }
+}
+
+// The six lines of 'Meaning', in their order.
+fn fits(sheet: &Sheet, family: &[u32]) -> bool {
+    (0..family.len()).all(|g| {
+        let group = &sheet.groups[g];
+        let sons: Vec<u32> = sheet.sons[g].iter().map(|&s| family[s]).collect();
+        let union = sons.iter().fold(0, |a, b| a | b);
+        let part = group.parent.is_none_or(|p| family[g] & !family[p] == 0);
+        let same = !group.same() || sons.iter().all(|&s| s == family[g]);
+        let cover = !group.cover() || family[g] & !union == 0;
+        let apart = !group.disjoint()
+            || (0..sons.len()).all(|i| (0..i).all(|j| sons[i] & sons[j] == 0));
+        let count = family[g].count_ones() as u64;
+        part && same && cover && apart && count >= group.lo && group.hi.is_none_or(|h| count <= h)
+    })
+}
+
+fn broken(claim: &Claim, family: &[u32]) -> bool {
+    let set = |n: &Named| n.map_or(0, |g| family[g]);
+    let union = |l: &[Named]| l.iter().map(set).fold(0, |a, b| a | b);
+    match claim {
+        Claim::Count { set: s, lo, hi } => {
+            let count = set(s).count_ones() as u64;
+            count < *lo || hi.is_some_and(|h| count > h)
+        }
+        Claim::Inside { left, right } => union(left) & !union(right) != 0,
+        Claim::Apart { left, right } => union(left) & union(right) != 0,
+    }
+}
+
+fn random_sheet(rng: &mut Rng, n: usize, most: u64, endless: u64) -> Sheet {
+    let mut groups = Vec::new();
+    for i in 0..n {
+        let lo = rng.below(most + 1);
+        let hi = if rng.chance(endless) {
+            None
+        } else if rng.chance(5) {
+            Some(rng.below(most + 1))
+        } else {
+            Some(lo + rng.below(most + 1 - lo))
+        };
+        let lo = if rng.chance(40) { 0 } else { lo };
+        let parent = if i == 0 { None } else { Some(rng.index(i)) };
+        groups.push(Group { parent, lo, hi, mode: rng.below(8) as u16 });
+    }
+    let sons = make_sons(&groups);
+    let mut claims = Vec::new();
+    let set = |rng: &mut Rng| if rng.chance(7) { None } else { Some(rng.index(n)) };
+    for _ in 0..6 {
+        let list = |rng: &mut Rng| -> Vec<Named> {
+            (0..1 + rng.below(2)).map(|_| set(rng)).collect()
+        };
+        claims.push(match rng.below(3) {
+            0 => Claim::Count {
+                set: list(rng)[0],
+                lo: rng.below(most + 1),
+                hi: if rng.chance(40) { None } else { Some(rng.below(most + 1)) },
+            },
+            1 => Claim::Inside { left: list(rng), right: list(rng) },
+            _ => Claim::Apart { left: list(rng), right: list(rng) },
+        });
+    }
+    Sheet { groups, sons, names: Vec::new(), claims }
+}
+
+pub fn run(seed: u64) {
+    // All finite, so that a few people are enough: the root's hi bounds them.
+    let mut rng = Rng::new(seed);
+    let (mut sheets, mut possible, mut claims, mut denied) = (0u64, 0u64, 0u64, 0u64);
+    while sheets < 12_000 {
+        let n = 1 + rng.index(4);
+        let people = if n == 4 { 3 } else { 4 };
+        let mut sheet = random_sheet(&mut rng, n, people as u64, 15);
+        // Members outside the root are in no group, so 'people' is all that is needed.
+        if sheet.groups[0].hi.is_none() {
+            sheet.groups[0].hi = Some(people as u64);
+        }
+        sheets += 1;
+        let mut some = false;
+        let mut ranges = vec![(u64::MAX, 0); n];
+        let mut deny = vec![false; sheet.claims.len()];
+        families(&sheet, people, |f| {
+            some = true;
+            for g in 0..n {
+                let c = f[g].count_ones() as u64;
+                ranges[g] = (ranges[g].0.min(c), ranges[g].1.max(c));
+            }
+            for (d, c) in deny.iter_mut().zip(&sheet.claims) {
+                *d |= broken(c, f);
+            }
+        });
+        let small = Small::new(&sheet, 10_000_000).expect("a small sheet");
+        let large = Large::new(&sheet);
+        let text = show(&sheet);
+        assert_eq!(some, small.possible, "possible, enumeration\n{text}");
+        assert_eq!(some, large.possible(), "possible, closed forms\n{text}");
+        if !some {
+            continue;
+        }
+        possible += 1;
+        for g in 0..n {
+            let want = (ranges[g].0, Some(ranges[g].1));
+            assert_eq!(want, small.ranges[g], "range of {}, enumeration\n{text}", g + 1);
+            assert_eq!(want, large.range(g), "range of {}, closed forms\n{text}", g + 1);
+        }
+        for (c, claim) in sheet.claims.iter().enumerate() {
+            claims += 1;
+            denied += deny[c] as u64;
+            assert_eq!(deny[c], small.breaks(claim), "claim {}, enumeration\n{text}", c + 1);
+            assert_eq!(deny[c], large.breaks(claim), "claim {}, closed forms\n{text}", c + 1);
+        }
+    }
+    println!(
+        "self-test, families of sets: {sheets} sheets ({possible} possible), {claims} claims ({denied} denied)"
+    );
+
+    // Enumeration against closed forms, also without upper ends.
+    let (mut sheets, mut possible, mut claims, mut denied) = (0u64, 0u64, 0u64, 0u64);
+    while sheets < 60_000 {
+        let n = 1 + rng.index(6);
+        let sheet = random_sheet(&mut rng, n, 3, 25);
+        let Some(small) = Small::new(&sheet, 400_000) else { continue };
+        sheets += 1;
+        let large = Large::new(&sheet);
+        let text = show(&sheet);
+        assert_eq!(small.possible, large.possible(), "possible\n{text}");
+        if !small.possible {
+            continue;
+        }
+        possible += 1;
+        for g in 0..n {
+            assert_eq!(small.ranges[g], large.range(g), "range of {}\n{text}", g + 1);
+        }
+        for (c, claim) in sheet.claims.iter().enumerate() {
+            claims += 1;
+            let d = small.breaks(claim);
+            denied += d as u64;
+            assert_eq!(d, large.breaks(claim), "claim {}\n{text}", c + 1);
+        }
+    }
+    println!(
+        "self-test, enumeration and closed forms: {sheets} sheets ({possible} possible), {claims} claims ({denied} denied)"
+    );
+    println!("self-test: 2 passed, 0 failed");
+}

@@ -1,0 +1,276 @@
+"""Sheets for the solvers: by hand, by chance, and as bytes; the library through the driver."""
+import random
+import struct
+import subprocess
+
+NO_END = 65535
+NONE = 4294967295
+MOST = 127 * 65534
+DISJOINT, COVER, SAME = 1, 2, 4
+
+
+class Sheet:
+    """groups: (parent, lo, hi or None, mode), parents from 1, 0 for the root.
+    claims: ('count', set, lo, hi or None), ('inside' or 'apart', left sets, right sets);
+    a set is a group's number, or 0 for the empty one."""
+
+    def __init__(self, groups, claims=(), what=''):
+        self.groups = list(groups)
+        self.claims = list(claims)
+        self.what = what
+        self.numbers = range(1, len(self.groups) + 1)
+        self.sons = {g: [s for s in self.numbers if self.groups[s - 1][0] == g]
+                     for g in self.numbers}
+
+    def lo(self, g):
+        return self.groups[g - 1][1]
+
+    def hi(self, g):
+        return self.groups[g - 1][2]
+
+    def mode(self, g):
+        return self.groups[g - 1][3]
+
+    def bytes(self):
+        named = []
+
+        def name(s):
+            if s not in named:
+                named.append(s)
+            return named.index(s) + 1
+
+        end = lambda hi: NO_END if hi is None else hi
+        claims = []
+        for c in self.claims:
+            if c[0] == 'count':
+                claims.append(record(4, [name(c[1]), c[2], end(c[3])]))
+            else:
+                left, right = [name(s) for s in c[1]], [name(s) for s in c[2]]
+                claims.append(record(5 if c[0] == 'inside' else 6,
+                                     [len(left), len(right)] + left + right))
+        out = record(1, [1, len(self.groups), len(named), len(claims)])
+        for parent, lo, hi, mode in self.groups:
+            out += record(2, [parent, lo, end(hi), mode])
+        for i, s in enumerate(named):
+            label = b'N%d' % (i + 1)
+            out += struct.pack('<HHH', 4 + len(label), 3, s) + label
+        return out + b''.join(claims)
+
+    def __str__(self):
+        lines = [self.what]
+        for g in self.numbers:
+            parent, lo, hi, mode = self.groups[g - 1]
+            lines.append('group %d: parent %d, %d to %s, mode %d'
+                         % (g, parent, lo, '-' if hi is None else hi, mode))
+        for i, c in enumerate(self.claims):
+            lines.append('claim %d: %s' % (i + 1, c))
+        return '\n'.join(lines)
+
+
+def record(kind, fields):
+    return struct.pack('<HH%dH' % len(fields), 2 + 2 * len(fields), kind, *fields)
+
+
+class Library:
+    def __init__(self, driver):
+        self.pipe = subprocess.Popen([driver], stdin=subprocess.PIPE, stdout=subprocess.PIPE,
+                                     text=True)
+
+    def ask(self, line):
+        self.pipe.stdin.write(line + '\n')
+        self.pipe.stdin.flush()
+        refusal, second, reply = self.pipe.stdout.readline().split()
+        return int(refusal), int(second), b'' if reply == '-' else bytes.fromhex(reply)
+
+    def ranges(self, sheet):
+        """None for an impossible sheet, else (least, greatest or None) for each group."""
+        refusal, second, reply = self.ask('r 2560 ' + sheet.bytes().hex())
+        if refusal == 8:
+            return None
+        assert (refusal, second) == (0, 20 * len(sheet.groups)), (refusal, second, str(sheet))
+        out = []
+        for g in range(len(sheet.groups)):
+            length, kind, least, greatest, _, _ = struct.unpack_from('<HHIIII', reply, 20 * g)
+            assert (length, kind) == (18, 17)
+            out.append((least, None if greatest == NONE else greatest))
+        return out
+
+    def claim(self, sheet, number):
+        """None for an impossible sheet, True for holds, the runs shown for denied."""
+        refusal, second, reply = self.ask('c 2560 %d %s' % (number, sheet.bytes().hex()))
+        if refusal == 8:
+            return None
+        assert refusal == 0, (refusal, second, str(sheet))
+        length, kind, verdict = struct.unpack_from('<HHH', reply)
+        assert (length, kind) == (4, 18) and verdict in (0, 1)
+        if verdict == 1:
+            assert second == 6
+            return True
+        assert second == 6 + 14 * len(sheet.groups)
+        return [struct.unpack_from('<IIH', reply, 6 + 14 * g + 4)
+                for g in range(len(sheet.groups))]
+
+
+def shown_sets(runs):
+    return [set(range(first, first + count)) | ({0} if mark else set())
+            for first, count, mark in runs]
+
+
+def fits(sheet, sets):
+    of = lambda g: sets[g - 1]
+    for g in sheet.numbers:
+        parent, lo, hi, mode = sheet.groups[g - 1]
+        sons = [of(s) for s in sheet.sons[g]]
+        if parent and not of(g) <= of(parent):
+            return False
+        if mode & SAME and any(s != of(g) for s in sons):
+            return False
+        if mode & COVER and not of(g) <= set().union(*sons):
+            return False
+        if mode & DISJOINT and sum(map(len, sons)) != len(set().union(*sons)):
+            return False
+        if len(of(g)) < lo or (hi is not None and len(of(g)) > hi):
+            return False
+    return True
+
+
+def breaks(claim, sets):
+    of = lambda s: sets[s - 1] if s else set()
+    if claim[0] == 'count':
+        n = len(of(claim[1]))
+        return n < claim[2] or (claim[3] is not None and n > claim[3])
+    left = set().union(*map(of, claim[1]))
+    right = set().union(*map(of, claim[2]))
+    return bool(left - right) if claim[0] == 'inside' else bool(left & right)
+
+
+def by_hand():
+    """The worked sheets of document 01, its traps, and sheets where counts alone decide."""
+    count = lambda s, lo, hi: ('count', s, lo, hi)
+    inside = lambda a, b: ('inside', a, b)
+    apart = lambda a, b: ('apart', a, b)
+    s = Sheet
+    return [
+        s([(0, 10, 12, 3), (1, 0, 5, 0), (1, 2, 6, 0), (2, 3, None, 0)],
+          [count(2, 4, 5), apart([4], [3]), inside([2], [4])], 'printed case'),
+        s([(0, 0, 3, 1), (1, 2, None, 0), (1, 2, None, 0)], [], 'disjoint root hi 3'),
+        s([(0, 0, 4, 1), (1, 2, None, 0), (1, 2, None, 0)], [apart([2], [3])],
+          'disjoint root hi 4'),
+        s([(0, 0, None, 2)], [count(1, 0, 0)], 'cover leaf, lo 0'),
+        s([(0, 1, None, 2)], [], 'cover leaf, lo 1'),
+        s([(0, 0, 7, 5), (1, 0, 7, 0), (1, 0, None, 0)], [apart([1], [1]), count(2, 0, 0)],
+          'same with disjoint, two sons'),
+        s([(0, 2, 7, 5), (1, 3, 9, 0)], [inside([1], [2]), apart([1], [2]), count(1, 3, 7)],
+          'one son: merely equal'),
+        s([(0, 5, 5, 0), (1, 0, 5, 0), (1, 5, 5, 0)],
+          [inside([2], [3]), inside([3], [2]), inside([1], [3])], 'counts force inside'),
+        s([(0, 5, None, 2), (1, 0, 3, 0), (1, 0, 2, 0)], [apart([2], [3])], 'cover, root lo 5'),
+        s([(0, 4, None, 2), (1, 0, 3, 0), (1, 0, 2, 0)], [apart([2], [3])], 'cover, root lo 4'),
+        s([(0, 0, None, 0)], [count(1, 0, 65534), count(1, 0, None)], 'root without upper end'),
+        s([(0, 0, 4, 0), (1, 0, 4, 0)],
+          [inside([0], [1]), inside([0], [0]), apart([0], [0]), apart([0], [1]), inside([1], [0]),
+           inside([1], [0, 1]), count(0, 0, 0), count(0, 1, 5)], 'the empty-set name'),
+        s([(0, 5, 5, 2), (1, 3, 5, 0), (1, 3, 5, 0)], [count(2, 3, 5), count(2, 3, 4)],
+          'trap: sons of a cover-only root capped'),
+        s([(0, 5, 5, 1), (1, 0, 3, 0), (1, 0, 1, 0)], [count(2, 1, 3), count(2, 0, 3)],
+          'trap: least raised under disjoint without cover'),
+        s([(0, 0, 9, 4), (1, 0, 9, 0), (1, 0, 9, 0)], [inside([1], [2]), inside([2], [3])],
+          'trap: ancestry alone'),
+        s([(0, 2, 2, 2), (1, 0, 1, 0), (1, 0, 1, 0), (1, 0, 1, 0)],
+          [apart([2], [3]), apart([3], [4]), inside([2], [3, 4]), inside([1], [2, 3]),
+           inside([1], [2, 3, 4])], 'cover root of 2 over three sons of 1'),
+        s([(0, 4, 4, 0), (1, 4, 4, 0), (2, 4, 4, 0), (1, 0, 4, 0)],
+          [inside([4], [3]), inside([1], [3]), inside([3], [4])], 'equal deep in the tree'),
+        s([(0, 0, None, 2), (1, 0, 65534, 0), (1, 0, 65534, 0)],
+          [count(1, 0, 65534), count(1, 0, None), count(2, 0, 65534)], 'counts above 65,534'),
+        s([(0, 0, 65534, 0)], [count(1, 0, 65534), count(1, 0, 65533)], 'hi 65,534'),
+    ]
+
+
+def random_sheet(rng, n, claims, most=4):
+    """Bounds drawn around members drawn at random, so that about half are possible."""
+    shape = rng.randrange(5)
+    parents = [0]
+    for i in range(2, n + 1):
+        parents.append([i - 1, 1, i // 2, max(1, i - rng.randint(1, 3)), rng.randint(1, i - 1)][shape])
+    modes = [rng.choice([0, 1, 2, 3, 0, 2, 3, rng.randrange(8)]) for _ in parents]
+    sons = {g: [i + 1 for i, p in enumerate(parents) if p == g] for g in range(1, n + 1)}
+    for g in sons:
+        if not sons[g]:
+            modes[g - 1] &= 5 if rng.random() > 0.6 / n else 7
+        elif len(sons[g]) > 1 and modes[g - 1] & 5 == 5 and rng.random() > 0.6 / n:
+            modes[g - 1] &= 6
+    sizes = [0] * (n + 1)
+    for _ in range(rng.randint(0, most)):
+        weight = 1 if n < 10 else rng.choice([1, 2, 50, 3000])
+        todo = [1]
+        while todo:
+            g = todo.pop()
+            sizes[g] += weight
+            mode, below = modes[g - 1], sons[g]
+            if not below:
+                continue
+            if mode & SAME:
+                todo += below
+            elif mode & DISJOINT:
+                if mode & COVER or rng.random() < 0.7:
+                    todo.append(rng.choice(below))
+            else:
+                part = [s for s in below if rng.random() < 0.5]
+                if mode & COVER and not part:
+                    part = [rng.choice(below)]
+                todo += part
+    groups = []
+    for g in range(1, n + 1):
+        k = sizes[g]
+        lo, hi = rng.choice([(k, k), (k, None), (0, k), (max(0, k - 1), k + 1), (0, None), (k, k + 1)])
+        if rng.random() < 1.0 / n:
+            lo += 1
+        groups.append((parents[g - 1], min(lo, 65534), hi if hi is None else min(hi, 65534),
+                       modes[g - 1]))
+
+    def near(g):
+        if rng.random() < 0.05:
+            return 0
+        family = [g, parents[g - 1] or g] + sons[g] + (sons[parents[g - 1]] if g > 1 else [])
+        return rng.choice(family + [rng.randint(1, n)])
+
+    asked = []
+    for _ in range(claims):
+        g = rng.randint(1, n)
+        kind = rng.choice(['count', 'inside', 'inside', 'apart'])
+        if kind == 'count':
+            k = sizes[g]
+            asked.append((kind, g, max(0, min(65534, k - rng.randint(0, 2))),
+                          rng.choice([None, min(65534, k), min(65534, k + 1)])))
+        elif kind == 'inside' and sons[g] and rng.random() < 0.3:
+            asked.append((kind, [g], sons[g][:8]))
+        else:
+            asked.append((kind, [near(g) for _ in range(rng.randint(1, 2))],
+                          [near(g) for _ in range(rng.randint(1, 3))]))
+    return Sheet(groups, asked, 'by chance')
+
+
+def largest(n, shape, rng, claims=64):
+    """A possible sheet of n groups with bounds that matter, for timing."""
+    parents = [0] + [{'chain': i - 1, 'star': 1, 'bushy': (i + 2) // 4}[shape]
+                     for i in range(2, n + 1)]
+    sons = {g: [i + 1 for i, p in enumerate(parents) if p == g] for g in range(1, n + 1)}
+    groups, sizes = [], {1: 20000}
+    for g in range(1, n + 1):
+        below, k = sons[g], sizes[g]
+        mode = 0 if not below else 3 if len(below) > 1 and g % 3 == 1 else 2 if g % 3 == 2 else 0
+        for i, s in enumerate(below):
+            if mode == 3:
+                sizes[s] = k // len(below) + (k % len(below) if i == 0 else 0)
+            else:
+                sizes[s] = k if mode == 2 and i == 0 else max(1, k - i)
+        groups.append((parents[g - 1], max(0, k - 5), k + 5 if g % 4 else None, mode))
+    asked = []
+    for c in range(claims):
+        g, h = rng.randint(1, n), rng.randint(1, n)
+        asked.append([
+            ('count', g, max(0, sizes[g] - 5), sizes[g] + 5),
+            ('inside', [g, rng.randint(1, n)], [h, rng.randint(1, n), parents[g - 1] or 1]),
+            ('apart', [g], [h, rng.randint(1, n)])][c % 3])
+    return Sheet(groups, asked, '%s of %d' % (shape, n))

@@ -1,0 +1,961 @@
+// Inputs and answers written by hand from document 01, through the exported operations.
+#![allow(unexpected_cfgs)]
+#![allow(dead_code)]
+
+#[path = "../oracle/format.rs"]
+mod format;
+
+use std::process::exit;
+
+extern "C" {
+    #[cfg(op_ranges)]
+    fn sheet_ranges(sheet: *const u8, sheet_len: usize, reply: *mut u8, reply_len: usize) -> u64;
+    #[cfg(op_claim)]
+    fn sheet_claim(s: *const u8, sl: usize, claim: u32, reply: *mut u8, reply_len: usize) -> u64;
+    #[cfg(op_register)]
+    fn sheet_register(
+        s: *const u8,
+        sl: usize,
+        reg: *const u8,
+        rl: usize,
+        reply: *mut u8,
+        reply_len: usize,
+    ) -> u64;
+}
+
+const RANGES: bool = cfg!(op_ranges);
+const CLAIM: bool = cfg!(op_claim);
+const REGISTER: bool = cfg!(op_register);
+const NONE: u32 = 4_294_967_295;
+const NO_END: u16 = 65535;
+
+// Records.
+
+type Bytes = Vec<u8>;
+
+fn record(kind: u16, body: &[u8]) -> Bytes {
+    framed(body.len() as u16 + 2, kind, body)
+}
+
+fn framed(length: u16, kind: u16, body: &[u8]) -> Bytes {
+    let mut b = length.to_le_bytes().to_vec();
+    b.extend(kind.to_le_bytes());
+    b.extend(body);
+    b
+}
+
+fn words(ws: &[u16]) -> Bytes {
+    ws.iter().flat_map(|w| w.to_le_bytes()).collect()
+}
+
+fn head(g: u16, s: u16, q: u16) -> Bytes {
+    record(1, &words(&[1, g, s, q]))
+}
+
+fn group(parent: u16, lo: u16, hi: u16, mode: u16) -> Bytes {
+    record(2, &words(&[parent, lo, hi, mode]))
+}
+
+fn name(group: u16, label: &str) -> Bytes {
+    let mut b = words(&[group]);
+    b.extend(label.as_bytes());
+    record(3, &b)
+}
+
+fn count(name: u16, lo: u16, hi: u16) -> Bytes {
+    record(4, &words(&[name, lo, hi]))
+}
+
+fn lists(kind: u16, left: &[u16], right: &[u16]) -> Bytes {
+    let mut w = vec![left.len() as u16, right.len() as u16];
+    w.extend(left);
+    w.extend(right);
+    record(kind, &words(&w))
+}
+
+fn inside(left: &[u16], right: &[u16]) -> Bytes {
+    lists(5, left, right)
+}
+
+fn apart(left: &[u16], right: &[u16]) -> Bytes {
+    lists(6, left, right)
+}
+
+fn row(member: u32, groups: &[usize]) -> Bytes {
+    let mut b = member.to_le_bytes().to_vec();
+    let mut bits = [0u8; 16];
+    for g in groups {
+        bits[(g - 1) / 8] |= 1 << ((g - 1) % 8);
+    }
+    b.extend(bits);
+    record(32, &b)
+}
+
+// A sheet of groups alone, or with a name for each group (A, B, ..) and claims.
+fn groups(list: &[(u16, u16, u16, u16)]) -> Bytes {
+    sheet(list, &[], &[])
+}
+
+fn sheet(list: &[(u16, u16, u16, u16)], names: &[u16], claims: &[Bytes]) -> Bytes {
+    let mut b = head(list.len() as u16, names.len() as u16, claims.len() as u16);
+    for &(parent, lo, hi, mode) in list {
+        b.extend(group(parent, lo, hi, mode));
+    }
+    for (i, &g) in names.iter().enumerate() {
+        b.extend(name(g, &format!("N{}", i + 1)));
+    }
+    b.extend(claims.concat());
+    b
+}
+
+// The table's own sheet: records 1 head, 2 to 4 groups, 5 to 7 names, 8 to 10 claims.
+fn base() -> Vec<Bytes> {
+    vec![
+        head(3, 3, 3),
+        group(0, 0, 9, 0),
+        group(1, 0, 9, 0),
+        group(1, 0, 9, 0),
+        name(1, "A"),
+        name(2, "B"),
+        name(3, "C"),
+        count(1, 0, 9),
+        inside(&[2], &[1]),
+        apart(&[2], &[3]),
+    ]
+}
+
+fn with(no: usize, new: Bytes) -> Bytes {
+    let mut b = base();
+    b[no - 1] = new;
+    b.concat()
+}
+
+fn with2(a: usize, x: Bytes, b: usize, y: Bytes) -> Bytes {
+    let mut r = base();
+    r[a - 1] = x;
+    r[b - 1] = y;
+    r.concat()
+}
+
+fn cut(no: usize, keep: usize) -> Bytes {
+    let b = base();
+    let mut s = b[..no - 1].concat();
+    s.extend(&b[no - 1][..keep]);
+    s
+}
+
+// Calls.
+
+#[derive(Clone, Copy)]
+enum Op<'a> {
+    Ranges,
+    Claim(u32),
+    Register(&'a [u8]),
+}
+
+fn lend(b: &[u8]) -> *const u8 {
+    if b.is_empty() { std::ptr::null() } else { b.as_ptr() }
+}
+
+#[allow(unused_variables)]
+fn call(op: Op, sheet: &[u8], reply: &mut [u8]) -> u64 {
+    let (p, n) = (if reply.is_empty() { std::ptr::null_mut() } else { reply.as_mut_ptr() }, reply.len());
+    match op {
+        #[cfg(op_ranges)]
+        Op::Ranges => unsafe { sheet_ranges(lend(sheet), sheet.len(), p, n) },
+        #[cfg(op_claim)]
+        Op::Claim(c) => unsafe { sheet_claim(lend(sheet), sheet.len(), c, p, n) },
+        #[cfg(op_register)]
+        Op::Register(r) => unsafe { sheet_register(lend(sheet), sheet.len(), lend(r), r.len(), p, n) },
+        #[allow(unreachable_patterns)]
+        _ => unreachable!(),
+    }
+}
+
+struct Table {
+    passed: u32,
+    failed: u32,
+}
+
+#[derive(Clone, Copy, PartialEq)]
+enum Verdict {
+    Holds,
+    Denied,
+}
+use Verdict::*;
+
+impl Table {
+    fn note(&mut self, what: &str, ok: bool, why: String) {
+        if ok {
+            self.passed += 1;
+        } else {
+            self.failed += 1;
+            println!("FAILED: {what}: {why}");
+        }
+    }
+
+    // The answer is this refusal and no byte of the buffer changes.
+    fn turned(&mut self, what: &str, op: Op, sheet: &[u8], len: usize, n: u64, r: u64) {
+        let mut buffer: Bytes = (0..len).map(|i| (i * 7 + 3) as u8).collect();
+        let before = buffer.clone();
+        let got = call(op, sheet, &mut buffer);
+        let ok = got == n * 4_294_967_296 + r && buffer == before;
+        let same = if buffer == before { "unchanged" } else { "CHANGED" };
+        self.note(what, ok, format!("wanted {n} {r}, got {} {}, buffer {same}", got >> 32, got as u32));
+    }
+
+    // The answer is success with these bytes; the ones after them stay.
+    fn written(&mut self, what: &str, op: Op, sheet: &[u8], len: usize, want: &[u8]) {
+        let mut buffer: Bytes = (0..len).map(|i| (i * 5 + 1) as u8).collect();
+        let mut expect = buffer.clone();
+        expect[..want.len()].copy_from_slice(want);
+        let got = call(op, sheet, &mut buffer);
+        let ok = got == want.len() as u64 && buffer == expect;
+        let why = format!("wanted {} bytes {want:?}, got {} {} {buffer:?}", want.len(), got >> 32, got as u32);
+        self.note(what, ok, why);
+    }
+
+    // A sheet that every operation turns back.
+    fn sheet(&mut self, what: &str, sheet: &[u8], n: u64, r: u64) {
+        for len in [0, 8, 3000] {
+            if RANGES {
+                self.turned(&format!("{what} (ranges)"), Op::Ranges, sheet, len, n, r);
+            }
+            if CLAIM {
+                self.turned(&format!("{what} (claim)"), Op::Claim(1), sheet, len, n, r);
+            }
+            if REGISTER {
+                self.turned(&format!("{what} (register)"), Op::Register(&[]), sheet, len, n, r);
+            }
+        }
+    }
+
+    fn register_refused(&mut self, what: &str, sheet: &[u8], reg: &[u8], n: u64, r: u64) {
+        if REGISTER {
+            for len in [0, 7, 8, 50] {
+                self.turned(what, Op::Register(reg), sheet, len, n, r);
+            }
+        }
+    }
+
+    fn register(&mut self, what: &str, sheet: &[u8], reg: &[u8], group: u16, rule: u16) {
+        if REGISTER {
+            let want = framed(6, 20, &words(&[group, rule]));
+            for len in 0..8 {
+                self.turned(&format!("{what}, {len} bytes"), Op::Register(reg), sheet, len, 14, 0);
+            }
+            for len in [8, 9, 40] {
+                self.written(&format!("{what}, {len} bytes"), Op::Register(reg), sheet, len, &want);
+            }
+        }
+    }
+
+    // For each group least, greatest, first, count.
+    fn ranges(&mut self, what: &str, sheet: &[u8], want: &[[u32; 4]]) {
+        if RANGES {
+            let mut bytes = Vec::new();
+            for w in want {
+                bytes.extend(framed(18, 17, &[]));
+                for x in w {
+                    bytes.extend(x.to_le_bytes());
+                }
+            }
+            let need = bytes.len();
+            for len in [0, 6, need - 1] {
+                self.turned(&format!("{what}, {len} bytes"), Op::Ranges, sheet, len, 14, 0);
+            }
+            for len in [need, need + 1, need + 100] {
+                self.written(&format!("{what}, {len} bytes"), Op::Ranges, sheet, len, &bytes);
+            }
+        }
+    }
+
+    fn impossible(&mut self, what: &str, sheet: &[u8]) {
+        for len in [0, 3000] {
+            if RANGES {
+                self.turned(what, Op::Ranges, sheet, len, 8, 0);
+            }
+            if CLAIM {
+                for c in [0, 1, 2, 65, 65537, NONE] {
+                    self.turned(&format!("{what}, claim {c}"), Op::Claim(c), sheet, len, 8, 0);
+                }
+            }
+        }
+    }
+
+    fn no_claim(&mut self, what: &str, sheet: &[u8], numbers: &[u32]) {
+        if CLAIM {
+            for &c in numbers {
+                for len in [0, 5, 6, 3000] {
+                    self.turned(&format!("{what}, claim {c}"), Op::Claim(c), sheet, len, 9, 0);
+                }
+            }
+        }
+    }
+
+    // The verdicts on all claims of a sheet, with buffers around both lengths.
+    fn verdicts(&mut self, what: &str, sheet: &[u8], want: &[Verdict]) {
+        if !CLAIM {
+            return;
+        }
+        let read = format::read_sheet(sheet).expect("a readable sheet");
+        assert_eq!(read.claims.len(), want.len(), "{what}");
+        let g = read.groups.len();
+        let full = 6 + 14 * g;
+        for (i, v) in want.iter().enumerate() {
+            let op = Op::Claim(i as u32 + 1);
+            let what = format!("{what}, claim {}", i + 1);
+            for len in [0, 5] {
+                self.turned(&what, op, sheet, len, 14, 0);
+            }
+            if *v == Holds {
+                for len in [6, 7, full - 1, full] {
+                    self.written(&what, op, sheet, len, &[4, 0, 18, 0, 1, 0]);
+                }
+                continue;
+            }
+            for len in [6, 7, full - 1] {
+                self.turned(&what, op, sheet, len, 14, 0);
+            }
+            for len in [full, full + 3] {
+                let mut buffer = vec![0xa5u8; len];
+                let got = call(op, sheet, &mut buffer);
+                let mut why = String::new();
+                if got != full as u64 {
+                    why = format!("wanted a denial, got {} {}", got >> 32, got as u32);
+                } else if buffer[..6] != [4, 0, 18, 0, 0, 0] {
+                    why = format!("verdict record {:?}", &buffer[..6]);
+                } else if buffer[full..].iter().any(|&b| b != 0xa5) {
+                    why = "bytes after the reply changed".to_string();
+                } else {
+                    let mut runs = Vec::new();
+                    for r in buffer[6..full].chunks(14) {
+                        if r[..4] != [12, 0, 19, 0] {
+                            why = format!("record {r:?}");
+                        }
+                        runs.push((format::dword(r, 4), format::dword(r, 8), format::word(r, 12)));
+                    }
+                    if runs.iter().any(|r| r.0 == 0 || r.2 > 1) {
+                        why = format!("first or mark in {runs:?}");
+                    }
+                    let members = format::expand(&runs);
+                    if format::broken_rule(&read, &members) != (0, 0) {
+                        why = format!("the sets don't fit: {runs:?}");
+                    } else if !format::breaks(&read.claims[i], &members) {
+                        why = format!("the sets don't break the claim: {runs:?}");
+                    }
+                }
+                self.note(&what, why.is_empty(), why);
+            }
+        }
+    }
+}
+
+fn main() {
+    let mut t = Table { passed: 0, failed: 0 };
+    reading(&mut t);
+    reading_pairs(&mut t);
+    registers(&mut t);
+    ranges(&mut t);
+    claims(&mut t);
+    println!("table: {} passed, {} failed", t.passed, t.failed);
+    if t.failed > 0 || t.passed == 0 {
+        exit(1);
+    }
+}
+
+fn reading(t: &mut Table) {
+    let whole = base().concat();
+    t.register("the base sheet", &whole, &[], 0, 0);
+
+    // 1: first, middle, last.
+    t.sheet("empty sheet", &[], 1, 1);
+    t.sheet("three bytes", &[10, 0, 1], 1, 1);
+    t.sheet("frame of the head alone", &[10, 0, 1, 0], 1, 1);
+    t.sheet("head one byte short", &cut(1, 11), 1, 1);
+    for (no, label) in [(1, "first"), (3, "a group"), (5, "middle"), (8, "a claim"), (10, "last")] {
+        let b = base();
+        t.sheet(&format!("{label}: nothing there"), &cut(no, 0), 1, no as u64);
+        t.sheet(&format!("{label}: one byte"), &cut(no, 1), 1, no as u64);
+        t.sheet(&format!("{label}: three bytes"), &cut(no, 3), 1, no as u64);
+        t.sheet(&format!("{label}: frame alone"), &cut(no, 4), 1, no as u64);
+        t.sheet(&format!("{label}: last byte missing"), &cut(no, b[no - 1].len() - 1), 1, no as u64);
+        let kind = b[no - 1][2] as u16;
+        let body = b[no - 1][4..].to_vec();
+        for l in [0, 1, 65535] {
+            t.sheet(&format!("{label}: length {l}"), &with(no, framed(l, kind, &body)), 1, no as u64);
+        }
+    }
+
+    // 2.
+    t.sheet("a group first", &with(1, group(0, 0, 9, 0)), 2, 1);
+    t.sheet("kind 0 first", &with(1, framed(10, 0, &words(&[1, 3, 3, 3]))), 2, 1);
+    t.sheet("kind 257 first", &with(1, framed(10, 257, &words(&[1, 3, 3, 3]))), 2, 1);
+    t.sheet("a second head", &with(2, head(3, 3, 3)), 2, 2);
+    t.sheet("a name among the groups", &with(4, name(1, "Z")), 2, 4);
+    t.sheet("a group among the names", &with(5, group(1, 0, 9, 0)), 2, 5);
+    t.sheet("a claim among the names", &with(6, count(1, 0, 9)), 2, 6);
+    t.sheet("a name among the claims", &with(8, name(1, "Z")), 2, 8);
+    t.sheet("kind 7 last", &with(10, lists(7, &[1], &[2])), 2, 10);
+    t.sheet("kind 260 last", &with(10, lists(260, &[1], &[2])), 2, 10);
+    t.sheet("kind 3 last", &with(10, name(1, "Z")), 2, 10);
+
+    // 3.
+    t.sheet("head of length 8", &with(1, record(1, &words(&[1, 3, 3]))), 3, 1);
+    t.sheet("head of length 12", &with(1, record(1, &words(&[1, 3, 3, 3, 0]))), 3, 1);
+    t.sheet("head of length 2", &with(1, record(1, &[])), 3, 1);
+    t.sheet("group of length 9", &with(2, record(2, &[0; 7])), 3, 2);
+    t.sheet("group of length 11", &with(3, record(2, &[0; 9])), 3, 3);
+    t.sheet("name without label", &with(5, name(1, "")), 3, 5);
+    t.sheet("name of length 3", &with(5, record(3, &[1])), 3, 5);
+    t.sheet("label of 17", &with(6, name(1, "ABCDEFGHIJKLMNOPQ")), 3, 6);
+    t.sheet("count of length 6", &with(8, record(4, &words(&[1, 0]))), 3, 8);
+    t.sheet("count of length 10", &with(8, record(4, &words(&[1, 0, 9, 0]))), 3, 8);
+    t.sheet("inside of length 8", &with(9, record(5, &words(&[1, 1, 1]))), 3, 9);
+    t.sheet("inside of odd length", &with(9, record(5, &[1, 0, 1, 0, 1, 0, 1, 0, 0])), 3, 9);
+    t.sheet("apart of length 40", &with(10, record(6, &words(&[8, 9, 1, 1, 1, 1, 1, 1, 1, 1, 1, 1, 1, 1, 1, 1, 1, 1, 1]))), 3, 10);
+    t.sheet("apart of length 2", &with(10, record(6, &[])), 3, 10);
+
+    // 4.
+    t.sheet("edition 0", &with(1, record(1, &words(&[0, 3, 3, 3]))), 4, 1);
+    t.sheet("edition 2", &with(1, record(1, &words(&[2, 3, 3, 3]))), 4, 1);
+    t.sheet("edition 257", &with(1, record(1, &words(&[257, 3, 3, 3]))), 4, 1);
+    t.sheet("no groups", &with(1, head(0, 3, 3)), 4, 1);
+    t.sheet("129 groups", &with(1, head(129, 3, 3)), 4, 1);
+    t.sheet("129 names", &with(1, head(3, 129, 3)), 4, 1);
+    t.sheet("65 claims", &with(1, head(3, 3, 65)), 4, 1);
+    t.sheet("root with lo 65535", &with(2, group(0, 65535, 65535, 0)), 4, 2);
+    t.sheet("mode 8", &with(3, group(1, 0, 9, 8)), 4, 3);
+    t.sheet("mode 256", &with(4, group(1, 0, 9, 256)), 4, 4);
+    t.sheet("last group with lo 65535", &with(4, group(1, 65535, 9, 0)), 4, 4);
+    for label in ["a", "A B", "A_", "[", "@", "/", ":", ",", "."] {
+        t.sheet(&format!("label {label}"), &with(5, name(1, label)), 4, 5);
+    }
+    t.sheet("label with a zero byte", &with(7, name(1, "C\0")), 4, 7);
+    t.sheet("label of 16 with a small last letter", &with(7, name(1, "ABCDEFGHIJKLMNOp")), 4, 7);
+    t.sheet("count with lo 65535", &with(8, count(1, 65535, 65535)), 4, 8);
+    t.sheet("inside with m 0", &with(9, record(5, &words(&[0, 2, 1, 1]))), 4, 9);
+    t.sheet("inside with n 0", &with(9, record(5, &words(&[2, 0, 1, 1]))), 4, 9);
+    t.sheet("inside with m 9", &with(9, lists(5, &[1; 9], &[1])), 4, 9);
+    t.sheet("apart with n 9", &with(10, lists(6, &[1], &[1; 9])), 4, 10);
+    t.sheet("apart with one name too many", &with(10, record(6, &words(&[1, 1, 1, 1, 1]))), 4, 10);
+    t.sheet("apart with one name too few", &with(10, record(6, &words(&[1, 2, 1, 1]))), 4, 10);
+    t.sheet("m that wraps", &with(10, record(6, &words(&[65535, 3, 1, 1]))), 4, 10);
+
+    // 5.
+    t.sheet("root with parent 1", &with(2, group(1, 0, 9, 0)), 5, 2);
+    t.sheet("second group with parent 0", &with(3, group(0, 0, 9, 0)), 5, 3);
+    t.sheet("second group its own parent", &with(3, group(2, 0, 9, 0)), 5, 3);
+    t.sheet("parent later", &with(3, group(3, 0, 9, 0)), 5, 3);
+    t.sheet("last group its own parent", &with(4, group(3, 0, 9, 0)), 5, 4);
+    t.sheet("parent 257", &with(4, group(257, 0, 9, 0)), 5, 4);
+    t.sheet("parent 65535", &with(4, group(65535, 0, 9, 0)), 5, 4);
+    t.sheet("first name for group 4", &with(5, name(4, "A")), 5, 5);
+    t.sheet("name for group 65535", &with(6, name(65535, "B")), 5, 6);
+    t.sheet("last name for group 257", &with(7, name(257, "C")), 5, 7);
+    t.sheet("count of name 0", &with(8, count(0, 0, 9)), 5, 8);
+    t.sheet("count of name 4", &with(8, count(4, 0, 9)), 5, 8);
+    t.sheet("inside, left name 0", &with(9, inside(&[0], &[1])), 5, 9);
+    t.sheet("inside, second right name 4", &with(9, inside(&[1], &[1, 4])), 5, 9);
+    t.sheet("apart, last of 16 names 4", &with(10, apart(&[1; 8], &[1, 1, 1, 1, 1, 1, 1, 4])), 5, 10);
+    let mut no_names = head(1, 0, 1);
+    no_names.extend(group(0, 0, 9, 0));
+    no_names.extend(count(1, 0, 9));
+    t.sheet("a claim without names", &no_names, 5, 3);
+
+    // 6: a first name can't meet it.
+    t.sheet("second label as the first", &with(6, name(2, "A")), 6, 6);
+    t.sheet("third label as the first", &with(7, name(3, "A")), 6, 7);
+    t.sheet("third label as the second", &with(7, name(2, "B")), 6, 7);
+    let mut ends_in_name = head(1, 3, 0);
+    ends_in_name.extend([group(0, 0, 9, 0), name(0, "ABCDEFGHIJKLMNOP"), name(1, "B"), name(1, "ABCDEFGHIJKLMNOP")].concat());
+    t.sheet("last record: a label of 16 again", &ends_in_name, 6, 5);
+    let prefix = [head(1, 3, 0), group(0, 0, 9, 0), name(0, "AB"), name(1, "A"), name(1, "ABC")].concat();
+    t.register("labels that begin alike differ", &prefix, &[], 0, 0);
+
+    // 7.
+    for tail in [vec![0], vec![0, 0], vec![255; 3], count(1, 0, 9), vec![1; 5000]] {
+        let mut b = whole.clone();
+        b.extend(&tail);
+        t.sheet(&format!("{} bytes after the last record", tail.len()), &b, 7, 11);
+    }
+    let mut one = [head(1, 0, 0), group(0, 0, 9, 0)].concat();
+    t.register("one group", &one, &[], 0, 0);
+    one.push(7);
+    t.sheet("a byte after the only group", &one, 7, 3);
+
+    // The largest sheet: 6,924 bytes, and one more.
+    let mut large = head(128, 128, 64);
+    for g in 1..=128u16 {
+        large.extend(group(if g == 1 { 0 } else { 1 }, 0, NO_END, 0));
+    }
+    for n in 1..=128 {
+        large.extend(name(n, &format!("LONGLABEL-{n:06}")));
+    }
+    for _ in 0..64 {
+        large.extend(inside(&[1, 2, 3, 4, 5, 6, 7, 8], &[128, 1, 127, 126, 125, 124, 123, 122]));
+    }
+    assert_eq!(large.len(), 6924);
+    t.register("the largest sheet", &large, &[], 0, 0);
+    t.register("the largest sheet, a member of groups 1 and 128", &large, &row(1, &[1, 128]), 0, 0);
+    t.verdicts("the largest sheet", &large, &[Holds; 64]);
+    let mut last_label = large.clone();
+    let at = 12 + 128 * 12 + 127 * 22 + 6;
+    last_label[at..at + 16].copy_from_slice(b"LONGLABEL-000001");
+    t.sheet("the 128th label as the first", &last_label, 6, 257);
+    large.push(0);
+    t.sheet("the largest sheet and a byte", &large, 7, 322);
+}
+
+fn reading_pairs(t: &mut Table) {
+    // 1 and 2.
+    t.sheet("1+2 first", &with(1, framed(65535, 9, &words(&[1, 3, 3, 3]))), 1, 1);
+    t.sheet("1+2 middle", &with(5, framed(65535, 2, &words(&[1, 65]))), 1, 5);
+    t.sheet("1+2 last", &with(10, framed(11, 1, &words(&[1, 1, 2, 3]))), 1, 10);
+    t.sheet("1+2, length 1", &with(10, framed(1, 1, &words(&[1, 1, 2, 3]))), 1, 10);
+    // 2 and 3.
+    t.sheet("2+3 first", &with(1, record(2, &[0; 3])), 2, 1);
+    t.sheet("2+3 middle", &with(5, record(4, &[0; 30])), 2, 5);
+    t.sheet("2+3 last", &with(10, record(9, &[])), 2, 10);
+    // 3 and 4.
+    t.sheet("3+4 first", &with(1, record(1, &words(&[2, 0, 129, 65, 0]))), 3, 1);
+    t.sheet("3+4 group", &with(3, record(2, &words(&[1, 65535, 0, 8, 0]))), 3, 3);
+    t.sheet("3+4 name", &with(5, name(1, "abcdefghijklmnopq")), 3, 5);
+    t.sheet("3+4 count", &with(8, record(4, &words(&[1, 65535, 0, 0]))), 3, 8);
+    t.sheet("3+4 last", &with(10, record(6, &[0, 0, 9, 0, 1, 0, 1, 0, 1])), 3, 10);
+    // 4 and 5.
+    t.sheet("4+5 root", &with(2, group(1, 0, 9, 8)), 4, 2);
+    t.sheet("4+5 group", &with(3, group(9, 65535, 9, 0)), 4, 3);
+    t.sheet("4+5 name", &with(5, name(9, "a")), 4, 5);
+    t.sheet("4+5 count", &with(8, count(0, 65535, 9)), 4, 8);
+    t.sheet("4+5 last", &with(10, record(6, &words(&[1, 3, 0, 9]))), 4, 10);
+    // 5 and 6; 4 and 6.
+    t.sheet("5+6 second name", &with(6, name(4, "A")), 5, 6);
+    t.sheet("5+6 last name", &with(7, name(4, "B")), 5, 7);
+    t.sheet("4+6", &with2(6, name(2, "a"), 5, name(1, "a")), 4, 5);
+    // 6 and 7.
+    let ends = [head(1, 2, 0), group(0, 0, 9, 0), name(1, "A"), name(1, "A"), vec![0]].concat();
+    t.sheet("6+7", &ends, 6, 4);
+    // Of two records the earlier one counts, whatever the number.
+    t.sheet("5 before 1", &with2(3, group(3, 0, 9, 0), 4, framed(0, 2, &[])), 5, 3);
+    t.sheet("6 before 2", &with2(6, name(2, "A"), 7, group(1, 0, 9, 0)), 6, 6);
+    t.sheet("4 before 1", &with2(2, group(0, 0, 9, 8), 3, framed(65535, 2, &[])), 4, 2);
+    let mut tail = with(8, count(9, 0, 9));
+    tail.push(0);
+    t.sheet("5 before 7", &tail, 5, 8);
+    // 7 and 8: an impossible sheet with a byte behind it.
+    let mut b = groups(&[(0, 3, 2, 0)]);
+    b.push(0);
+    t.sheet("7+8", &b, 7, 3);
+}
+
+fn registers(t: &mut Table) {
+    let s = base().concat();
+    let rows = |n: u32| -> Bytes { (1..=n).flat_map(|m| row(m, &[])).collect() };
+    let join = |parts: &[Bytes]| parts.concat();
+
+    // 10.
+    t.register("2,048 rows", &s, &rows(2048), 0, 0);
+    t.register_refused("2,049 rows", &s, &rows(2049), 10, 2049);
+    t.register_refused("2,050 rows", &s, &rows(2050), 10, 2049);
+    t.register_refused("10+11: a byte after 2,048 rows", &s, &join(&[rows(2048), vec![1]]), 10, 2049);
+    t.register_refused("10+11: a wrong row after 2,048", &s, &join(&[rows(2048), vec![0; 24]]), 10, 2049);
+    t.register_refused("11 before 10", &s, &join(&[rows(1000), vec![0; 24], rows(1500)]), 11, 1001);
+    t.register_refused("11 at row 2,048", &s, &join(&[rows(2047), vec![22, 0, 32]]), 11, 2048);
+    t.register_refused("12 at row 2,048", &s, &join(&[rows(2047), row(2047, &[])]), 12, 2048);
+    t.register_refused("13 at row 2,048", &s, &join(&[rows(2047), row(2048, &[4])]), 13, 2048);
+
+    // 11: first, middle, last.
+    let bad: Vec<(&str, Bytes)> = vec![
+        ("length 21", framed(21, 32, &row(2, &[])[4..])),
+        ("length 23", framed(23, 32, &row(2, &[])[4..])),
+        ("length 0", framed(0, 32, &row(2, &[])[4..])),
+        ("length 1", framed(1, 32, &row(2, &[])[4..])),
+        ("length 65535", framed(65535, 32, &row(2, &[])[4..])),
+        ("length 278", framed(278, 32, &row(2, &[])[4..])),
+        ("kind 33", framed(22, 33, &row(2, &[])[4..])),
+        ("kind 0", framed(22, 0, &row(2, &[])[4..])),
+        ("kind 288", framed(22, 288, &row(2, &[])[4..])),
+    ];
+    for (what, b) in &bad {
+        t.register_refused(&format!("first row: {what}"), &s, &join(&[b.clone(), row(3, &[])]), 11, 1);
+        t.register_refused(&format!("middle row: {what}"), &s, &join(&[row(1, &[]), b.clone(), row(3, &[])]), 11, 2);
+        t.register_refused(&format!("last row: {what}"), &s, &join(&[row(1, &[]), b.clone()]), 11, 2);
+    }
+    for keep in [1, 3, 4, 8, 23] {
+        let piece = row(9, &[])[..keep].to_vec();
+        t.register_refused(&format!("only row: {keep} bytes"), &s, &piece, 11, 1);
+        t.register_refused(&format!("last row: {keep} bytes"), &s, &join(&[rows(5), piece]), 11, 6);
+    }
+
+    // 12.
+    t.register_refused("first member 0", &s, &row(0, &[]), 12, 1);
+    t.register_refused("middle member as before", &s, &join(&[row(5, &[]), row(5, &[]), row(6, &[])]), 12, 2);
+    t.register_refused("last member falls", &s, &join(&[row(5, &[]), row(6, &[]), row(3, &[])]), 12, 3);
+    t.register_refused("last member 0", &s, &join(&[row(5, &[]), row(0, &[])]), 12, 2);
+    t.register_refused("after the greatest", &s, &join(&[row(NONE, &[]), row(NONE, &[])]), 12, 2);
+    t.register_refused("256 after 511", &s, &join(&[row(511, &[]), row(256, &[])]), 12, 2);
+    t.register("members 255, 256, 65536, greatest", &s, &join(&[row(255, &[]), row(256, &[]), row(65536, &[]), row(NONE, &[])]), 0, 0);
+
+    // 13.
+    t.register_refused("bit 4 in the first row", &s, &join(&[row(1, &[4]), row(2, &[])]), 13, 1);
+    t.register_refused("bit 9 in the middle", &s, &join(&[row(1, &[]), row(2, &[1, 9]), row(3, &[])]), 13, 2);
+    t.register_refused("bit 128 in the last", &s, &join(&[row(1, &[1, 3]), row(2, &[128])]), 13, 2);
+    t.register_refused("bit 65 above 64 groups", &star(64), &row(1, &[1, 65]), 13, 1);
+    t.register("bit 64 of 64", &star(64), &row(1, &[1, 64]), 0, 0);
+    t.register("bit 65 of 65", &star(65), &row(1, &[1, 65]), 0, 0);
+    t.register("bit 128 of 128", &star(128), &row(1, &[1, 128]), 0, 0);
+
+    // Pairs.
+    t.register_refused("11+12", &s, &framed(22, 31, &row(0, &[])[4..]), 11, 1);
+    t.register_refused("11+12 last", &s, &join(&[row(7, &[]), framed(21, 32, &row(7, &[])[4..])]), 11, 2);
+    t.register_refused("12+13", &s, &row(0, &[4]), 12, 1);
+    t.register_refused("12+13 last", &s, &join(&[row(7, &[]), row(6, &[100])]), 12, 2);
+    t.register_refused("13+14", &s, &row(1, &[4]), 13, 1);
+    t.register_refused("13 before 11", &s, &join(&[row(1, &[4]), vec![0; 24]]), 13, 1);
+    t.register_refused("12 before 11", &s, &join(&[row(0, &[]), vec![0; 3]]), 12, 1);
+    t.register_refused("13 before 12", &s, &join(&[row(5, &[4]), row(5, &[])]), 13, 1);
+    // A refusal in the sheet and one in the register.
+    t.register_refused("1 and 11", &cut(10, 5), &[0], 1, 10);
+    t.register_refused("2 and 12", &with(10, name(1, "Z")), &row(0, &[]), 2, 10);
+    t.register_refused("5 and 13", &with(4, group(3, 0, 9, 0)), &row(1, &[128]), 5, 4);
+    t.register_refused("7 and 10", &join(&[s.clone(), vec![0]]), &rows(2049), 7, 11);
+    // All rows are read before a rule is named.
+    t.register_refused("a broken rule, then a bad row", &s, &join(&[row(1, &[2]), vec![0; 24]]), 11, 2);
+
+    // Rules. Groups: 1 root 0 to 3; 2 (parent 1, 'same', 0 up); 3 and 4 (parent 2); 5 (parent 1,
+    // 'disjoint' and 'cover', 0 to 2); 6 and 7 (parent 5, 6 with lo 1).
+    let rules = |lo6: u16| {
+        groups(&[
+            (0, 0, 3, 0),
+            (1, 0, NO_END, 4),
+            (2, 0, NO_END, 0),
+            (2, 0, NO_END, 0),
+            (1, 0, 2, 3),
+            (5, lo6, NO_END, 0),
+            (5, 0, NO_END, 0),
+        ])
+    };
+    let z = rules(0);
+    t.register("no rows, lo 1 at group 6", &rules(1), &[], 6, 5);
+    t.register("no rows", &z, &[], 0, 0);
+    t.register("rows in no group", &z, &rows(9), 0, 0);
+    t.register("fits", &z, &join(&[row(1, &[1, 2, 3, 4]), row(2, &[1, 5, 6]), row(4, &[1, 5, 7])]), 0, 0);
+    t.register("rule 1 at group 2", &z, &row(1, &[2, 3, 4]), 2, 1);
+    t.register("rule 1 at the last group", &z, &join(&[row(1, &[1]), row(2, &[1, 7])]), 7, 1);
+    t.register("rule 2 at the first son", &z, &row(1, &[1, 2, 4]), 3, 2);
+    t.register("rule 2 at the second son", &z, &row(1, &[1, 2, 3]), 4, 2);
+    t.register("rule 1 before rule 2", &z, &join(&[row(1, &[1, 2, 4]), row(2, &[1, 3])]), 3, 1);
+    t.register("rule 3", &z, &row(1, &[1, 5]), 5, 3);
+    t.register("rule 4", &z, &row(1, &[1, 5, 6, 7]), 5, 4);
+    t.register("rule 3 before rule 4", &z, &join(&[row(1, &[1, 5, 6, 7]), row(2, &[1, 5])]), 5, 3);
+    t.register("rule 4 of a member outside the group", &z, &row(1, &[1, 6, 7]), 5, 4);
+    t.register("rule 1 where only one son has it", &z, &row(1, &[1, 6]), 6, 1);
+    t.register("rule 6 at the root", &z, &join(&[row(1, &[1]), row(2, &[1]), row(3, &[1]), row(4, &[1])]), 1, 6);
+    t.register("the root's hi is met", &z, &join(&[row(1, &[1]), row(2, &[1]), row(3, &[1]), row(4, &[])]), 0, 0);
+    let five = join(&[row(1, &[1, 5, 6]), row(2, &[1, 5, 6]), row(3, &[1, 5, 7])]);
+    t.register("rule 6 at group 5", &z, &five, 5, 6);
+    t.register("the lower group first", &z, &join(&[row(1, &[1, 5, 6, 7]), row(2, &[2])]), 2, 1);
+    t.register("rule 5 before rule 6", &groups(&[(0, 3, 2, 0)]), &[], 1, 5);
+    t.register("an impossible sheet is checked", &groups(&[(0, 3, 2, 0)]), &rows(2), 1, 5);
+    let three = join(&[row(1, &[1]), row(2, &[1]), row(3, &[1])]);
+    t.register("an impossible sheet, rule 6", &groups(&[(0, 3, 2, 0)]), &three, 1, 6);
+    t.register("a leaf with cover", &groups(&[(0, 0, 9, 2)]), &row(1, &[1]), 1, 3);
+    t.register("a leaf with 'same' and 'disjoint'", &groups(&[(0, 0, 9, 5)]), &row(1, &[1]), 0, 0);
+    t.register("no upper end", &groups(&[(0, 0, NO_END, 0)]), &(1..=2048).flat_map(|m| row(m, &[1])).collect::<Bytes>(), 0, 0);
+    t.register("hi 2,047 and 2,048 members", &groups(&[(0, 0, 2047, 0)]), &(1..=2048).flat_map(|m| row(m, &[1])).collect::<Bytes>(), 1, 6);
+    t.register("lo 2,048 and as many members", &groups(&[(0, 2048, 2048, 0)]), &(1..=2048).flat_map(|m| row(m, &[1])).collect::<Bytes>(), 0, 0);
+    t.register("lo 65,534", &groups(&[(0, 65534, 65534, 0)]), &three, 1, 5);
+}
+
+// A root without mode and n - 1 sons, all free.
+fn star(n: u16) -> Bytes {
+    let list: Vec<(u16, u16, u16, u16)> =
+        (1..=n).map(|g| (if g == 1 { 0 } else { 1 }, 0, NO_END, 0)).collect();
+    groups(&list)
+}
+
+fn ranges(t: &mut Table) {
+    // The printed case.
+    t.ranges(
+        "printed case",
+        &printed(),
+        &[[10, 11, 1, 10], [4, 5, 1, 5], [5, 6, 6, 5], [3, 5, 1, 3]],
+    );
+    // Worked sheets.
+    t.impossible("disjoint root hi 3, sons with lo 2 and 2", &groups(&[(0, 0, 3, 1), (1, 2, NO_END, 0), (1, 2, NO_END, 0)]));
+    t.ranges(
+        "disjoint root hi 4, sons with lo 2 and 2",
+        &groups(&[(0, 0, 4, 1), (1, 2, NO_END, 0), (1, 2, NO_END, 0)]),
+        &[[4, 4, 1, 4], [2, 2, 1, 2], [2, 2, 3, 2]],
+    );
+    t.ranges("cover leaf, lo 0", &groups(&[(0, 0, 7, 2)]), &[[0, 0, 1, 0]]);
+    t.ranges("cover leaf, no upper end", &groups(&[(0, 0, NO_END, 2)]), &[[0, 0, 1, 0]]);
+    t.impossible("cover leaf, lo 1", &groups(&[(0, 1, 7, 2)]));
+    for mode in [5, 7] {
+        t.ranges(
+            "same with disjoint, two sons",
+            &groups(&[(0, 0, 7, mode), (1, 0, 7, 0), (1, 0, NO_END, 0)]),
+            &[[0, 0, 1, 0], [0, 0, 1, 0], [0, 0, 1, 0]],
+        );
+        t.impossible("same with disjoint, two sons, one with lo 1", &groups(&[(0, 0, 7, mode), (1, 0, 7, 0), (1, 1, 7, 0)]));
+        t.ranges(
+            "same with disjoint, one son: merely equal",
+            &groups(&[(0, 2, 7, mode), (1, 3, 9, 0)]),
+            &[[3, 7, 1, 3], [3, 7, 1, 3]],
+        );
+    }
+    for mode in [4, 6] {
+        t.ranges(
+            "same, two sons",
+            &groups(&[(0, 0, 7, mode), (1, 2, NO_END, 0), (1, 0, 6, 0)]),
+            &[[2, 6, 1, 2], [2, 6, 1, 2], [2, 6, 1, 2]],
+        );
+    }
+    for mode in [4, 5] {
+        t.ranges("same without sons", &groups(&[(0, 2, 7, mode)]), &[[2, 7, 1, 2]]);
+    }
+    for mode in [6, 7] {
+        t.ranges("same and cover without sons", &groups(&[(0, 0, 7, mode)]), &[[0, 0, 1, 0]]);
+    }
+    t.ranges(
+        "root 5 to 5, A 0 to 5, B 5 to 5",
+        &groups(&[(0, 5, 5, 0), (1, 0, 5, 0), (1, 5, 5, 0)]),
+        &[[5, 5, 1, 5], [0, 5, 1, 0], [5, 5, 1, 5]],
+    );
+    t.ranges(
+        "cover sons with hi 3 and 2, root lo 5",
+        &groups(&[(0, 5, NO_END, 2), (1, 0, 3, 0), (1, 0, 2, 0)]),
+        &[[5, 5, 1, 5], [3, 3, 1, 3], [2, 2, 4, 2]],
+    );
+    t.ranges(
+        "cover sons with hi 3 and 2, root lo 4",
+        &groups(&[(0, 4, NO_END, 2), (1, 0, 3, 0), (1, 0, 2, 0)]),
+        &[[4, 5, 1, 4], [2, 3, 1, 3], [1, 2, 3, 2]],
+    );
+    t.impossible("cover sons with hi 3 and 2, root lo 6", &groups(&[(0, 6, NO_END, 2), (1, 0, 3, 0), (1, 0, 2, 0)]));
+    t.ranges("no upper end", &groups(&[(0, 0, NO_END, 0)]), &[[0, NONE, 1, 0]]);
+    t.ranges("65,534 upward", &groups(&[(0, 65534, NO_END, 0)]), &[[65534, NONE, 1, 65534]]);
+    t.ranges("0 to 65,534", &groups(&[(0, 0, 65534, 0)]), &[[0, 65534, 1, 0]]);
+    // Traps.
+    t.ranges(
+        "trap: sons of a cover-only root are not capped",
+        &groups(&[(0, 5, 5, 2), (1, 3, 5, 0), (1, 3, 5, 0)]),
+        &[[5, 5, 1, 5], [3, 5, 1, 5], [3, 5, 1, 5]],
+    );
+    t.ranges(
+        "trap: disjoint without cover raises no least",
+        &groups(&[(0, 5, 5, 1), (1, 0, 3, 0), (1, 0, 1, 0)]),
+        &[[5, 5, 1, 5], [0, 3, 1, 0], [0, 1, 1, 0]],
+    );
+    t.ranges(
+        "cover alone raises a least, disjoint alone lowers a greatest",
+        &groups(&[(0, 6, 6, 0), (1, 6, 6, 2), (2, 0, 4, 0), (2, 0, 5, 0), (1, 6, 6, 1), (5, 1, 9, 0), (5, 2, 9, 0)]),
+        &[[6, 6, 1, 6], [6, 6, 1, 6], [1, 4, 1, 4], [2, 5, 2, 5], [6, 6, 1, 6], [1, 4, 1, 1], [2, 5, 2, 2]],
+    );
+    t.ranges(
+        "a parent narrows two levels down",
+        &groups(&[(0, 0, 4, 0), (1, 0, NO_END, 0), (2, 0, NO_END, 0)]),
+        &[[0, 4, 1, 0], [0, 4, 1, 0], [0, 4, 1, 0]],
+    );
+    t.ranges(
+        "disjoint with cover: least, greatest and what is left",
+        &groups(&[(0, 7, 7, 3), (1, 1, 4, 0), (1, 1, 4, 0), (1, 1, NO_END, 0)]),
+        &[[7, 7, 1, 7], [1, 4, 1, 4], [1, 4, 5, 2], [1, 5, 7, 1]],
+    );
+    t.ranges(
+        "disjoint: sons side by side, an empty one between",
+        &groups(&[(0, 0, 9, 1), (1, 2, 9, 0), (1, 0, 9, 0), (1, 3, 9, 0)]),
+        &[[5, 9, 1, 5], [2, 6, 1, 2], [0, 4, 3, 0], [3, 7, 3, 3]],
+    );
+    // lo above hi, anywhere.
+    t.impossible("lo above hi at the root", &groups(&[(0, 5, 4, 0)]));
+    t.impossible("lo above hi in the middle", &groups(&[(0, 0, 9, 0), (1, 5, 4, 0), (1, 0, 9, 0)]));
+    t.impossible("lo above hi at the last of a chain", &groups(&[(0, 0, 9, 0), (1, 0, 9, 0), (2, 65534, 0, 0)]));
+    t.impossible("a son's lo above the root's hi", &groups(&[(0, 0, 3, 0), (1, 0, 9, 0), (2, 4, 9, 0)]));
+
+    // 127 sons of 65,534.
+    let wide = |mode: u16, lo: u16, son_lo: u16| {
+        let mut list = vec![(0, lo, NO_END, mode)];
+        list.extend([(1, son_lo, 65534, 0); 127]);
+        groups(&list)
+    };
+    let mut want = vec![[0, 8_322_818, 1, 0]];
+    want.extend([[0, 65534, 1, 0]; 127]);
+    t.ranges("127 sons of 65,534 under cover", &wide(2, 0, 0), &want);
+    let mut want = vec![[65534, 8_322_818, 1, 65534]];
+    want.extend([[65534, 65534, 1, 65534]; 127]);
+    t.ranges("127 sons of just 65,534 under cover", &wide(2, 0, 65534), &want);
+    let mut want = vec![[8_322_818, 8_322_818, 1, 8_322_818]];
+    for k in 0..127 {
+        want.push([65534, 65534, 1 + 65534 * k, 65534]);
+    }
+    t.ranges("127 sons of just 65,534 under disjoint and cover", &wide(3, 0, 65534), &want);
+    let mut want = vec![[8_322_818, NONE, 1, 8_322_818]];
+    for k in 0..127 {
+        want.push([65534, 65534, 1 + 65534 * k, 65534]);
+    }
+    t.ranges("127 sons of just 65,534 under disjoint", &wide(1, 0, 65534), &want);
+    // A chain of 128: the last group's lo goes up to the root, the root's hi down.
+    let mut list = vec![(0, 0, 40, 0)];
+    for g in 1..128u16 {
+        list.push((g, if g == 127 { 7 } else { 0 }, NO_END, if g % 2 == 0 { 4 } else { 0 }));
+    }
+    t.ranges("a chain of 128", &groups(&list), &[[7, 40, 1, 7]; 128]);
+}
+
+fn printed() -> Bytes {
+    let mut b = head(4, 4, 3);
+    b.extend([group(0, 10, 12, 3), group(1, 0, 5, 0), group(1, 2, 6, 0), group(2, 3, NO_END, 0)].concat());
+    b.extend([name(1, "ALL"), name(2, "LEFT"), name(3, "RIGHT"), name(4, "NEW")].concat());
+    b.extend([count(2, 4, 5), apart(&[4], &[3]), inside(&[2], &[4])].concat());
+    b
+}
+
+fn claims(t: &mut Table) {
+    t.verdicts("printed case", &printed(), &[Holds, Holds, Denied]);
+    t.no_claim("printed case", &printed(), &[0, 4, 5, 64, 65, 65536, 65537, 65538, NONE]);
+    t.no_claim("no claims", &groups(&[(0, 0, 9, 0)]), &[0, 1, 65536, 65537, NONE]);
+    // 8 and 9 at once: 'impossible' asks all claim numbers. 9 and 14 at once: 'no_claim' has
+    // buffers of 0 and 5 bytes.
+    let impossible = sheet(&[(0, 5, 4, 0)], &[1], &[count(1, 0, NO_END)]);
+    t.impossible("8+9", &impossible);
+
+    let all = [1, 2, 3];
+    t.verdicts(
+        "root 5 to 5, A 0 to 5, B 5 to 5",
+        &sheet(
+            &[(0, 5, 5, 0), (1, 0, 5, 0), (1, 5, 5, 0)],
+            &all,
+            &[inside(&[2], &[3]), inside(&[3], &[2]), inside(&[1], &[3]), apart(&[2], &[3]), apart(&[1], &[3])],
+        ),
+        &[Holds, Denied, Holds, Denied, Denied],
+    );
+    let cover = |lo: u16| {
+        sheet(
+            &[(0, lo, NO_END, 2), (1, 0, 3, 0), (1, 0, 2, 0)],
+            &all,
+            &[apart(&[2], &[3]), inside(&[1], &[2, 3]), inside(&[1], &[2]), inside(&[2], &[3]), count(2, 3, 3)],
+        )
+    };
+    t.verdicts("cover sons with hi 3 and 2, root lo 5", &cover(5), &[Holds, Holds, Denied, Denied, Holds]);
+    t.verdicts("cover sons with hi 3 and 2, root lo 4", &cover(4), &[Denied, Holds, Denied, Denied, Denied]);
+    t.verdicts(
+        "root without upper end",
+        &sheet(&[(0, 0, NO_END, 0)], &[1], &[count(1, 0, 65534), count(1, 0, NO_END), count(1, 1, NO_END), count(1, 65534, 65534)]),
+        &[Denied, Holds, Denied, Denied],
+    );
+    t.verdicts(
+        "root 65,534 upward",
+        &sheet(&[(0, 65534, NO_END, 0)], &[1], &[count(1, 65534, NO_END), count(1, 65534, 65534), count(1, 0, 65533)]),
+        &[Holds, Denied, Denied],
+    );
+    t.verdicts(
+        "root 0 to 65,534",
+        &sheet(&[(0, 0, 65534, 0)], &[1], &[count(1, 0, 65534), count(1, 0, 65533), count(1, 0, NO_END)]),
+        &[Holds, Denied, Holds],
+    );
+    t.verdicts(
+        "cover root over two sons of hi 65,534",
+        &sheet(&[(0, 0, NO_END, 2), (1, 0, 65534, 0), (1, 0, 65534, 0)], &all, &[count(1, 0, 65534), count(1, 0, NO_END), count(2, 0, 65534)]),
+        &[Denied, Holds, Holds],
+    );
+    let mut wide = vec![(0, 0, NO_END, 3)];
+    wide.extend([(1, 65534, 65534, 0); 127]);
+    t.verdicts(
+        "127 sons of 65,534",
+        &sheet(&wide, &[1, 2, 128], &[count(1, 0, 65534), count(1, 65534, NO_END), apart(&[2], &[3]), inside(&[1], &[2, 3])]),
+        &[Denied, Holds, Holds, Denied],
+    );
+    t.verdicts(
+        "lo above hi in a claim",
+        &sheet(&[(0, 2, 2, 0)], &[1, 0], &[count(1, 3, 2), count(1, 2, 1), count(1, 1, 0), count(2, 1, 0), count(1, 65534, 0)]),
+        &[Denied; 5],
+    );
+    // The empty-set name: inside all, apart even from itself.
+    t.verdicts(
+        "the empty-set name",
+        &sheet(
+            &[(0, 0, 4, 0), (1, 0, 4, 2)],
+            &[1, 0, 2],
+            &[
+                inside(&[2], &[1]),
+                inside(&[2], &[2]),
+                apart(&[2], &[2]),
+                apart(&[2], &[1]),
+                apart(&[1], &[2]),
+                inside(&[1], &[2]),
+                inside(&[1, 2], &[1]),
+                inside(&[1], &[2, 1]),
+                inside(&[3], &[2]),
+                apart(&[1, 2], &[2, 1]),
+                count(2, 0, 0),
+                count(2, 1, 5),
+                count(2, 0, NO_END),
+                count(2, 1, NO_END),
+                inside(&[2], &[3]),
+            ],
+        ),
+        &[Holds, Holds, Holds, Holds, Holds, Denied, Holds, Holds, Holds, Denied, Holds, Denied, Holds, Denied, Holds],
+    );
+    t.verdicts(
+        "a set with itself",
+        &sheet(&[(0, 0, 4, 0), (1, 0, 0, 0)], &[1, 1, 2], &[inside(&[1], &[1]), inside(&[1], &[2]), apart(&[1], &[1]), apart(&[1], &[2]), apart(&[3], &[3]), inside(&[3], &[3])]),
+        &[Holds, Holds, Denied, Denied, Holds, Holds],
+    );
+    t.verdicts(
+        "repeated names",
+        &sheet(
+            &[(0, 0, 4, 2), (1, 0, 4, 0), (1, 0, 4, 0)],
+            &all,
+            &[inside(&[2, 2, 2, 2, 2, 2, 2, 2], &[1, 1, 1, 1, 1, 1, 1, 1]), inside(&[1, 1], &[2, 2]), inside(&[1, 1], &[2, 3, 2]), apart(&[2, 2], &[3, 3, 3])],
+        ),
+        &[Holds, Denied, Holds, Denied],
+    );
+    t.verdicts(
+        "a cover root of 2 to 2 over three sons of 0 to 1",
+        &sheet(
+            &[(0, 2, 2, 2), (1, 0, 1, 0), (1, 0, 1, 0), (1, 0, 1, 0)],
+            &[1, 2, 3, 4],
+            &[apart(&[2], &[3]), apart(&[2], &[4]), apart(&[3], &[4]), inside(&[2], &[3, 4]), inside(&[1], &[2, 3]), inside(&[1], &[2, 3, 4]), count(2, 1, 1)],
+        ),
+        &[Denied, Denied, Denied, Denied, Denied, Holds, Denied],
+    );
+    t.verdicts(
+        "sons equal to their parent deep in the tree",
+        &sheet(
+            &[(0, 4, 4, 0), (1, 4, 4, 0), (2, 4, 4, 0), (3, 4, NO_END, 0), (1, 0, 4, 0), (1, 0, NO_END, 0), (6, 3, 3, 0)],
+            &[1, 2, 3, 4, 5, 6, 7],
+            &[inside(&[1], &[4]), inside(&[5], &[4]), inside(&[7], &[4]), inside(&[4], &[7]), apart(&[4], &[5]), count(4, 4, 4), inside(&[5], &[7]), count(6, 3, 4)],
+        ),
+        &[Holds, Holds, Holds, Denied, Denied, Holds, Denied, Holds],
+    );
+    t.verdicts(
+        "trap: ancestry alone",
+        &sheet(
+            &[(0, 0, 9, 4), (1, 0, 9, 0), (1, 0, 9, 0), (2, 0, 0, 0)],
+            &[1, 2, 3, 4],
+            &[inside(&[1], &[2]), inside(&[2], &[3]), inside(&[3], &[2]), inside(&[4], &[3]), inside(&[2], &[4]), apart(&[4], &[1])],
+        ),
+        &[Holds, Holds, Holds, Holds, Denied, Holds],
+    );
+    t.verdicts(
+        "disjoint sons, and what lies below them",
+        &sheet(
+            &[(0, 0, NO_END, 1), (1, 0, NO_END, 0), (1, 0, NO_END, 0), (2, 0, NO_END, 0), (3, 0, NO_END, 0)],
+            &[1, 2, 3, 4, 5],
+            &[apart(&[4], &[5]), apart(&[2, 4], &[3, 5]), apart(&[2], &[4]), inside(&[4], &[3]), inside(&[4], &[2]), inside(&[1], &[2, 3])],
+        ),
+        &[Holds, Holds, Denied, Denied, Holds, Denied],
+    );
+    t.verdicts(
+        "one son: merely equal",
+        &sheet(&[(0, 2, 7, 5), (1, 3, 9, 0)], &[1, 2], &[inside(&[1], &[2]), apart(&[1], &[2]), count(1, 3, 7), count(2, 4, 7)]),
+        &[Holds, Denied, Holds, Denied],
+    );
+    t.verdicts(
+        "same with disjoint, two sons",
+        &sheet(&[(0, 0, 7, 5), (1, 0, 7, 0), (1, 0, 7, 0)], &all, &[apart(&[1], &[1]), count(1, 0, 0), inside(&[1], &[2]), count(2, 1, 7)]),
+        &[Holds, Holds, Holds, Denied],
+    );
+}
