@@ -5,7 +5,7 @@ use measuring::pairs::pair_at;
 use measuring::spans::kind_of;
 use reading::tables::GroupNo;
 use reading::tables::mode_of;
-use runs::place::father_of;
+use runs::place::parent_group;
 ghost use mathlib.Core.Path.{_≡_};
 ghost use Prim.Native.Nat.{_-_, _≤_};
 ghost use lib.ListN.{length, set};
@@ -76,7 +76,7 @@ fn divide_son(
     ensures { λ _. ⌜ (numberIn (now (sizes .exit)) 1 ≡ numberIn (now (sizes .entry)) 1)
         × (markedIn (now (marks .exit)) 1 ≡ markedIn (now (marks .entry)) 1) ⌝ }
 {
-    let p = father_of(groups, size, g);
+    let p = parent_group(groups, size, g);
     let j = p.0 as usize;
     let parts = divided(
         kind_of(mode_of(groups, p)),

@@ -46,6 +46,6 @@ pub fn link_sons(groups: &[u16], size: u16, last: &mut [u16], prev: &mut [u16])
     while n < size {
         n += 1;
         let p = parent_of(groups, GroupNo(n));
-        link_one(last, prev, GroupNo(n), GroupNo(p));
+        link_one(last, prev, GroupNo(n), p);
     }
 }

@@ -93,7 +93,7 @@ fn size_son(
         → Sized (sheetIn (now (groups .entry)) size) f (numberIn (now (sizes .entry))) (numberIn (now (left .entry))) (g .0 - 1)
         → Sized (sheetIn (now (groups .entry)) size) f (numberIn (now (sizes .exit))) (numberIn (now (left .exit))) (g .0)) ⌝ }
 {
-    let p = GroupNo(parent_of(groups, g));
+    let p = parent_of(groups, g);
     let n = size_of(groups, spans, after, sizes, left, p, g);
     put_size(sizes, left, p, g, n);
 }

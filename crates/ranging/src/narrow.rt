@@ -65,7 +65,7 @@ fn narrow_son(
         → Narrowed (sheetIn (now (groups .entry)) size) z (spanIn (now (ranges .entry))) (spanIn (now (rest .entry))) (g .0 - 1)
         → Narrowed (sheetIn (now (groups .entry)) size) z (spanIn (now (ranges .exit))) (spanIn (now (rest .exit))) (g .0)) ⌝ }
 {
-    let p = GroupNo(parent_of(groups, g));
+    let p = parent_of(groups, g);
     let kind = kind_of(mode_of(groups, p));
     let own = out_at(spans, g);
     let others = out_at(after, g);

@@ -1,3 +1,5 @@
 pub mod Tables
+pub mod Meant
+pub mod ClaimHeld
 pub mod Answers
 pub mod Loaded

@@ -3,6 +3,7 @@
 ghost use mathlib.Core.Path.{_≡_};
 ghost use Prim.Native.Nat.{_+_, _-_, _*_, _≤_};
 ghost use lib.ListN.{length, getD, set};
+ghost use Rattle.reading.specs.Meant.{meantNumber, Means};
 
 // Most groups, names and claims of a sheet.
 pub const GROUPS: u16 = 128;
@@ -20,17 +21,44 @@ pub const LABEL_TABLE: usize = 128;
 
 pub const CLAIM_TABLE: usize = 64;
 
-// A group's number and a name's number, each from 1 on.
+// A group's number and a name's number, each from 1 on, are two families. Where a group has no parent (the root) or no link
+// to another group, `GroupNo(0)` stands for 'none'.
 pub struct GroupNo(pub u16);
 
 pub struct NameNo(pub u16);
 
-pub fn parent_of(groups: &[u16], g: GroupNo) -> u16
+// What a name means: the empty set, or a group.
+pub enum Meant {
+    Empty,
+    Group(GroupNo),
+}
+
+// a name's group, as its record has it
+pub fn meaning_of(group: u16) -> Meant
+    ensures { λ r. ⌜ Means group r ⌝ }
+{
+    if group == 0 {
+        return Meant::Empty;
+    }
+    Meant::Group(GroupNo(group))
+}
+
+// the number that stands for it in a record and in the table of names
+pub fn number_meant(m: Meant) -> u16
+    ensures { λ r. ⌜ r ≡ meantNumber m ⌝ }
+{
+    match m {
+        Meant::Empty => 0,
+        Meant::Group(g) => g.0,
+    }
+}
+
+pub fn parent_of(groups: &[u16], g: GroupNo) -> GroupNo
     requires { ⌜ (1 ≤ g .0) × (4 * (g .0) ≤ length (now groups)) ⌝ }
-    ensures { λ r. ⌜ r ≡ getD (now (groups .entry)) (4 * (g .0 - 1)) 0 ⌝ }
+    ensures { λ r. ⌜ r .0 ≡ getD (now (groups .entry)) (4 * (g .0 - 1)) 0 ⌝ }
 {
     let i = g.0 as usize;
-    groups[4 * (i - 1)]
+    GroupNo(groups[4 * (i - 1)])
 }
 
 pub fn lo_of(groups: &[u16], g: GroupNo) -> u16
@@ -73,10 +101,11 @@ pub fn set_hi(groups: &mut [u16], g: GroupNo, x: u16)
     groups[4 * (i - 1) + 2] = x;
 }
 
-pub fn group_of_name(names: &[u16], n: NameNo) -> u16
+// what a name means
+pub fn meant_by(names: &[u16], n: NameNo) -> Meant
     requires { ⌜ (1 ≤ n .0) × (n .0 ≤ length (now names)) ⌝ }
-    ensures { λ r. ⌜ r ≡ getD (now (names .entry)) (n .0 - 1) 0 ⌝ }
+    ensures { λ r. ⌜ Means (getD (now (names .entry)) (n .0 - 1) 0) r ⌝ }
 {
     let i = n.0 as usize;
-    names[i - 1]
+    meaning_of(names[i - 1])
 }

@@ -31,11 +31,11 @@ fn start_under(mode: u16, first: u32, ended: u32, size: u32, own: u32) -> u32
 }
 
 // the parent of a group other than the root
-pub fn father_of(groups: &[u16], size: u16, g: GroupNo) -> GroupNo
+pub fn parent_group(groups: &[u16], size: u16, g: GroupNo) -> GroupNo
     requires { ⌜ Grown (now groups) size × (2 ≤ g .0) × (g .0 ≤ size) ⌝ }
     ensures { λ r. ⌜ Son (tableSheet (now (groups .entry)) size) (r .0) (g .0) × (1 ≤ r .0) × (r .0 < g .0) ⌝ }
 {
-    GroupNo(parent_of(groups, g))
+    parent_of(groups, g)
 }
 
 // where the son g of p starts
@@ -81,7 +81,7 @@ fn place_son(
     ensures { λ _. ⌜ Placed (tableSheet (now (groups .entry)) size) (numberIn (now (sizes .entry))) (numberIn (now
         (firsts .exit))) (numberIn (now (ends .exit))) (g .0) ⌝ }
 {
-    let p = father_of(groups, size, g);
+    let p = parent_group(groups, size, g);
     let first = start_of(groups, size, sizes, firsts, ends, p, g);
     let i = g.0 as usize;
     let j = p.0 as usize;

@@ -21,8 +21,8 @@ use borrow.Author.Needs.{needs}
 use Rattle.choosing.proofs.divide.divide_son.Statement.{statement}
 use Rattle.choosing.proofs.divide.divide_son.Tie as tie
 
-father-of-requires : tie.Need-father-of-requires
-father-of-requires c κs = search needs
+parent-group-requires : tie.Need-parent-group-requires
+parent-group-requires c κs = search needs
 
 cast-j : tie.Need-cast-j
 cast-j c = search needs
@@ -55,7 +55,7 @@ slice-read-divided : tie.Need-slice-read-divided
 slice-read-divided c =
     let c6 = c .before .before .before .before .before .before in
     let s = c6 .before .before .before .before .before .before .before .before in
-    let f = c6 .father-of .ensures in
+    let f = c6 .parent-group .ensures in
     omega (arith, f .1, f .2, s .pre .1 .0 .1, s .pre .1 .0 .2 .rest-long)
 
 sub-divided-2 : tie.Need-sub-divided-2
@@ -65,7 +65,7 @@ slice-read-divided-2 : tie.Need-slice-read-divided-2
 slice-read-divided-2 c =
     let c7 = c .before .before .before .before .before .before .before in
     let s = c7 .before .before .before .before .before .before .before .before in
-    let f = c7 .father-of .ensures in
+    let f = c7 .parent-group .ensures in
     omega (arith, f .1, f .2, s .pre .1 .0 .1, s .pre .1 .0 .2 .states-long)
 
 divided-requires : tie.Need-divided-requires
@@ -74,7 +74,7 @@ divided-requires c κs =
     let c5 = c4 .before in
     let c7 = c5 .before .before in
     let s = c7 .before .before .before .before .before .before .before .before in
-    let f = c7 .father-of in
+    let f = c7 .parent-group in
     let k = in-son _ _ (f .ensures .0) in
     let p = f .result .0 in
     let g = s .args .g .0 in
@@ -107,7 +107,7 @@ leave-requires c κs =
     let s = c23 .before .before .before .before .before .before .before .before in
     let r = s .pre .1 .0 .2 in
     let k = c10 .give .kept in
-    let f = c23 .father-of .ensures in
+    let f = c23 .parent-group .ensures in
     let l = s .pre .1 .0 .1 in
     (f .1, omega (arith, f .2, r .rest-long, k .1 .1 .0), omega (arith, f .2, r .states-long, k .1 .1 .1 .0))
 
@@ -137,11 +137,11 @@ returns c =
     let t = s .pre .0 .0 in
     let r = s .pre .1 .0 .2 in
     let n = size-in (s .args .groups .now) (s .args .size) in
-    let k = in-son _ _ (c28 .father-of .ensures .0) in
+    let k = in-son _ _ (c28 .parent-group .ensures .0) in
     let d = c20 .divided in
     let e = c15 .give .ensures in
     let l = c4 .leave .ensures in
-    let p = c28 .father-of .result .0 in
+    let p = c28 .parent-group .result .0 in
     let g = s .args .g .0 in
     let kind = kind-table _ _ p g _ _ t k (c26 .mode-of .ensures) (c25 .kind-of .ensures) in
     let rest = rest-table p g (s .pre .0 .1) k (c24 .pair-at .ensures) in
@@ -168,7 +168,7 @@ pub divide-son-spec : {M : Type 1} → statement M
 divide-son-spec =
     tie.close
     (tie.spec
-    father-of-requires
+    parent-group-requires
     cast-j
     mode-of-requires
     kind-of-requires

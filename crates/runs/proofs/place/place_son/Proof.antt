@@ -7,8 +7,8 @@ use borrow.Author.Needs.{needs}
 use Rattle.runs.proofs.place.place_son.Statement.{statement}
 use Rattle.runs.proofs.place.place_son.Tie as tie
 
-father-of-requires : tie.Need-father-of-requires
-father-of-requires c κs = search needs
+parent-group-requires : tie.Need-parent-group-requires
+parent-group-requires c κs = search needs
 
 start-of-requires : tie.Need-start-of-requires
 start-of-requires c κs = search needs
@@ -70,16 +70,16 @@ returns c =
     let s = c6 .before .before .before .before .before in
     let t = s .pre .0 .grown in
     let long = length-groupsIn (s .args .groups .now) (s .args .size) in
-    placed-by (s .args .firsts .now) (s .args .ends .now) (c6 .father-of .result .0) (s .args .g .0)
+    placed-by (s .args .firsts .now) (s .args .ends .now) (c6 .parent-group .result .0) (s .args .g .0)
     (c .before .before .before .start-of .result)
-    (t .tree) (t .rooted) (s .pre .0 .balanced) (s .pre .0 .top) (omega arith) (omega arith) (c6 .father-of .ensures .0)
+    (t .tree) (t .rooted) (s .pre .0 .balanced) (s .pre .0 .top) (omega arith) (omega arith) (c6 .parent-group .ensures .0)
     (s .pre .1 .1) (c .before .before .before .start-of .ensures)
 
 pub place-son-spec : {M : Type 1} → statement M
 place-son-spec =
     tie.close
     (tie.spec
-    father-of-requires
+    parent-group-requires
     start-of-requires
     cast-i
     cast-j

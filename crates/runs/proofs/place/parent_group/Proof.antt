@@ -1,9 +1,9 @@
--- `father_of` meets its contract.
+-- `parent_group` meets its contract.
 use native.Mathlib.Omega.{arith}
 use Rattle.runs.specs.Placed.{table-son}
 use borrow.Author.Needs.{needs}
-use Rattle.runs.proofs.place.father_of.Statement.{statement}
-use Rattle.runs.proofs.place.father_of.Tie as tie
+use Rattle.runs.proofs.place.parent_group.Statement.{statement}
+use Rattle.runs.proofs.place.parent_group.Tie as tie
 
 parent-of-requires : tie.Need-parent-of-requires
 parent-of-requires c κs = search needs
@@ -16,5 +16,5 @@ returns c =
     let e = c .parent-of .ensures in
     (rw e k, rw e (k .above), rw e (omega (arith, p .0 .tree .before (a .g .0) (k .group), k .under)))
 
-pub father-of-spec : {M : Type 1} → statement M
-father-of-spec = tie.close (tie.spec parent-of-requires returns)
+pub parent-group-spec : {M : Type 1} → statement M
+parent-group-spec = tie.close (tie.spec parent-of-requires returns)
