@@ -13,7 +13,7 @@ parent-of-requires c κs = search needs
 
 -- the parent's number is below the son's
 son : (c : tie.After-parent-of)
-    → (1 ≤ c .parent-of .result) × (c .parent-of .result < c .before .before .before .before .before .before .args .g .0)
+    → (1 ≤ c .parent-of .result .0) × (c .parent-of .result .0 < c .before .before .before .before .before .before .args .g .0)
 son c =
     let s = c .before .before .before .before .before .before in
     parent-below (s .pre .0) _ _ (s .pre .1 .1 .0) (s .pre .1 .1 .1) (c .parent-of .ensures)
