@@ -14,7 +14,6 @@ use Rattle.meaning.specs.Readable.{tree-of-readable, name-group-most}
 use Rattle.meaning.proofs.SumLaws.{below-suc}
 use Rattle.reading.specs.Tables.{groupsIn, length-groupsIn}
 use Rattle.reading.specs.Loaded.{recordsIn, loadedAs, Held, HeldBy, Loads}
-use Rattle.group_sheet.specs.Reply.{packed}
 use Rattle.reading.specs.declared.records.Head.{Head}
 use Rattle.reading.specs.declared.load.Loaded.{Loaded}
 use Rattle.reading.specs.declared.load.Loaded.the-variants as load
@@ -39,19 +38,6 @@ module _ {r : Loaded} {s groups names labels claims : List ℕ} (w : Loads r (re
 
   pub sheet-tree : (h : Head) → r ≡ load.Sheet h → Tree (sheetOf (groupsIn groups (h .groups)))
   sheet-tree h e = tree-of-readable s _ (sheet-loaded h e)
-
--- a reading is one of the two, and of one value
-pub read-once : {x : Reading Records} {d e : Records} → x ≡ read d → x ≡ read e → d ≡ e
-read-once p q = cc
-
-pub refused-once : {x : Reading Records} {n k m j : ℕ} → x ≡ refused n k → x ≡ refused m j → (n ≡ m) × (k ≡ j)
-refused-once p q = (cc, cc)
-
-pub read-not-refused : {x : Reading Records} {d : Records} {n k : ℕ} → x ≡ read d → x ≡ refused n k → ⊥
-read-not-refused p q = let z : _≡_ {A = ℕ} 0 1 = cc in omega arith
-
-pub packed-eq : {n k m j : ℕ} → n ≡ m → k ≡ j → packed n k ≡ packed m j
-packed-eq a b = rw (a, b)
 
 -- the record at each place
 pub length-recordsIn : {A : Type 0} (value : List ℕ → A) (s places : List ℕ) (n : ℕ) → length (recordsIn value s places n) ≡ n

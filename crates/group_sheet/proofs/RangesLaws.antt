@@ -33,10 +33,8 @@ use Rattle.ranging.specs.Sized.{Arrangeable}
 use Rattle.ranging.specs.Said.{measures-done, measured-free, range-said, bounds-said, arrangement-fits}
 use Rattle.replies.specs.Wrote.{Wrote, rest-kept}
 use Rattle.replies.specs.Written.{RangeAt, RangesPut}
-use Rattle.group_sheet.specs.Reply.{packed, Refused, Replied}
-use Rattle.group_sheet.specs.RangesReply.{rangeAt, firstIn, countIn, greatestOf, RangesIn, Ranges}
-use Rattle.group_sheet.specs.RangesGiven.{Tabled, Placed, RangesPlaced, RangesGiven}
-use Rattle.group_sheet.proofs.LoadedLaws.{packed-eq, read-once, refused-once, read-not-refused}
+use Rattle.group_sheet.specs.RangesReply.{rangeAt, runFirst, runCount, greatestOf, RangesIn}
+use Rattle.group_sheet.specs.RangesGiven.{Tabled, RangesReady, RangesWritten}
 
 -- the groups of a readable sheet, as the table holds them
 pub tabled : (b t : List ℕ) (n : ℕ) (d : Records) → readSheet b ≡ read d → d .groups ≡ groupsIn t n
@@ -89,17 +87,17 @@ module _ {t spans after : List ℕ} {n : ℕ} (k : Tabled t n)
   }
 
 -- the records in the buffer
-pub ranges-placed : {t spans after before out : List ℕ} {n : ℕ} (ranges firsts sizes : List ℕ) → Placed t n spans after before
+pub ranges-placed : {t spans after before out : List ℕ} {n : ℕ} (ranges firsts sizes : List ℕ) → RangesReady t n spans after before
     → ((z : ℕ → Bool → Span) → Measures (sheetIn t n) z spans after → Ranged (sheetIn t n) z (spanIn ranges))
     → Arranged (sheetIn t n) (leastIn spans) (greatestIn spans) (numberIn firsts) (numberIn sizes)
-    → Wrote before 0 (rangeBytes * n) out → RangesPut out n ranges firsts sizes → RangesPlaced t n before out
+    → Wrote before 0 (rangeBytes * n) out → RangesPut out n ranges firsts sizes → RangesWritten t n before out
 unfolding greatestOf topOf
 ranges-placed {t} {spans} {after} {before} {out} {n} ranges firsts sizes p h a w put =
     let k = p .measured in
     let T = p .tabled in
     let at : (g : ℕ) → Group (sheetIn t n) g → RangeAt out (rangeAt g) (getD ranges (2 * (g - 1)) 0) (getD ranges (2 * (g - 1) + 1) 0)
     (numberIn firsts g) (numberIn sizes g) = λ g q. put (g - 1) (omega (arith, q .first, q .last, size-in t n)) in
-    let b = arranged-eq (T .tree) {first' = firstIn out} {size' = countIn out} (λ g q. sym (at g q .first)) (λ g q. sym (at g q .count)) (T .rooted) a in
+    let b = arranged-eq (T .tree) {first' = runFirst out} {size' = runCount out} (λ g q. sym (at g q .first)) (λ g q. sym (at g q .count)) (T .rooted) a in
     record {
       wrote = w;
       ranges = record {
@@ -110,58 +108,3 @@ ranges-placed {t} {spans} {after} {before} {out} {n} ranges firsts sizes p h a w
         fits = arrangement-fits k b;
       };
     }
-
--- a refused sheet, and one that was read
-module _ {sheet before : List ℕ} {r : ℕ} {after : List ℕ} where
-  pub ranges-refused : (n k : ℕ) → readSheet sheet ≡ refused n k → r ≡ packed n k → after ≡ before → Ranges sheet before r after
-  ranges-refused n k e p u = record {
-    unreadable = λ m j f. let o = refused-once e f in record { returned = p ∙ packed-eq (o .0) (o .1); unchanged = u };
-    impossible = λ d f. absurd (read-not-refused f e);
-    short = λ d f. absurd (read-not-refused f e);
-    replied = λ d f. absurd (read-not-refused f e);
-  }
-
-  pub ranges-read : (d : Records) → readSheet sheet ≡ read d → (t : List ℕ) (n : ℕ) → d .groups ≡ groupsIn t n
-      → RangesGiven t n before r after → Ranges sheet before r after
-  unfolding sheetIn
-  ranges-read d e t n i w = record {
-    unreadable = λ m j f. absurd (read-not-refused e f);
-    impossible = λ c f.
-        subst (λ c. (Possible (sheetOf (c .groups)) → ⊥) → Refused 8 0 before r after) (read-once e f) (rw i (w .impossible));
-    short = λ c f. subst
-        (λ c. Possible (sheetOf (c .groups)) → length before < rangeBytes * length (c .groups) → Refused 14 0 before r after)
-        (read-once e f)
-        (rw i (subst (λ m. Possible (sheetOf (groupsIn t n)) → length before < rangeBytes * m → Refused 14 0 before r after)
-        (sym (length-groupsIn t n)) (w .short)));
-    replied = λ c f. subst
-        (λ c. Possible (sheetOf (c .groups)) → rangeBytes * length (c .groups) ≤ length before
-        → Replied (rangeBytes * length (c .groups)) before r after × RangesIn (sheetOf (c .groups)) after)
-        (read-once e f)
-        (rw i (subst (λ m. Possible (sheetOf (groupsIn t n)) → rangeBytes * m ≤ length before
-        → Replied (rangeBytes * m) before r after × RangesIn (sheetOf (groupsIn t n)) after) (sym (length-groupsIn t n)) (w .replied)));
-  }
-
--- the three ends of the ranges under a sheet that was read; b says whether some sets fit
-module _ {t : List ℕ} {n : ℕ} (b : Bool) (h : (b ≡ true) ↔ Possible (sheetIn t n)) {before : List ℕ} {r : ℕ} {after : List ℕ} where
-  pub given-impossible : b ≡ false → r ≡ packed 8 0 → after ≡ before → RangesGiven t n before r after
-  given-impossible e p u = record {
-    impossible = λ i. record { returned = p; unchanged = u };
-    short = λ i. absurd (false≢true (sym e ∙ h .1 i));
-    replied = λ i. absurd (false≢true (sym e ∙ h .1 i));
-  }
-
-  pub given-short : b ≡ true → length before < rangeBytes * n → r ≡ packed 14 0 → after ≡ before → RangesGiven t n before r after
-  given-short e l p u = record {
-    impossible = λ i. absurd (i (h .0 e));
-    short = λ i l. record { returned = p; unchanged = u };
-    replied = λ i m. absurd (omega arith);
-  }
-
-  pub given-replied : b ≡ true → rangeBytes * n ≤ length before → r ≡ packed 0 (rangeBytes * n) → RangesPlaced t n before after
-      → RangesGiven t n before r after
-  given-replied e l p w = record {
-    impossible = λ i. absurd (i (h .0 e));
-    short = λ i m. absurd (omega arith);
-    replied = λ i m.
-        (record { returned = p; sized = w .wrote .sized; rest = rest-kept (w .wrote) (rangeBytes * n) (omega arith) }, w .ranges);
-  }

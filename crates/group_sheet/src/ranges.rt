@@ -1,9 +1,8 @@
 // Ranges with an arrangement.
+use crate::fitting::measure;
 use crate::pairs::pack;
-use measuring::measure::measure_sheet;
 use ranging::arrange::arrange;
 use ranging::narrow::narrow;
-use ranging::narrow::possible;
 use reading::load::Loaded;
 use reading::load::load_sheet;
 use reading::tables::CLAIM_TABLE;
@@ -14,13 +13,15 @@ use replies::put_ranges;
 ghost use mathlib.Core.Path.{_≡_};
 ghost use Prim.Native.Nat.{_*_, _≤_};
 ghost use lib.ListN.{length};
-ghost use Rattle.group_sheet.specs.RangesReply.{Ranges};
-ghost use Rattle.group_sheet.specs.RangesGiven.{Tabled, Placed, RangesPlaced, RangesGiven};
+ghost use Rattle.measuring.specs.Tables.{sheetIn};
+ghost use Rattle.group_sheet.specs.Reply.{call};
+ghost use Rattle.group_sheet.specs.RangesReply.{RangesUnder, Ranges};
+ghost use Rattle.group_sheet.specs.RangesGiven.{Tabled, RangesReady, RangesWritten};
 
 // the ranges and the arrangement of a possible sheet, into a buffer with room for them
 fn put(groups: &[u16], size: u16, spans: &[u32], after: &[u32], reply: &mut [u8])
-    requires { ⌜ Placed (now groups) size (now spans) (now after) (now reply) ⌝ }
-    ensures { λ _. ⌜ RangesPlaced (now (groups .entry)) size (now (reply .entry)) (now (reply .exit)) ⌝ }
+    requires { ⌜ RangesReady (now groups) size (now spans) (now after) (now reply) ⌝ }
+    ensures { λ _. ⌜ RangesWritten (now (groups .entry)) size (now (reply .entry)) (now (reply .exit)) ⌝ }
 {
     let mut ranges = [0u32; 256];
     let mut rest = [0u32; 256];
@@ -43,23 +44,11 @@ fn put(groups: &[u16], size: u16, spans: &[u32], after: &[u32], reply: &mut [u8]
 // the reply under a sheet whose groups are in the table
 fn answer(groups: &[u16], size: u16, reply: &mut [u8]) -> u64
     requires { ⌜ Tabled (now groups) size ⌝ }
-    ensures { λ r. ⌜ RangesGiven (now (groups .entry)) size (now (reply .entry)) r (now (reply .exit)) ⌝ }
+    ensures { λ r. ⌜ RangesUnder (sheetIn (now (groups .entry)) size) (call (now (reply .entry)) r (now (reply .exit))) ⌝ }
 {
-    let flags = [3u8; 128];
-    let mut last = [0u16; 128];
-    let mut prev = [0u16; 128];
     let mut spans = [0u32; 512];
     let mut after = [0u32; 512];
-    measure_sheet(
-        groups,
-        size,
-        &flags,
-        &mut last,
-        &mut prev,
-        &mut spans,
-        &mut after,
-    );
-    if !possible(&spans) {
+    if !measure(groups, size, &mut spans, &mut after) {
         return pack(8, 0);
     }
     let bytes = 20 * size as usize;
@@ -72,7 +61,7 @@ fn answer(groups: &[u16], size: u16, reply: &mut [u8]) -> u64
 
 #[no_mangle]
 pub extern "C" fn sheet_ranges(sheet: &[u8], reply: &mut [u8]) -> u64
-    ensures { λ r. ⌜ Ranges (now (sheet .entry)) (now (reply .entry)) r (now (reply .exit)) ⌝ }
+    ensures { λ r. ⌜ Ranges (now (sheet .entry)) (call (now (reply .entry)) r (now (reply .exit))) ⌝ }
 {
     let mut groups = [0u16; GROUP_TABLE];
     let mut names = [0u16; NAME_TABLE];
