@@ -24,3 +24,5 @@ pub mod RangeExact
 pub mod ArrangedFits
 pub mod Part
 pub mod ArrangedAlike
+pub mod ArrangedOnce
+pub mod Readable
