@@ -25,4 +25,5 @@ pub mod ArrangedFits
 pub mod Part
 pub mod ArrangedAlike
 pub mod ArrangedOnce
+pub mod Ends
 pub mod Readable
