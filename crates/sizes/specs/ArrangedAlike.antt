@@ -1,9 +1,9 @@
 -- An arrangement is settled by values at the groups: runs and bounds that agree there are both arrangements.
-use Prim.Native.Nat.{ℕ, zero, suc, _+_, _-_, _≤_}
-use mathlib.Core.Path.{_≡_, refl, sym, ap, _∙_}
+use Prim.Native.Nat.{ℕ, zero, suc, _≤_}
+use mathlib.Core.Path.{_≡_, refl, sym, _∙_}
 use native.Mathlib.Omega.{arith}
 use Rattle.meaning.specs.Sheet.{Sheet, Group, Son, Tree, Top}
-use Rattle.meaning.specs.Sons.{isSon, only}
+use Rattle.meaning.specs.Sons.{isSon}
 use Rattle.meaning.specs.Arranged.{leftFor, sizeOf, ended, firstOf, Arranged}
 use Rattle.sizes.specs.SumLaws.{split, son-of, son-parent, only-eq, sons-eq}
 use Rattle.sizes.specs.Ranged.{Rooted}

@@ -26,4 +26,6 @@ pub mod Part
 pub mod ArrangedAlike
 pub mod ArrangedOnce
 pub mod Ends
+pub mod Widened
+pub mod Decidable
 pub mod Readable

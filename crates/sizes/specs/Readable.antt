@@ -2,6 +2,7 @@
 use Prim.Native.Nat.{ℕ, _-_, _*_, _≤_, max, zero-le}
 use mathlib.Core.Path.{_≡_}
 use mathlib.Core.List.{List}
+use mathlib.Core.Logic.{_⊎_}
 use native.Mathlib.Omega.{arith}
 use native.Mathlib.Nat.{mul-le-mul-left}
 use borrow.Author.Tests.{eqb-false}
@@ -14,18 +15,30 @@ use Rattle.wire.specs.Encoding.{Bytes, Right, WithinLimits}
 use Rattle.wire.specs.Facts.{read-right, read-within}
 use Rattle.meaning.specs.Sheet.{Group}
 use Rattle.meaning.specs.Fits.{Possible}
-use Rattle.meaning.specs.OfRecords.{sheetOf, endOf, groupAt}
-use Rattle.meaning.specs.Readable.{root-under-none, root-group, parent-group, lo-most, hi-most, tree-of-right}
+use Rattle.meaning.specs.Claim.{Breakable}
+use Rattle.meaning.specs.OfRecords.{sheetOf, claimAt, endOf, groupAt}
+use Rattle.meaning.specs.Readable.{root-under-none, root-group, parent-group, lo-most, hi-most, tree-of-right, tree-of-readable}
 use Rattle.sizes.specs.Ranged.{Rooted}
 use Rattle.sizes.specs.SumLaws.{split}
-use Rattle.sizes.specs.Bounds.{topWeight, Small}
+use Rattle.sizes.specs.Bounds.{Small}
 use Rattle.sizes.specs.Ends.{End, end-limit}
+use Rattle.sizes.specs.Decidable.{possible-or-not, breakable-or-not}
 use Rattle.sizes.specs.ArrangedOnce.{ArrangedBottomUp, arrangement-once}
 
 -- group 1 of a readable sheet is its one root
 pub rooted-of-right : {d : Records} → Right d → Rooted (sheetOf (d .groups))
 rooted-of-right R =
     record { one = root-group R; top = root-under-none R; rest = λ g q two. parent-group R g q two }
+
+-- Every readable sheet falls under one case of the contracts: some sets fit or none do (8); some sets fit and break the claim
+-- (denied) or none do (holds).
+pub readable-possible-or-not : (b : List ℕ) (d : Records) → readSheet b ≡ read d
+    → Possible (sheetOf (d .groups)) ⊎ (Possible (sheetOf (d .groups)) → ⊥)
+readable-possible-or-not b d e = possible-or-not (tree-of-readable b d e)
+
+pub readable-breakable-or-not : (b : List ℕ) (d : Records) → readSheet b ≡ read d → (k : ℕ)
+    → Breakable (sheetOf (d .groups)) (claimAt d k) ⊎ (Breakable (sheetOf (d .groups)) (claimAt d k) → ⊥)
+readable-breakable-or-not b d e k = breakable-or-not (tree-of-readable b d e) (claimAt d k)
 
 -- The arrangement of a reply to ranges is settled: there is one only.
 pub readable-arrangement-once : (b : List ℕ) (d : Records) → readSheet b ≡ read d → Possible (sheetOf (d .groups))
