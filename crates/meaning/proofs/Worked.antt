@@ -5,17 +5,17 @@ use mathlib.Core.Bool.{Bool, true, false, cond, _||_, false≢true}
 use mathlib.Core.List.{List, [], _∷_}
 use mathlib.Core.Logic.{_↔_, _⊎_, inl, inr, ⊎-elim}
 use native.Mathlib.Omega.{arith}
-use borrow.Author.Tests.{ltb-true, ltb-false, leb-true, leb-false, lt-ltb, le-leb}
+use borrow.Author.Tests.{ltb-true, ltb-false, leb-true, le-leb}
 use lib.Dec.{leb, ltb, eqb}
 use Rattle.wire.specs.SheetFormat.{GroupRecord, NameRecord, count, inside, apart}
 use Rattle.meaning.specs.Sum.{sum, bit}
 use native.Mathlib.Nat.{le-of-eq}
 use Rattle.meaning.proofs.SumLaws.{split, not-true-false, true-not-false, bit-le, bit-le-true, bit-most, true-bit, or-true, or-left, sum-le, sum-eq, sum-add, sum-zero, sum-tight}
 use Rattle.meaning.specs.Sheet.{Sheet, Group, Son, Top, fin, inf, AtMost}
-use Rattle.meaning.specs.Sets.{Sets, Distinct, numbered}
+use Rattle.meaning.specs.Sets.{Sets, numbered}
 use Rattle.meaning.specs.Sets as sets
 use Rattle.meaning.specs.Fits.{Meets, Fits, Possible, Attains, groupsOf}
-use Rattle.meaning.specs.Claim.{Claim, Breakable, countNamed}
+use Rattle.meaning.specs.Claim.{Breakable, countNamed}
 use Rattle.meaning.specs.OfRecords.{sheetOf, claimed, endOf}
 
 -- a group record: parent, lo, hi, mode

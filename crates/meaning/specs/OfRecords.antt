@@ -1,7 +1,7 @@
 -- What records mean: the sheet of its group records, the claim of a claim record, the sets that a register lists.
 -- Document 01, "Records of a sheet", "Meaning" and "Registers".
 use Prim.Native.Nat.{ℕ, _-_, _/_, _%_}
-use mathlib.Core.Bool.{Bool, true, false, cond, _&&_, _||_}
+use mathlib.Core.Bool.{Bool, false, cond, _&&_, _||_}
 use mathlib.Core.List.{List, [], _∷_, map}
 use lib.ListN.{length, getD}
 use lib.Dec.{eqb}

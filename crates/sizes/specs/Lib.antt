@@ -24,3 +24,8 @@ pub mod RangeExact
 pub mod ArrangedFits
 pub mod Part
 pub mod ArrangedAlike
+pub mod ArrangedOnce
+pub mod Ends
+pub mod Widened
+pub mod Decidable
+pub mod Readable

@@ -11,7 +11,7 @@ use Rattle.meaning.specs.Sum.{sum, bit}
 use Rattle.meaning.specs.Sheet.{Sheet, Group, Son, Tree}
 use Rattle.meaning.specs.Sets.{count}
 use Rattle.meaning.specs.Fits.{Meets, Fits, groupsOf}
-use Rattle.meaning.specs.Sons.{only, sons}
+use Rattle.meaning.specs.Sons.{only}
 use Rattle.sizes.specs.Balanced.{Balanced, Choice}
 use Rattle.sizes.specs.SumLaws.{
   split,

@@ -1,12 +1,12 @@
 -- Laws of sums, passed on from `meaning`, and laws of `isSon`, `only` and `sons`.
-use Prim.Native.Nat.{ℕ, zero, suc, _+_, _-_, _≤_, _<_, zero-le, min}
-use mathlib.Core.Path.{_≡_, refl, sym, ap, _∙_}
-use mathlib.Core.Bool.{Bool, true, false, cond, _&&_}
+use Prim.Native.Nat.{ℕ, suc, _+_, _≤_, _<_, zero-le}
+use mathlib.Core.Path.{_≡_, _∙_}
+use mathlib.Core.Bool.{true, _&&_}
 use native.Mathlib.Omega.{arith}
 use native.Mathlib.Nat.{le-refl}
 use borrow.Author.Tests.{ltb-true, eqb-true, lt-ltb, eq-eqb}
 use lib.Dec.{ltb, eqb}
-use Rattle.meaning.specs.Sum.{sum, bit}
+use Rattle.meaning.specs.Sum.{sum}
 use Rattle.meaning.specs.Sheet.{Sheet, Group, Son, Tree}
 use Rattle.sizes.specs.Balanced.{isSon, only, sons}
 pub use Rattle.meaning.proofs.SumLaws.{split, compare-le, compare-eq, below-suc, and-true, or-true, or-left, or-right, or-false, not-true-false, true-not-false, bit-most, bit-le, bit-le-true, bit-eq, bit-true, true-bit, false-bit, sum-le, sum-eq, sum-suc, sum-first, sum-zero, sum-add, sum-swap, sum-term, sum-prefix, sum-longer, sum-tight, locate, sum-some, sum-two, sum-one, sum-but, sum-run}
