@@ -1,7 +1,7 @@
 -- Laws of `sum` and `bit`, and cases on a test and on two numbers.
 use Prim.Native.Nat.{ℕ, zero, suc, _+_, _-_, _≤_, _<_, zero-le, min}
 use mathlib.Core.Path.{_≡_, refl, sym, ap, _∙_}
-use mathlib.Core.Bool.{Bool, true, false, cond, _&&_, _||_, true≢false, false≢true}
+use mathlib.Core.Bool.{Bool, true, false, cond, _&&_, _||_, true≢false}
 use mathlib.Core.Logic.{by-cases}
 use native.Mathlib.Omega.{arith}
 use native.Mathlib.Nat.{le-refl}
@@ -9,11 +9,8 @@ use native.Mathlib.Decide.{decLe, ℕ-discrete}
 use borrow.Author.Tests.{lt-ltb, le-ltb, le-leb, lt-leb, eq-eqb, ne-eqb}
 use lib.Dec.{leb, ltb, eqb}
 use Rattle.meaning.specs.Sum.{sum, bit}
-
--- cases on a test
-pub split {ℓ} : {C : Type ℓ} (b : Bool) → (b ≡ true → C) → (b ≡ false → C) → C
-split true y n = y refl
-split false y n = n refl
+-- cases on a test, and conjunctions taken apart
+pub use Rattle.wire.specs.Passing.{split, and-true}
 
 -- cases on two numbers
 pub compare-le {ℓ} : {C : Type ℓ} (a b : ℕ) → (a ≤ b → C) → (b < a → C) → C
@@ -26,11 +23,7 @@ compare-eq a b y n = by-cases (ℕ-discrete a b) y n
 pub below-suc {ℓ} : {C : Type ℓ} (m n : ℕ) → m < suc n → (m ≡ n → C) → (m < n → C) → C
 below-suc m n l y r = compare-eq m n y (λ h. r (omega arith))
 
--- conjunctions and disjunctions taken apart
-pub and-true : (a b : Bool) → (a && b) ≡ true → (a ≡ true) × (b ≡ true)
-and-true true b h = (refl, h)
-and-true false b h = absurd (false≢true h)
-
+-- disjunctions taken apart
 pub or-true {ℓ} : {C : Type ℓ} (a b : Bool) → (a || b) ≡ true → (a ≡ true → C) → (b ≡ true → C) → C
 or-true true b h l r = l refl
 or-true false b h l r = r h

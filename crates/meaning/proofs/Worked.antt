@@ -19,35 +19,35 @@ use Rattle.meaning.specs.Claim.{Breakable, countNamed}
 use Rattle.meaning.specs.OfRecords.{sheetOf, claimed, endOf}
 
 -- a group record: parent, lo, hi, mode
-abbrev row : ℕ → ℕ → ℕ → ℕ → GroupRecord
-row p l h m = record { parent = p; lo = l; hi = h; mode = m }
+abbrev group : ℕ → ℕ → ℕ → ℕ → GroupRecord
+group p l h m = record { parent = p; lo = l; hi = h; mode = m }
 
 -- Disjoint root with the given hi, sons with lo 2 and 2.
 abbrev pub pair : ℕ → Sheet
-pair h = sheetOf (row 0 0 h 1 ∷ row 1 2 65535 0 ∷ row 1 2 65535 0 ∷ [])
+pair h = sheetOf (group 0 0 h 1 ∷ group 1 2 65535 0 ∷ group 1 2 65535 0 ∷ [])
 
 -- 'Cover' leaf with the given lo.
 abbrev pub leaf : ℕ → Sheet
-leaf l = sheetOf (row 0 l 65535 2 ∷ [])
+leaf l = sheetOf (group 0 l 65535 2 ∷ [])
 
 -- 'Same' with 'disjoint', two sons; one son.
 abbrev pub twins : Sheet
-twins = sheetOf (row 0 0 65535 5 ∷ row 1 0 65535 0 ∷ row 1 0 65535 0 ∷ [])
+twins = sheetOf (group 0 0 65535 5 ∷ group 1 0 65535 0 ∷ group 1 0 65535 0 ∷ [])
 
 abbrev pub single : Sheet
-single = sheetOf (row 0 0 65535 5 ∷ row 1 0 65535 0 ∷ [])
+single = sheetOf (group 0 0 65535 5 ∷ group 1 0 65535 0 ∷ [])
 
 -- Root 5 to 5, no mode, sons A 0 to 5, B 5 to 5.
 abbrev pub forced : Sheet
-forced = sheetOf (row 0 5 5 0 ∷ row 1 0 5 0 ∷ row 1 5 5 0 ∷ [])
+forced = sheetOf (group 0 5 5 0 ∷ group 1 0 5 0 ∷ group 1 5 5 0 ∷ [])
 
 -- 'Cover' root with the given lo, sons with hi 3 and 2.
 abbrev pub shared : ℕ → Sheet
-shared l = sheetOf (row 0 l 65535 2 ∷ row 1 0 3 0 ∷ row 1 0 2 0 ∷ [])
+shared l = sheetOf (group 0 l 65535 2 ∷ group 1 0 3 0 ∷ group 1 0 2 0 ∷ [])
 
 -- Root without upper end.
 abbrev pub endless : Sheet
-endless = sheetOf (row 0 0 65535 0 ∷ [])
+endless = sheetOf (group 0 0 65535 0 ∷ [])
 
 -- names 1 to 3 for groups 1 to 3
 abbrev names : List NameRecord

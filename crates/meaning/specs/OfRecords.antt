@@ -60,10 +60,14 @@ unfoldable pub listed : List Row → ℕ → ℕ → Bool
 listed [] g x = false
 listed (r ∷ rs) g x = eqb (r .member) x && inGroup r g || listed rs g x
 
+-- past the last row
+abbrev pub noRow : Row
+noRow = record { member = 0; bits = [] }
+
 -- the sets that a register lists: one member for each row
 abbrev pub listedSets : List Row → Sets ℕ
 listedSets rs = record {
   bound = length rs;
-  who = λ i. getD rs i (record { member = 0; bits = [] }) .member;
+  who = λ i. getD rs i noRow .member;
   has = listed rs;
 }

@@ -7,7 +7,7 @@ use lib.ListN.{length}
 use Rattle.wire.specs.Limits.{boundLimit, modeLimit, noEnd}
 use Rattle.wire.specs.Record.{read}
 use Rattle.wire.specs.SheetFormat.{Records, readSheet}
-use Rattle.wire.specs.Encoding.{Right, WithinLimits}
+use Rattle.wire.specs.Encoding.{Right, SheetWithin}
 use Rattle.wire.specs.Facts.{read-right, ParentRight, root-parent, group-at, parent-at, name-at, end-at}
 use Rattle.meaning.specs.Sheet.{Group, Tree}
 use Rattle.meaning.specs.OfRecords.{groupAt, sheetOf, nameGroup}
@@ -37,7 +37,7 @@ pub name-group-most : {d : Records} → Right d → (n : ℕ) → 1 ≤ n → n 
     → nameGroup (d .names) n ≤ length (d .groups)
 name-group-most R n h k = name-at R (n - 1) _ (omega arith) .group
 
-pub hi-most : {d : Records} → WithinLimits d → (g : ℕ) → Group (sheetOf (d .groups)) g → groupAt (d .groups) g .hi ≤ noEnd
+pub hi-most : {d : Records} → SheetWithin d → (g : ℕ) → Group (sheetOf (d .groups)) g → groupAt (d .groups) g .hi ≤ noEnd
 hi-most w g G = end-at w (g - 1) _ (omega arith)
 
 pub tree-of-right : {d : Records} → Right d → Tree (sheetOf (d .groups))

@@ -1,4 +1,5 @@
 pub mod Limits
+pub mod Edition
 pub mod Bytes
 pub mod Record
 pub mod SheetFormat
