@@ -8,10 +8,11 @@ use native.Mathlib.Nat.{mul-le-mul-left}
 use borrow.Author.Tests.{eqb-false}
 use lib.Dec.{eqb}
 use lib.ListN.{length}
-use Rattle.wire.specs.Limits.{groupLimit, boundLimit, noEnd}
+use Rattle.wire.specs.Limits.{boundLimit, noEnd}
+use Rattle.wire.specs.Edition.{Edition, groupLimit, groups-many}
 use Rattle.wire.specs.Record.{read}
 use Rattle.wire.specs.SheetFormat.{Records, readSheet}
-use Rattle.wire.specs.Encoding.{Bytes, Right, WithinLimits}
+use Rattle.wire.specs.Encoding.{Bytes, Right, SheetWithin}
 use Rattle.wire.specs.Facts.{read-right, read-within}
 use Rattle.meaning.specs.Sheet.{Group}
 use Rattle.meaning.specs.Fits.{Possible}
@@ -50,7 +51,7 @@ readable-arrangement-once b d e =
     arrangement-once (tree-of-right R) (rooted-of-right R) (root-under-none R)
 
 -- bounds within the limits
-small-of-within : {d : Records} → WithinLimits d → Small (sheetOf (d .groups)) boundLimit
+small-of-within : {d : Records} → SheetWithin d → Small (sheetOf (d .groups)) boundLimit
 unfolding endOf
 small-of-within {d} w = record {
   lo = λ g q. lo-most (w .right) g q;
@@ -62,14 +63,14 @@ small-of-within {d} w = record {
 }
 
 -- "No finite end exceeds 127 × 65,534 = 8,322,818." (document 01, "Ranges")
-abbrev pub endLimit : ℕ
-endLimit = (groupLimit - 1) * boundLimit
+abbrev pub endLimit : Edition → ℕ
+endLimit e = (groupLimit e - 1) * boundLimit
 
 pub readable-end-limit : (b : List ℕ) → Bytes b → (d : Records) → readSheet b ≡ read d → (g n : ℕ) → Group (sheetOf (d .groups)) g
-    → End (sheetOf (d .groups)) g n → n ≤ endLimit
+    → End (sheetOf (d .groups)) g n → n ≤ endLimit (d .edition)
 readable-end-limit b k d e g n q w =
     let R = read-right b d e in
-    let few : max 1 (length (d .groups) - 1) ≤ groupLimit - 1 = omega (arith, R .groupCount) in
+    let few : max 1 (length (d .groups) - 1) ≤ groupLimit (d .edition) - 1 = omega (arith, R .groupCount, groups-many (d .edition)) in
     omega (
       arith,
       end-limit (tree-of-right R) (rooted-of-right R) (small-of-within (read-within b k d e)) g n q w,

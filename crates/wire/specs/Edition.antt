@@ -51,6 +51,11 @@ pub groups-within : (e : Edition) → groupLimit e ≤ groupCapacity
 unfolding membershipBytes
 groups-within edition1 = omega arith
 
+-- every edition takes a root with a son
+pub groups-many : (e : Edition) → 2 ≤ groupLimit e
+unfolding membershipBytes
+groups-many edition1 = omega arith
+
 -- numbers, kinds and lengths fit two bytes
 pub edition-fits : (e : Edition) → editionNumber e ≤ noEnd
 unfolding editionNumber
