@@ -12,6 +12,7 @@ use lib.ListN.{length, getD, drop, set, length-set}
 use lib.Seq.{drop-drop, sets, getD-set-same, getD-set-other}
 use Rattle.wire.specs.Bytes.{u16At}
 use Rattle.wire.specs.Record.{after, Test, refusal, Reading, onward}
+use Rattle.wire.specs.Edition.{Edition}
 use Rattle.wire.specs.SheetFormat.{GroupRecord, NameRecord, Records, groupOf, groupTests, nameOf}
 use Rattle.wire.specs.SheetFormat.{nameTests, used, claimOf, claimTests, readMany}
 use Rattle.reading.specs.Tables.{groupsIn, groupIn}
@@ -143,13 +144,13 @@ module _ (t : List ℕ) (n : ℕ) (g : GroupRecord) (h : 4 * n + 3 < length t) w
       rw (add-one, groups-kept put t n (λ i k. sets-below (g .parent ∷ g .lo ∷ g .hi ∷ g .mode ∷ []) t (4 * n) i k), group-put)
 
 -- a name's tests, its label's use set apart
-pub name-alone : (groups n : ℕ) (ns : List NameRecord) (b : List ℕ) → refusal (nameTests groups [] b) ≡ n → (n ≡ 0 → ⊥) →
-    refusal (nameTests groups ns b) ≡ n
-name-alone groups n ns b e h = rw (name-apart groups ns b, e, ne-eqb n 0 h)
+pub name-alone : (e : Edition) (groups n : ℕ) (ns : List NameRecord) (b : List ℕ) → refusal (nameTests e groups [] b) ≡ n → (n ≡ 0 → ⊥) →
+    refusal (nameTests e groups ns b) ≡ n
+name-alone e groups n ns b p h = rw (name-apart e groups ns b, p, ne-eqb n 0 h)
 
-pub name-used : (groups : ℕ) (ns : List NameRecord) (b : List ℕ) → refusal (nameTests groups [] b) ≡ 0 →
-    used ns (nameOf b .label) ≡ true → refusal (nameTests groups ns b) ≡ 6
-name-used groups ns b e f = rw (name-apart groups ns b, e, f)
+pub name-used : (e : Edition) (groups : ℕ) (ns : List NameRecord) (b : List ℕ) → refusal (nameTests e groups [] b) ≡ 0 →
+    used ns (nameOf b .label) ≡ true → refusal (nameTests e groups ns b) ≡ 6
+name-used e groups ns b p f = rw (name-apart e groups ns b, p, f)
 
 -- one more group, name or claim, as the loops store it
 pub group-again : (s t u : List ℕ) (from count i at : ℕ) (g : Group) →
@@ -164,17 +165,17 @@ group-again s t u from count i at g left h room e f put =
     rw (put, groups-more t i r room, same) (left-more groupTests groupOf s from count 2 i at (groupsIn t i) left h 12 e
     (omega arith))
 
-pub name-again : (s names places : List ℕ) (from count groups i at len : ℕ) →
-    Left (nameTests groups) nameOf s from count (2 + groups) i at (recordsIn nameOf s places i) →
-    i < count → i < length places → refusal (nameTests groups [] (drop at s)) ≡ 0 →
+pub name-again : (e : Edition) (s names places : List ℕ) (from count groups i at len : ℕ) →
+    Left (nameTests e groups) nameOf s from count (2 + groups) i at (recordsIn nameOf s places i) →
+    i < count → i < length places → refusal (nameTests e groups [] (drop at s)) ≡ 0 →
     used (recordsIn nameOf s places i) (nameOf (drop at s) .label) ≡ false → len ≡ u16At s at →
-    Left (nameTests groups) nameOf s from count (2 + groups) (i + 1) (at + len + 2) (recordsIn nameOf s (set places i at) (i + 1))
-name-again s names places from count groups i at len left h room e f l =
-    let z : refusal (nameTests groups (recordsIn nameOf s places i) (drop at s))
-    ≡ 0 = rw (name-apart groups (recordsIn nameOf s places i) (drop at s), e, f) in
-    let p : at + len + 2 ≡ at + (len + 2) = omega arith in
-    rw (p, records-more nameOf s places i at room)
-    (left-more (nameTests groups) nameOf s from count (2 + groups) i at (recordsIn nameOf s places i) left h (len + 2) z
+    Left (nameTests e groups) nameOf s from count (2 + groups) (i + 1) (at + len + 2) (recordsIn nameOf s (set places i at) (i + 1))
+name-again e s names places from count groups i at len left h room p f l =
+    let z : refusal (nameTests e groups (recordsIn nameOf s places i) (drop at s))
+    ≡ 0 = rw (name-apart e groups (recordsIn nameOf s places i) (drop at s), p, f) in
+    let q : at + len + 2 ≡ at + (len + 2) = omega arith in
+    rw (q, records-more nameOf s places i at room)
+    (left-more (nameTests e groups) nameOf s from count (2 + groups) i at (recordsIn nameOf s places i) left h (len + 2) z
     (omega arith))
 
 pub claim-again : (s places : List ℕ) (from count names first i at len : ℕ) →

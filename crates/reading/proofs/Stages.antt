@@ -3,10 +3,11 @@ use Prim.Native.Nat.{ℕ, _+_, _-_, _≤_, _<_}
 use mathlib.Core.Path.{_≡_, ap, _∙_}
 use mathlib.Core.List.{List}
 use native.Mathlib.Omega.{arith}
-use mathlib.Core.Bool.{_&&_}
-use borrow.Author.Tests.{leb-true, eqb-true, eq-eqb, ne-eqb}
-use lib.Dec.{leb, eqb}
+use borrow.Author.Tests.{eq-eqb, ne-eqb}
 use lib.ListN.{length, drop, length-drop}
+use Rattle.wire.specs.Edition.{Edition, editionOf, groups-within}
+use Rattle.wire.specs.Passing.{pass-of-refusal}
+use Rattle.wire.specs.Sorts.{HeadRight, head-numbered, head-right}
 use Rattle.wire.specs.Bytes.{u16At}
 use Rattle.wire.specs.Record.{after, refusal, Reading, read, refused, onward}
 use Rattle.wire.specs.SheetFormat.{HeadRecord, GroupRecord, NameRecord, ClaimRecord, Records, groupOf, groupTests, nameOf}
@@ -20,7 +21,6 @@ use Rattle.reading.specs.declared.load.Loaded.{Loaded}
 use Rattle.reading.specs.declared.load.Loaded.the-variants.{Refused}
 use Rattle.reading.specs.declared.records.Head.{Head}
 use Rattle.reading.specs.declared.records.Record.the-variants.{Head as headed}
-use Rattle.reading.proofs.Fields.{and-true, frame-of, passes}
 
 pub group-stage : (h : HeadRecord) (s : List ℕ) (from : ℕ) (p : Passed) (gs : List GroupRecord) →
     Goes groupTests groupOf s from (h .groups) 2 p gs →
@@ -29,7 +29,7 @@ unfolding readGroups
 group-stage h s from p gs g = g .goes (readNames h)
 
 pub name-stage : (h : HeadRecord) (s : List ℕ) (from : ℕ) (p : Passed) (gs : List GroupRecord) (names labels : List ℕ) →
-    NamesGo (h .groups) s from (h .names) p names labels →
+    NamesGo (h .edition) (h .groups) s from (h .names) p names labels →
     passed p (λ at. readClaims h gs (2 + h .groups + h .names) (recordsIn nameOf s labels (h .names)) (drop at s))
     ≡ readNames h (2 + h .groups) gs (drop from s)
 unfolding readNames
@@ -38,18 +38,18 @@ name-stage h s from p gs names labels g = g .reads .goes (readClaims h gs)
 pub claim-stage : (h : HeadRecord) (s : List ℕ) (from first : ℕ) (p : Passed) (gs : List GroupRecord)
     (ns : List NameRecord) (claims : List ℕ) →
     ClaimsGo (h .names) first s from (h .claims) p claims →
-    passed p (λ at. closing gs ns (first + h .claims) (recordsIn claimOf s claims (h .claims)) (drop at s))
+    passed p (λ at. closing (h .edition) gs ns (first + h .claims) (recordsIn claimOf s claims (h .claims)) (drop at s))
     ≡ readClaims h gs first ns (drop from s)
 unfolding readClaims
-claim-stage h s from first p gs ns claims g = g .reads .goes (closing gs ns)
+claim-stage h s from first p gs ns claims g = g .reads .goes (closing (h .edition) gs ns)
 
 -- the end: 7 where bytes follow
-module _ (gs : List GroupRecord) (ns : List NameRecord) (r : ℕ) (cs : List ClaimRecord) (s : List ℕ) (at : ℕ) where
-  pub bytes-follow : at < length s → closing gs ns r cs (drop at s) ≡ refused 7 r
+module _ (v : Edition) (gs : List GroupRecord) (ns : List NameRecord) (r : ℕ) (cs : List ClaimRecord) (s : List ℕ) (at : ℕ) where
+  pub bytes-follow : at < length s → closing v gs ns r cs (drop at s) ≡ refused 7 r
   unfolding closing refusal onward
   bytes-follow l = rw (length-drop at s, ne-eqb (length s - at) 0 (omega arith))
 
-  pub at-end : length s ≤ at → closing gs ns r cs (drop at s) ≡ read (record { groups = gs; names = ns; claims = cs })
+  pub at-end : length s ≤ at → closing v gs ns r cs (drop at s) ≡ read (record { edition = v; groups = gs; names = ns; claims = cs })
   unfolding closing refusal onward
   at-end l = rw (length-drop at s, eq-eqb (length s - at) 0 (omega arith))
 
@@ -75,46 +75,21 @@ pub head-refused : (s : List ℕ) (n : ℕ) → refusal (headTests s) ≡ n → 
 unfolding readSheet onward
 head-refused s n e h = rw (e, ne-eqb n 0 h)
 
-pub head-numbers : (s : List ℕ) → refusal (headTests s) ≡ 0 → (12 ≤ length s) × ((u16At s 0 ≡ 10) ×
-    ((1 ≤ u16At s 6) × ((u16At s 6 ≤ 128) × ((u16At s 8 ≤ 128) × (u16At s 10 ≤ 64)))))
-unfolding headTests
-head-numbers s e =
-    let f = passes _ _ _ e (λ z. omega arith) in
-    let k = passes _ _ _ (f .1) (λ z. omega arith) in
-    let l = passes _ _ _ (k .1) (λ z. omega arith) in
-    let d = passes _ _ _ (l .1) (λ z. omega arith) in
-    let g = frame-of s 0 (f .0) in
-    let z : u16At s 0 ≡ 10 = eqb-true _ _ (l .0) in
-    let a = eqb (u16At s 4) 1 in
-    let p = and-true (a && leb 1 (u16At s 6) && leb (u16At s 6) 128 && leb (u16At s 8) 128) (leb (u16At s 10) 64) (d .0) in
-    let q = and-true (a && leb 1 (u16At s 6) && leb (u16At s 6) 128) (leb (u16At s 8) 128) (p .0) in
-    let r = and-true (a && leb 1 (u16At s 6)) (leb (u16At s 6) 128) (q .0) in
-    let t = and-true a (leb 1 (u16At s 6)) (r .0) in (
-      omega arith,
-      (
-        z,
-        (
-          leb-true 1 (u16At s 6) (t .1),
-          (
-            leb-true (u16At s 6) 128 (r .1),
-            (leb-true (u16At s 8) 128 (q .1), leb-true (u16At s 10) 64 (p .1)),
-          ),
-        ),
-      ),
-    )
-
 module _ (s : List ℕ) (h : Head) (e : refusal (headTests s) ≡ 0) (f : headAt s 0 ≡ headed h) where
-  head-same : h ≡ record { groups = u16At s 6; names = u16At s 8; claims = u16At s 10 }
+  right : HeadRight s
+  right = head-right s (pass-of-refusal 1 7 (headTests s) (head-numbered s) (omega arith) e)
+
+  head-same : h ≡ record { edition = u16At s 4; groups = u16At s 6; names = u16At s 8; claims = u16At s 10 }
   unfolding headAt
   head-same = cc
 
   pub head-limits : (12 ≤ length s) × WithinLimits h
   head-limits =
-      let n = head-numbers s e in (
-        n .0,
+      let n = right in (
+        omega arith,
         rw head-same (record {
           someGroup = omega arith;
-          fewGroups = omega arith;
+          fewGroups = omega (arith, groups-within (editionOf (u16At s 4)));
           fewNames = omega arith;
           fewClaims = omega arith;
         }),
@@ -122,4 +97,4 @@ module _ (s : List ℕ) (h : Head) (e : refusal (headTests s) ≡ 0) (f : headAt
 
   pub head-goes : readGroups (headRecord h) (drop 12 s) ≡ readSheet s
   unfolding readSheet onward headOf after
-  head-goes = rw (head-same, e, head-numbers s e .1 .0)
+  head-goes = rw (head-same, e, right .size)

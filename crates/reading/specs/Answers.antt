@@ -24,7 +24,7 @@ answered n x = cond (eqb n 0) (carried x) (Refused n)
 
 -- the records at a place, a name and a claim with their place and length
 unfoldable pub headAt : List ℕ → ℕ → Record
-headAt s at = Head (record { groups = u16At s (at + 6); names = u16At s (at + 8); claims = u16At s (at + 10) })
+headAt s at = Head (record { edition = u16At s (at + 4); groups = u16At s (at + 6); names = u16At s (at + 8); claims = u16At s (at + 10) })
 
 unfoldable pub groupAt : List ℕ → ℕ → Record
 groupAt s at = Group (record {

@@ -3,7 +3,8 @@ use Prim.Native.Nat.{ℕ, zero, suc, _+_, _*_, _≤_, _<_}
 use mathlib.Core.Path.{_≡_}
 use mathlib.Core.List.{List, [], _∷_, _++_}
 use lib.ListN.{length, getD, drop}
-use Rattle.wire.specs.Limits.{groupLimit, nameLimit, claimLimit}
+use Rattle.wire.specs.Limits.{groupCapacity, nameLimit, claimLimit}
+use Rattle.wire.specs.Edition.{Edition, editionOf}
 use Rattle.wire.specs.Record.{Test, refusal, Reading, read, refused}
 use Rattle.wire.specs.SheetFormat.{HeadRecord, Records, nameOf, nameTests, claimOf, claimTests, readMany}
 use Rattle.reading.specs.Tables.{groupFields, groupsIn}
@@ -45,10 +46,10 @@ pub record Goes {A : Type 0} (tests : List A → List ℕ → List Test) (value 
   pub room : Then r (λ at. at ≤ length s)
 
 -- the names: their groups and places are in the tables
-pub record NamesGo (groups : ℕ) (s : List ℕ) (from count : ℕ) (r : Passed) (names labels : List ℕ) : Type 0 where
-  pub reads : Goes (nameTests groups) nameOf s from count (2 + groups) r (recordsIn nameOf s labels count)
+pub record NamesGo (e : Edition) (groups : ℕ) (s : List ℕ) (from count : ℕ) (r : Passed) (names labels : List ℕ) : Type 0 where
+  pub reads : Goes (nameTests e groups) nameOf s from count (2 + groups) r (recordsIn nameOf s labels count)
   pub grouped : Then r (λ at. AllGrouped s names labels count)
-  pub pass : Then r (λ at. AllPass (nameTests groups []) s labels count)
+  pub pass : Then r (λ at. AllPass (nameTests e groups []) s labels count)
 
 -- the claims: their places are in the table
 pub record ClaimsGo (names first : ℕ) (s : List ℕ) (from count : ℕ) (r : Passed) (claims : List ℕ) : Type 0 where
@@ -63,6 +64,7 @@ turnedBack (turned n r) = Refused n r
 -- what loading gives, as a reading
 abbrev pub loadedAs : Loaded → List ℕ → List ℕ → List ℕ → List ℕ → Reading Records
 loadedAs (Sheet h) s groups labels claims = read (record {
+  edition = editionOf (h .edition);
   groups = groupsIn groups (h .groups);
   names = recordsIn nameOf s labels (h .names);
   claims = recordsIn claimOf s claims (h .claims);
@@ -71,7 +73,7 @@ loadedAs (Refused n r) s groups labels claims = refused n r
 
 -- the tables have room for the largest sheet
 pub record Capacity (groups names labels claims : List ℕ) : Type 0 where
-  pub groupRoom : groupFields * groupLimit ≤ length groups
+  pub groupRoom : groupFields * groupCapacity ≤ length groups
   pub nameRoom : nameLimit ≤ length names
   pub labelRoom : nameLimit ≤ length labels
   pub claimRoom : claimLimit ≤ length claims
@@ -79,18 +81,18 @@ pub record Capacity (groups names labels claims : List ℕ) : Type 0 where
 -- the counts of a head are those of a sheet
 pub record WithinLimits (h : Head) : Type 0 where
   pub someGroup : 1 ≤ h .groups
-  pub fewGroups : h .groups ≤ groupLimit
+  pub fewGroups : h .groups ≤ groupCapacity
   pub fewNames : h .names ≤ nameLimit
   pub fewClaims : h .claims ≤ claimLimit
 
 abbrev pub headRecord : Head → HeadRecord
-headRecord h = record { groups = h .groups; names = h .names; claims = h .claims }
+headRecord h = record { edition = editionOf (h .edition); groups = h .groups; names = h .names; claims = h .claims }
 
 -- what holds of the tables of a sheet that was read
 pub record Held (h : Head) (s names labels claims : List ℕ) : Type 0 where
   pub limits : WithinLimits h
   pub grouped : AllGrouped s names labels (h .names)
-  pub namesPass : AllPass (nameTests (h .groups) []) s labels (h .names)
+  pub namesPass : AllPass (nameTests (editionOf (h .edition)) (h .groups) []) s labels (h .names)
   pub claimsPass : AllPass (claimTests (h .names) []) s claims (h .claims)
 
 abbrev pub HeldBy : Loaded → List ℕ → List ℕ → List ℕ → List ℕ → Type 0

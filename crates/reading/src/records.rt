@@ -13,11 +13,14 @@ ghost use Prim.Native.Nat.{_+_, _≤_};
 ghost use lib.ListN.{length, drop};
 ghost use lib.Dec.{leb, eqb};
 ghost use Rattle.wire.specs.Record.{refusal};
-ghost use Rattle.wire.specs.Limits.{edition, groupLimit, nameLimit, claimLimit};
+ghost use Rattle.wire.specs.Limits.{nameLimit, claimLimit};
+ghost use Rattle.wire.specs.Edition.{editionNumber, editionOf, groupLimit, labelLimit};
 ghost use Rattle.wire.specs.SheetFormat.{GroupRecord, headTests, parentAllowed, groupTests, nameTests, claimTests};
 ghost use Rattle.reading.specs.Answers.{Framed, refusalOf, answered, headAt, groupAt, nameAt, claimAt};
 
+// `edition` is the number of an edition
 pub struct Head {
+    pub edition: u16,
     pub groups: u16,
     pub names: u16,
     pub claims: u16,
@@ -83,11 +86,11 @@ pub fn frame(s: &[u8], at: usize) -> u16
     len
 }
 
-fn head_allowed(number: u16, groups: u16, names: u16, claims: u16) -> bool
-    ensures { λ r. ⌜ r ≡ (eqb number edition && leb 1 groups && leb groups groupLimit && leb names nameLimit
-        && leb claims claimLimit) ⌝ }
+fn head_allowed(edition: u16, groups: u16, names: u16, claims: u16) -> bool
+    ensures { λ r. ⌜ r ≡ (eqb edition (editionNumber (editionOf edition)) && leb 1 groups
+        && leb groups (groupLimit (editionOf edition)) && leb names nameLimit && leb claims claimLimit) ⌝ }
 {
-    if number != 1 {
+    if edition != 1 {
         return false;
     }
     if groups < 1 {
@@ -122,8 +125,10 @@ pub fn read_head(s: &[u8], at: usize) -> Answer
     let groups = bytes::word(s, at + 6);
     let names = bytes::word(s, at + 8);
     let claims = bytes::word(s, at + 10);
-    if head_allowed(bytes::word(s, at + 4), groups, names, claims) {
+    let edition = bytes::word(s, at + 4);
+    if head_allowed(edition, groups, names, claims) {
         return Answer::Record(Record::Head(Head {
+            edition: edition,
             groups: groups,
             names: names,
             claims: claims,
@@ -180,10 +185,18 @@ pub fn read_group(s: &[u8], at: usize, number: u16) -> Answer
     Answer::Refused(5)
 }
 
+// most bytes of a label
+fn label_limit(edition: u16) -> u16
+    ensures { λ r. ⌜ r ≡ labelLimit (editionOf edition) ⌝ }
+{
+    16
+}
+
 // The tests of a name but for the use of its label before, which the caller knows.
-pub fn read_name(s: &[u8], at: usize, groups: u16) -> Answer
+pub fn read_name(s: &[u8], at: usize, edition: u16, groups: u16) -> Answer
     requires { ⌜ at ≤ length (now s) ⌝ }
-    ensures { λ r. ⌜ r ≡ answered (refusal (nameTests groups [] (drop at (now (s .entry))))) (nameAt (now (s .entry)) at) ⌝ }
+    ensures { λ r. ⌜ r ≡ answered (refusal (nameTests (editionOf edition) groups [] (drop at (now (s .entry)))))
+        (nameAt (now (s .entry)) at) ⌝ }
 {
     let len = frame(s, at);
     if len < 2 {
@@ -195,7 +208,7 @@ pub fn read_name(s: &[u8], at: usize, groups: u16) -> Answer
     if len < 5 {
         return Answer::Refused(3);
     }
-    if 20 < len {
+    if label_limit(edition) < len - 4 {
         return Answer::Refused(3);
     }
     if !labels::label_allowed(s, at + 6, len - 4) {

@@ -8,6 +8,7 @@ use borrow.Author.Needs.{needs}
 use native.Mathlib.Omega.{arith}
 use denote.Ref.{now}
 use lib.ListN.{length, drop, length-set}
+use Rattle.wire.specs.Edition.{editionOf, labelLimit}
 use Rattle.wire.specs.Bytes.{u16At}
 use Rattle.wire.specs.Record.{refusal}
 use Rattle.wire.specs.SheetFormat.{nameTests, nameOf}
@@ -20,13 +21,13 @@ use Rattle.reading.proofs.load.load_names.Statement.{statement}
 use Rattle.reading.proofs.load.load_names.Tie as tie
 
 abbrev Inv-loop : tie.InvT-loop
-Inv-loop s from count groups names₀ labels₀ at₀ i₀ names labels at i = (i ≤ count) ×
+Inv-loop s from count edition groups names₀ labels₀ at₀ i₀ names labels at i = (i ≤ count) ×
     ((at ≤ length s) × (((length names ≡ length names₀) × (length labels ≡ length labels₀)) ×
-    (Left (nameTests groups) nameOf s from count (2 + groups) i at (recordsIn nameOf s labels i) ×
-    (AllGrouped s names labels i × AllPass (nameTests groups []) s labels i))))
+    (Left (nameTests (editionOf edition) groups) nameOf s from count (2 + groups) i at (recordsIn nameOf s labels i) ×
+    (AllGrouped s names labels i × AllPass (nameTests (editionOf edition) groups []) s labels i))))
 
 abbrev μ-loop : tie.MeasureT-loop
-μ-loop s from count groups names₀ labels₀ at₀ i₀ names labels at i = count - i
+μ-loop s from count edition groups names₀ labels₀ at₀ i₀ names labels at i = count - i
 
 -- the places of the loop's head, of its test and of the entry, seen from after a record was taken; and where that was
 abbrev head : tie.After-known-told Inv-loop μ-loop → tie.At-loop Inv-loop μ-loop
@@ -47,18 +48,18 @@ told c = c .before .before .before .before .before .before .before
 -- what the reader answers
 asked : (c : tie.After-read-name Inv-loop μ-loop) → let a = c .before .before .before .before .before .before .args in
     let at = c .before .before .loop .at in
-    c .read-name .result ≡ answered (refusal (nameTests (a .groups) [] (drop at (now (a .s))))) (nameAt (now (a .s)) at)
+    c .read-name .result ≡ answered (refusal (nameTests (editionOf (a .edition)) (a .groups) [] (drop at (now (a .s))))) (nameAt (now (a .s)) at)
 asked c = c .read-name .ensures
 
 -- a record says that its tests passed
 taken : (c : tie.After-known-told Inv-loop μ-loop) → let at = head c .loop .at in
-    (refusal (nameTests (entry c .args .groups) [] (drop at (bytes c))) ≡ 0) ×
+    (refusal (nameTests (editionOf (entry c .args .edition)) (entry c .args .groups) [] (drop at (bytes c))) ≡ 0) ×
     (nameAt (bytes c) at ≡ c .before .answer .given .0 .0)
 taken c = answered-carried _ _ _ (sym (asked (c .before .before .before)) ∙ c .before .answer .given .1)
 
 room : (c : tie.After-known-told Inv-loop μ-loop) → let at = head c .loop .at in
-    WholeName (bytes c) at × (u16At (bytes c) at ≤ 20)
-room c = name-whole (bytes c) (head c .loop .at) (entry c .args .groups) [] (taken c .0)
+    WholeName (bytes c) at × (u16At (bytes c) at ≤ labelLimit (editionOf (entry c .args .edition)) + 4)
+room c = name-whole (editionOf (entry c .args .edition)) (bytes c) (head c .loop .at) (entry c .args .groups) [] (taken c .0)
 
 -- what the record carries
 same : (c : tie.After-rec Inv-loop μ-loop) → let s = bytes (c .before .before) in let at = head (c .before .before) .loop .at in
@@ -113,7 +114,7 @@ returns c = let q = stopped _ _ _ _ _ (asked (c .before .before .before)) (c .be
     (c .refusal-of .ensures) in
     record {
       reads = left-stop _ _ _ _ _ _ _ _ _ (c .before .before .before .before .before .loop .inv .1 .1 .1 .0)
-          (c .before .before .before .before .loop-test .taken) _ _ (name-alone _ _ _ _ (q .0) (q .1)) (q .1);
+          (c .before .before .before .before .loop-test .taken) _ _ (name-alone _ _ _ _ _ (q .0) (q .1)) (q .1);
       grouped = tt;
       pass = tt;
     }
@@ -136,7 +137,7 @@ used-before-requires c κs = (
   omega arith,
   (
     room (c .before .before .before .before) .0,
-    λ j l. name-whole _ _ _ [] (head (c .before .before .before .before) .loop .inv .1 .1 .1 .1 .1 j l) .0,
+    λ j l. name-whole _ _ _ _ [] (head (c .before .before .before .before) .loop .inv .1 .1 .1 .1 .1 j l) .0,
   ),
 )
 
@@ -150,7 +151,7 @@ returns-3 : tie.Need-returns-3 Inv-loop μ-loop
 returns-3 c = record {
   reads = left-stop _ _ _ _ _ _ _ _ _ (head (c .before .before .before .before .before .before) .loop .inv .1 .1 .1 .0)
       (turn (c .before .before .before .before .before .before) .loop-test .taken) _ _
-      (name-used _ _ _ (taken (c .before .before .before .before .before .before) .0)
+      (name-used _ _ _ _ (taken (c .before .before .before .before .before .before) .0)
       (sym (c .before .used-before .ensures) ∙ c .if1 .taken)) (λ e. omega arith);
   grouped = tt;
   pass = tt;
@@ -194,12 +195,12 @@ loop-again c = let e = same (c .before .before .before .before .before) in
         (
           (simp length-set (l .inv .1 .1 .0 .0), simp length-set (l .inv .1 .1 .0 .1)),
           (
-            name-again _ (l .names) _ _ _ _ _ _ _ (l .inv .1 .1 .1 .0) (turn (told c) .loop-test .taken) (omega arith) (t .0)
+            name-again _ _ (l .names) _ _ _ _ _ _ _ (l .inv .1 .1 .1 .0) (turn (told c) .loop-test .taken) (omega arith) (t .0)
                 (sym (c .before .before .used-before .ensures) ∙ c .before .if1 .left) (e .1),
             (
               grouped-more (bytes (told c)) (l .names) (l .labels) (l .i) _ (l .at) (omega arith) (omega arith)
                   (l .inv .1 .1 .1 .1 .0) (e .0),
-              each-more (λ p. refusal (nameTests (entry (told c) .args .groups) [] (drop p (bytes (told c)))) ≡ 0) (l .labels) (l .i)
+              each-more (λ p. refusal (nameTests (editionOf (entry (told c) .args .edition)) (entry (told c) .args .groups) [] (drop p (bytes (told c)))) ≡ 0) (l .labels) (l .i)
                   (l .at) (omega arith) (l .inv .1 .1 .1 .1 .1) (t .0),
             ),
           ),

@@ -5,6 +5,7 @@ use mathlib.Core.List.{List, []}
 use native.Mathlib.Omega.{arith}
 use denote.Ref.{now}
 use lib.ListN.{length, drop}
+use Rattle.wire.specs.Edition.{editionOf}
 use Rattle.wire.specs.SheetFormat.{HeadRecord, GroupRecord, NameRecord, ClaimRecord}
 use Rattle.wire.specs.SheetFormat.{nameTests, claimTests, nameOf, claimOf, closing, readClaims, readNames, readGroups}
 use Rattle.reading.specs.Tables.{groupsIn}
@@ -44,7 +45,7 @@ abbrev groups : tie.After-known-told → List GroupRecord
 groups c = groupsIn (groups-read c .load-groups .last .1 .1 .1 .0) (head c .groups)
 
 abbrev names : tie.After-known-told2 → List NameRecord
-names c = let f = groups-told c in recordsIn nameOf (bytes f) (names-read c .load-names .last .1 .1 .1 .1 .1 .0) (head f .names)
+names c = let f = groups-told c in recordsIn nameOf (bytes f) (names-read c .load-names .last .1 .1 .1 .1 .1 .1 .0) (head f .names)
 
 abbrev claims : tie.After-known-told3 → List ClaimRecord
 claims c = let f = groups-told (names-told c) in recordsIn claimOf (bytes f)
@@ -77,13 +78,13 @@ claims-room c = held-to _ _ (λ at. at ≤ length (bytes (groups-told c))) (c .b
 
 -- the end comes after the claims
 end-next : (c : tie.After-known-told3) → let n = names-told c in let f = groups-told n in
-    closing (groups f) (names n) (2 + head f .groups + head f .names + head f .claims) (claims c)
+    closing (head f .edition) (groups f) (names n) (2 + head f .groups + head f .names + head f .claims) (claims c)
     (drop (c .before .c .given .0 .0) (bytes f))
     ≡ readGroups (head f) (drop 12 (bytes f))
 end-next c =
     let n = names-told c in
     let f = groups-told n in
-    went _ _ (λ at. closing (groups f) (names n) (2 + head f .groups + head f .names + head f .claims) (claims c)
+    went _ _ (λ at. closing (head f .edition) (groups f) (names n) (2 + head f .groups + head f .names + head f .claims) (claims c)
     (drop at (bytes f))) _ (c .before .c .given .1)
     (claim-stage (head f) (bytes f) _ _ _ (groups f) (names n) _ (claims-read c .load-claims .ensures) ∙ claims-next n)
 
@@ -147,10 +148,9 @@ add-first-2 : tie.Need-add-first-2
 add-first-2 c = search needs
 
 load-claims-requires : tie.Need-load-claims-requires
-load-claims-requires c κs = (
-  claims-room (c .before .before .before),
-  (omega arith, (omega arith, entry (groups-told (c .before .before .before)) .pre .1 .1 .claimRoom)),
-)
+load-claims-requires c κs =
+    let w = entry (groups-told (c .before .before .before)) .pre .1 in
+    (claims-room (c .before .before .before), (omega arith, (omega arith, w .1 .claimRoom)))
 
 enum-known-c : tie.Need-enum-known-c
 enum-known-c c = search needs
@@ -198,7 +198,7 @@ same-length-12 : tie.Need-same-length-12
 same-length-12 c = search needs
 
 returns-4 : tie.Need-returns-4
-returns-4 c = record { reads = sym (bytes-follow _ _ _ _ _ _ (c .before .if1 .taken)) ∙ end-next (c .before .before); held = tt }
+returns-4 c = record { reads = sym (bytes-follow _ _ _ _ _ _ _ (c .before .if1 .taken)) ∙ end-next (c .before .before); held = tt }
 
 same-length-13 : tie.Need-same-length-13
 same-length-13 c = search needs
@@ -216,15 +216,15 @@ returns-5 : tie.Need-returns-5
 returns-5 c = let n = names-told (c .before) in
     let f = groups-told n in
     let h = entry f .args .h in
-    let tables = names-read n .load-names .last .1 .1 .1 .1 in
+    let tables = names-read n .load-names .last .1 .1 .1 .1 .1 in
     let places = claims-read (c .before) .load-claims .last .1 .1 .1 .1 .1 .0 in
     record {
-      reads = sym (at-end _ _ _ _ _ _ (c .if1 .left)) ∙ end-next (c .before);
+      reads = sym (at-end _ _ _ _ _ _ _ (c .if1 .left)) ∙ end-next (c .before);
       held = record {
         limits = entry f .pre .1 .0;
         grouped = held-to _ _ (λ at. AllGrouped (bytes f) (tables .0) (tables .1 .0) (h .names)) (n .before .n .given .1)
             (names-read n .load-names .ensures .grouped);
-        namesPass = held-to _ _ (λ at. AllPass (nameTests (h .groups) []) (bytes f) (tables .1 .0) (h .names))
+        namesPass = held-to _ _ (λ at. AllPass (nameTests (editionOf (h .edition)) (h .groups) []) (bytes f) (tables .1 .0) (h .names))
             (n .before .n .given .1) (names-read n .load-names .ensures .pass);
         claimsPass = held-to _ _ (λ at. AllPass (claimTests (h .names) []) (bytes f) places (h .claims))
             (c .before .before .c .given .1) (claims-read (c .before) .load-claims .ensures .pass);

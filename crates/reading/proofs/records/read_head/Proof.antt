@@ -107,6 +107,7 @@ returns-4 c = let l = lead (c .before .before .before .before .before .before) i
       sym (c .before .before .before .before .before .word2 .ensures),
       sym (c .before .before .before .before .word3 .ensures),
       sym (c .before .before .before .word4 .ensures),
+      sym (c .before .before .word5 .ensures),
       sym (c .before .head-allowed .ensures) ∙ c .if4 .taken,
     )
 

@@ -1,11 +1,14 @@
 -- `read_name` meets its contract: the tests in the code's order are those of the format, and no label was used before.
+use Prim.Native.Nat.{_+_, _≤_, _<_}
 use mathlib.Core.Path.{_≡_, sym, _∙_}
+use native.Mathlib.Omega.{arith}
 use mathlib.Core.Bool.{true}
 use borrow.Author.Tests.{le-leb, lt-leb, ne-eqb}
 use denote.Ref.{now}
 use lib.ListN.{drop}
 use Rattle.wire.specs.Record.{framed, refusal}
 use borrow.Author.Tests.{not-true, not-false}
+use Rattle.wire.specs.Edition.{editionOf, labelLimit}
 use Rattle.wire.specs.Bytes.{u16At}
 use Rattle.wire.specs.SheetFormat.{nameTests, used}
 use Rattle.reading.specs.Answers.{Whole, answered, nameAt}
@@ -28,6 +31,11 @@ lead c =
     let w = whole (c .before .before) in
     let a = c .before .before .before .before .before .args in
     (w .0, (read-at (now (a .s)) (a .at) 2 _ (c .before .word .ensures) ∙ c .if2 .left, whole-length _ _ _ (w .1)))
+
+-- the length, where its label is not too long
+short : (c : tie.Else4) → let a = c .before .before .before .before .before .before .before .before .args in
+    c .before .before .before .before .before .before .frame .result ≤ labelLimit (editionOf (a .edition)) + 4
+short c = omega arith
 
 frame-requires : tie.Need-frame-requires
 frame-requires c κs = search needs
@@ -53,10 +61,19 @@ returns-3 : tie.Need-returns-3
 unfolding answered refusal nameTests
 returns-3 c = let l = lead (c .before) in simp (l .0, l .1 .0, l .1 .1, lt-leb _ _ (c .if3 .taken))
 
+label-limit-requires : tie.Need-label-limit-requires
+label-limit-requires c κs = search needs
+
+sub-if4 : tie.Need-sub-if4
+sub-if4 c = search needs
+
 returns-4 : tie.Need-returns-4
 unfolding answered refusal nameTests
-returns-4 c = let l = lead (c .before .before) in simp
-    (l .0, l .1 .0, l .1 .1, le-leb _ _ (c .before .if3 .left), lt-leb _ _ (c .if4 .taken))
+returns-4 c = let l = lead (c .before .before .before) in
+    let a = c .before .before .before .before .before .before .before .before .args in
+    let r = c .before .before .before .before .before .before .frame .result in
+    let long : labelLimit (editionOf (a .edition)) + 4 < r = omega arith in
+    simp (l .0, l .1 .0, l .1 .1, le-leb _ _ (c .before .before .if3 .left), lt-leb _ _ long)
 
 add-label-allowed : tie.Need-add-label-allowed
 add-label-allowed c = search needs
@@ -69,15 +86,15 @@ label-allowed-requires c κs = search needs
 
 returns-5 : tie.Need-returns-5
 unfolding answered refusal nameTests
-returns-5 c = let l = lead (c .before .before .before .before) in
-    let w = whole (c .before .before .before .before .before .before) in
-    let a = c .before .before .before .before .before .before .before .before .before .args in
+returns-5 c = let l = lead (c .before .before .before .before .before) in
+    let w = whole (c .before .before .before .before .before .before .before) in
+    let a = c .before .before .before .before .before .before .before .before .before .before .args in
     simp (
       l .0,
       l .1 .0,
       l .1 .1,
-      le-leb _ _ (c .before .before .before .if3 .left),
-      le-leb _ _ (c .before .before .if4 .left),
+      le-leb _ _ (c .before .before .before .before .if3 .left),
+      le-leb _ _ (short (c .before .before)),
       label-at (now (a .s)) (a .at),
       w .1 .says,
       sym (c .before .label-allowed .ensures) ∙ not-true (c .before .label-allowed .result) (c .if5 .taken),
@@ -91,15 +108,15 @@ word-requires-2 c κs = search needs
 
 returns-6 : tie.Need-returns-6
 unfolding answered refusal nameTests
-returns-6 c = let l = lead (c .before .before .before .before .before .before) in
-    let w = whole (c .before .before .before .before .before .before .before .before) in
-    let a = c .before .before .before .before .before .before .before .before .before .before .before .args in
+returns-6 c = let l = lead (c .before .before .before .before .before .before .before) in
+    let w = whole (c .before .before .before .before .before .before .before .before .before) in
+    let a = c .before .before .before .before .before .before .before .before .before .before .before .before .args in
     simp (
       l .0,
       l .1 .0,
       l .1 .1,
-      le-leb _ _ (c .before .before .before .before .before .if3 .left),
-      le-leb _ _ (c .before .before .before .before .if4 .left),
+      le-leb _ _ (c .before .before .before .before .before .before .if3 .left),
+      le-leb _ _ (short (c .before .before .before .before)),
       label-at (now (a .s)) (a .at),
       w .1 .says,
       sym (c .before .before .before .label-allowed .ensures)
@@ -110,15 +127,15 @@ returns-6 c = let l = lead (c .before .before .before .before .before .before) i
 
 returns-7 : tie.Need-returns-7
 unfolding answered refusal nameTests nameAt used
-returns-7 c = let l = lead (c .before .before .before .before .before .before) in
-    let w = whole (c .before .before .before .before .before .before .before .before) in
-    let a = c .before .before .before .before .before .before .before .before .before .before .before .args in
+returns-7 c = let l = lead (c .before .before .before .before .before .before .before) in
+    let w = whole (c .before .before .before .before .before .before .before .before .before) in
+    let a = c .before .before .before .before .before .before .before .before .before .before .before .before .args in
     simp (
       l .0,
       l .1 .0,
       l .1 .1,
-      le-leb _ _ (c .before .before .before .before .before .if3 .left),
-      le-leb _ _ (c .before .before .before .before .if4 .left),
+      le-leb _ _ (c .before .before .before .before .before .before .if3 .left),
+      le-leb _ _ (short (c .before .before .before .before)),
       label-at (now (a .s)) (a .at),
       w .1 .says,
       sym (c .before .before .before .label-allowed .ensures)
@@ -138,6 +155,8 @@ read-name-spec =
     word-requires
     returns-2
     returns-3
+    label-limit-requires
+    sub-if4
     returns-4
     add-label-allowed
     sub-label-allowed
