@@ -29,6 +29,8 @@ def believed(files):
     out = []
     for folder, rest in re.findall(r'^\d+\. `(crates/\w+/specs)`:(.*?)(?=^\d+\. |^\n|\Z)', checks_section(files), re.M | re.S):
         out += ['%s/%s.antt' % (folder, name) for name in re.findall(r'`([A-Z]\w*)`', rest)]
+    if not out or not set(out) <= set(files):
+        raise SystemExit('README.md lists specs that are not there: %s' % sorted(set(out) - set(files)))
     return out
 
 
