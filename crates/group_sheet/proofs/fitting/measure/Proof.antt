@@ -17,8 +17,7 @@ slice-aggregate-measure-sheet-3 c = search needs
 
 measure-sheet-requires : tie.Need-measure-sheet-requires
 measure-sheet-requires c κs =
-    let p = c .before .before .before .before .before .before .before .before .pre in
-    (
+    let p = c .before .before .before .before .before .before .before .before .pre in (
       (
         record {
           small = p .0 .few;
