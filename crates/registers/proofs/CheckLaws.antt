@@ -11,7 +11,7 @@ use Rattle.wire.specs.Record.{Reading, read, refused}
 use Rattle.wire.specs.RegisterFormat.{Row, rowOf, inGroup, readRegister}
 use Rattle.meaning.specs.Sheet.{Sheet, Tree}
 use Rattle.meaning.specs.OfRecords.{listedSets}
-use Rattle.registers.specs.Cases.{compare-le, below-suc}
+use Rattle.meaning.proofs.SumLaws.{compare-le, below-suc}
 use Rattle.registers.specs.Listed.{rowIn, Rising, groups-of-row, listed-distinct, rising-register}
 use Rattle.registers.specs.Words.{holds, wordSets}
 use Rattle.registers.specs.RowsRead.{fromRow, rowsBefore, Kept}

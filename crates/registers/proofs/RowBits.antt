@@ -13,7 +13,7 @@ use Rattle.wire.specs.Limits.{membershipBytes}
 use Rattle.wire.specs.Bytes.{u32At}
 use Rattle.wire.specs.RegisterFormat.{Row, rowOf, inGroup, clearAbove}
 use Rattle.meaning.specs.Sum.{sum, bit}
-use Rattle.registers.specs.Cases.{split, compare-le, compare-eq, below-suc, sum-eq}
+use Rattle.meaning.proofs.SumLaws.{split, compare-le, compare-eq, below-suc, sum-eq}
 use Rattle.registers.specs.Digits.{digit, digit-low, digit-high, digit-none, digit-some, digit-of-zero}
 use Rattle.registers.specs.Words.{u64At, pairDigit}
 use Rattle.registers.specs.RowsRead.{Above}

@@ -14,7 +14,7 @@ use Rattle.wire.specs.Limits.{rowBytes, rowLimit, membershipBytes}
 use Rattle.wire.specs.Bytes.{u16At, u32At}
 use Rattle.wire.specs.Record.{Reading, read, refused, onward, refusal}
 use Rattle.wire.specs.RegisterFormat.{Row, rowOf, lastMember, clearAbove, rowTests, readRows, readRegister}
-use Rattle.registers.specs.Cases.{split, below-suc}
+use Rattle.meaning.proofs.SumLaws.{split, below-suc}
 use Rattle.registers.specs.declared.rows.RowWords.{RowWords}
 use Rattle.registers.specs.declared.rows.RowAnswer.the-variants as answer
 use Rattle.registers.specs.Words.{u64At}

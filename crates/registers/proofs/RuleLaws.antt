@@ -13,16 +13,13 @@ use Rattle.meaning.specs.Sets.{Sets, count}
 use Rattle.meaning.specs.Rule.{Rule, outside, lacking, uncovered, shared, below, above, ruleNumber, Broken}
 use Rattle.meaning.specs.OfRecords.{groupAt, sheetOf, endOf, sameMode}
 use Rattle.reading.specs.Tables.{groupsIn, groupAt-groupsIn}
-use Rattle.registers.specs.Cases.{split, compare-le, true-not-false, sum-some, sum-two, sum-term, sum-pair}
+use Rattle.meaning.proofs.SumLaws.{and-true, split, compare-le, true-not-false, sum-some, sum-two, sum-term}
+use Rattle.registers.specs.Cases.{sum-pair}
 use Rattle.registers.specs.Words.{digitIn, holds, inBoth, wordSets}
 use Rattle.registers.specs.Tallies.{SonsListed}
 use Rattle.registers.specs.RuleTests.{parentIn, loIn, hiIn, modeIn, mayBreak, rowBreaks, countBreaks}
 use Rattle.registers.proofs.WordLaws.{digit-in-le, holds-one, one-holds}
 use Rattle.registers.proofs.SonLaws.{parent-below}
-
-and-true : (a b : Bool) → (a && b) ≡ true → (a ≡ true) × (b ≡ true)
-and-true true b h = (refl, h)
-and-true false b h = absurd (false≢true h)
 
 -- the sons that a row has
 module _ (s : Sheet) (w u : List ℕ) (i p : ℕ) (k : SonsListed s u) (z : s .size ≤ 128) (a : 1 ≤ p) (b : p ≤ 128) where

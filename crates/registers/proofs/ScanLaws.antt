@@ -11,7 +11,7 @@ use Rattle.meaning.specs.Sets.{Sets}
 use Rattle.meaning.specs.Rule.{Rule, ruleNumber, Broken}
 use Rattle.meaning.specs.OfRecords.{sheetOf}
 use Rattle.reading.specs.Tables.{groupsIn, length-groupsIn}
-use Rattle.registers.specs.Cases.{below-suc, true-not-false}
+use Rattle.meaning.proofs.SumLaws.{below-suc, true-not-false}
 use Rattle.registers.specs.Unbroken.{unbroken-fits}
 use Rattle.registers.specs.Words.{wordSets}
 use Rattle.registers.specs.Tallies.{SonsListed, Counted}

@@ -11,7 +11,8 @@ use lib.Dec.{eqb}
 use lib.Bits.{bitAnd, bitOr}
 use lib.Count.{ones}
 use Rattle.meaning.specs.Sum.{sum, bit}
-use Rattle.registers.specs.Cases.{compare-le, compare-eq, sum-eq, sum-parts}
+use Rattle.meaning.proofs.SumLaws.{compare-le, compare-eq, sum-eq}
+use Rattle.registers.specs.Cases.{sum-parts}
 use Rattle.registers.specs.Digits.{digit, digit-le, digit-and, digit-or, digit-pow, ones-digits}
 use Rattle.registers.specs.Words.{pairDigit, digitIn, holds, inBoth}
 

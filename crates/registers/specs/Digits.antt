@@ -11,7 +11,7 @@ use lib.Pow.{pow-lt, shr-shr, shr-lt, shr-le, high}
 use lib.Bits.{bitAnd, bitOr, and-step, or-step, and-self, block-half, block-odd}
 use lib.Count.{ones, ones-step, trailingZeros}
 use Rattle.meaning.specs.Sum.{sum, bit}
-use Rattle.registers.specs.Cases.{compare-le, compare-eq, sum-eq, sum-none, sum-first}
+use Rattle.meaning.proofs.SumLaws.{compare-le, compare-eq, sum-eq, sum-zero, sum-first}
 
 -- digit k of a word, the lowest being digit 0
 unfoldable pub digit : ℕ → ℕ → ℕ
@@ -81,6 +81,12 @@ pub record Lowest (m t r : ℕ) : Type 0 where
   pub others : (j : ℕ) → (j ≡ t → ⊥) → digit r j ≡ digit m j
   pub fewer : ones m ≡ suc (ones r)
 
+-- group g is the lowest set digit of a word whose digits are the 64 groups after `before`
+pub record LowestGroup (before word g : ℕ) : Type 0 where
+  pub first : before < g
+  pub last : g ≤ before + 64
+  pub lowest : Lowest word (g - 1 - before) (bitAnd word (word - 1))
+
 pub ones-of-zero : ones 0 ≡ 0
 unfolding ones
 ones-of-zero = refl
@@ -146,7 +152,7 @@ lowest (suc n) m p l =
 
 -- `count_ones` is the number of set digits
 pub ones-digits : (n m : ℕ) → m < 2 ^ n → ones m ≡ sum (digit m) n
-ones-digits zero m l = rw (lt-one l, sum-none (digit 0)) ones-of-zero
+ones-digits zero m l = rw (lt-one l, sum-zero (digit 0) 0 (λ k h. absurd (omega arith))) ones-of-zero
 ones-digits (suc n) m l =
     let h : m / 2 < 2 ^ n = (let z = rw (pow-suc 2 n) at l in omega arith) in
     ones-step m ∙ (rw (
