@@ -37,15 +37,15 @@ pub record Loses (l h l′ h′ g : ℕ) : Type 0 where
 
 pub loses-low : (l h g : ℕ) → LowestGroup 0 l g → Loses l h (bitAnd l (l - 1)) h g
 loses-low l h g w =
-    let k : g - 1 < 64 = omega arith in
+    let k : g - 1 ≡ w .place = omega arith in
     record {
-      first = w .first;
+      first = omega arith;
       last = omega arith;
-      set = pair-low l h (g - 1) k ∙ w .lowest .set;
-      cleared = pair-low (bitAnd l (l - 1)) h (g - 1) k ∙ w .lowest .cleared;
+      set = rw k (pair-low l h (w .place) (w .within) ∙ w .lowest .set);
+      cleared = rw k (pair-low (bitAnd l (l - 1)) h (w .place) (w .within) ∙ w .lowest .cleared);
       others = λ j e. compare-le 64 j
           (λ o. pair-high (bitAnd l (l - 1)) h j o ∙ sym (pair-high l h j o))
-          (λ o. pair-low (bitAnd l (l - 1)) h j o ∙ w .lowest .others j e ∙ sym (pair-low l h j o));
+          (λ o. pair-low (bitAnd l (l - 1)) h j o ∙ w .lowest .others j (rw k at e) ∙ sym (pair-low l h j o));
       low-most = and-le-l l (l - 1);
       high-most = le-refl h;
       fewer = omega (arith, w .lowest .fewer);
@@ -54,13 +54,14 @@ loses-low l h g w =
 pub loses-high : (l h g : ℕ) → LowestGroup 64 h g → Loses l h l (bitAnd h (h - 1)) g
 loses-high l h g w =
     let k : 64 ≤ g - 1 = omega arith in
+    let e : g - 1 - 64 ≡ w .place = omega arith in
     record {
       first = omega arith;
       last = omega arith;
-      set = pair-high l h (g - 1) k ∙ w .lowest .set;
-      cleared = pair-high l (bitAnd h (h - 1)) (g - 1) k ∙ w .lowest .cleared;
-      others = λ j e. compare-le 64 j
-          (λ o. pair-high l (bitAnd h (h - 1)) j o ∙ w .lowest .others (j - 64) (λ z. e (omega arith)) ∙ sym (pair-high l h j o))
+      set = pair-high l h (g - 1) k ∙ rw e (w .lowest .set);
+      cleared = pair-high l (bitAnd h (h - 1)) (g - 1) k ∙ rw e (w .lowest .cleared);
+      others = λ j n. compare-le 64 j
+          (λ o. pair-high l (bitAnd h (h - 1)) j o ∙ w .lowest .others (j - 64) (λ z. n (omega arith)) ∙ sym (pair-high l h j o))
           (λ o. pair-low l (bitAnd h (h - 1)) j o ∙ sym (pair-low l h j o));
       low-most = le-refl l;
       high-most = and-le-l h (h - 1);
@@ -142,8 +143,9 @@ counted-all t u n k =
 abbrev pub Turns : ℕ → ℕ → List ℕ → ℕ → ℕ → ℕ → List ℕ → ℕ → Type 0
 Turns low high t n l h u counter = (length u ≡ length t) × ((ones l + ones h + counter ≡ n) × Walked low high t l h u)
 
-pub turn : (low high l h l′ h′ g n counter : ℕ) (t u : List ℕ) {u′ : List ℕ} → Turns low high t n l h u counter
-    → Loses l h l′ h′ g → countPlaces ≤ length t → u′ ≡ set u g (getD u g 0 + 1) → Turns low high t n l′ h′ u′ (counter + 1)
-turn low high l h l′ h′ g n counter t u v d r x =
-    rw x
+pub turn : (low high l h l′ h′ g n counter : ℕ) (t u : List ℕ) {l″ h″ : ℕ} {u″ : List ℕ} → Turns low high t n l h u counter
+    → Loses l h l′ h′ g → countPlaces ≤ length t → u″ ≡ set u g (getD u g 0 + 1) → l″ ≡ l′ → h″ ≡ h′
+    → Turns low high t n l″ h″ u″ (counter + 1)
+turn low high l h l′ h′ g n counter t u v d r x y z =
+    rw (x, y, z)
     (simp length-set (v .0), (omega (arith, d .fewer), walk-on low high l h l′ h′ g t u (v .1 .1) d (omega arith)))

@@ -81,11 +81,12 @@ pub record Lowest (m t r : ℕ) : Type 0 where
   pub others : (j : ℕ) → (j ≡ t → ⊥) → digit r j ≡ digit m j
   pub fewer : ones m ≡ suc (ones r)
 
--- group g is the lowest set digit of a word whose digits are the 64 groups after `before`
+-- group g is the lowest set digit of a word whose digits are the groups after `before`
 pub record LowestGroup (before word g : ℕ) : Type 0 where
-  pub first : before < g
-  pub last : g ≤ before + 64
-  pub lowest : Lowest word (g - 1 - before) (bitAnd word (word - 1))
+  pub place : ℕ
+  pub within : place < 64
+  pub numbered : g ≡ before + place + 1
+  pub lowest : Lowest word place (bitAnd word (word - 1))
 
 pub ones-of-zero : ones 0 ≡ 0
 unfolding ones
