@@ -6,7 +6,7 @@ use native.Mathlib.Omega.{arith}
 use native.Mathlib.Nat.{le-of-eq}
 use lib.ListN.{length, getD, replicate, length-replicate, getD-replicate, List·getD-eq-default}
 use Rattle.wire.specs.Limits.{groupLimit, rowLimit}
-use Rattle.wire.specs.Record.{Reading, read, refused}
+use Rattle.wire.specs.Record.{Reading, refused}
 use Rattle.wire.specs.RegisterFormat.{Row, readRegister}
 use Rattle.wire.specs.RoundTripRegister.{register-read}
 use Rattle.meaning.specs.Sheet.{Sheet, Tree}

@@ -60,7 +60,7 @@ pub bits-back : (b : List ℕ) → Bytes b → rowBytes ≤ length b
     → bytesOf 8 (u64At b 8) ++ bytesOf 8 (u64At b 16) ≡ take membershipBytes (drop 8 b)
 bits-back b h l =
     rw (← word-back b 8 h (omega arith), ← word-back b 16 h l, ← append-assoc)
-    (sym (take-at (bytesOf 8 (u64At b 8) ++ bytesOf 8 (u64At b 16)) (drop 24 b) 16
+    (sym (take-at (bytesOf 8 (u64At b 8) ++ bytesOf 8 (u64At b 16)) (drop rowBytes b) membershipBytes
     (simp (length-append, length-bytesOf))))
 
 -- digit k of a byte of a number

@@ -8,7 +8,6 @@ use Rattle.meaning.specs.Sheet.{Sheet}
 use Rattle.meaning.specs.Sets.{Sets}
 use Rattle.meaning.specs.Rule.{Answered}
 use Rattle.meaning.specs.OfRecords.{listedSets}
-use Rattle.reading.specs.declared.tables.GroupNo.{GroupNo}
 use Rattle.registers.specs.declared.check.Check.{Check}
 use Rattle.registers.specs.declared.check.Check.the-variants as check
 

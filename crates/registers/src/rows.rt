@@ -1,9 +1,9 @@
 // The rows of a register: one row decoded from the lent bytes, and all rows read to an end or to a refusal (10 to 13).
-use crate::limits::ROWS;
 use crate::limits::ROW_BYTES;
 use crate::limits::ROW_KIND;
 use crate::limits::ROW_LENGTH;
 use crate::limits::ROW_TOO_MANY;
+use crate::limits::ROWS;
 use crate::reader::row_of;
 use reading::tables::GROUPS;
 use wire::bytes;
