@@ -15,7 +15,7 @@ use Rattle.meaning.specs.Sets.{count}
 use Rattle.meaning.proofs.SumLaws.{compare-le, compare-eq, sum-eq, sum-suc, sum-zero, sum-term}
 use Rattle.registers.specs.Digits.{LowestGroup, ones-of-zero}
 use Rattle.registers.specs.Words.{pairDigit, digitIn, wordSets}
-use Rattle.registers.specs.Tallies.{countPlaces, Counted, CountedRow, CountsTo}
+use Rattle.registers.specs.Tallies.{groupPlaces, Counted, CountedRow, CountsTo}
 use Rattle.registers.proofs.WordLaws.{pair-low, pair-high, pair-le, pair-ones, digit-in-pair, digit-in-le, holds-digit}
 
 -- of the words low and high the walk has left l and h, and the counts went from t to u
@@ -70,7 +70,7 @@ loses-high l h g w =
 
 module _ (low high l h l′ h′ g : ℕ) (t u : List ℕ) (w : Walked low high t l h u) (d : Loses l h l′ h′ g) where
   -- a group is taken, and counted
-  walk-on : countPlaces ≤ length u → Walked low high t l′ h′ (set u g (getD u g 0 + 1))
+  walk-on : groupPlaces ≤ length u → Walked low high t l′ h′ (set u g (getD u g 0 + 1))
   walk-on n =
       record {
         low-fits = lt-of-le-of-lt (d .low-most) (w .low-fits);
@@ -144,7 +144,7 @@ abbrev pub Turns : ℕ → ℕ → List ℕ → ℕ → ℕ → ℕ → List ℕ
 Turns low high t n l h u counter = (length u ≡ length t) × ((ones l + ones h + counter ≡ n) × Walked low high t l h u)
 
 pub turn : (low high l h l′ h′ g n counter : ℕ) (t u : List ℕ) {l″ h″ : ℕ} {u″ : List ℕ} → Turns low high t n l h u counter
-    → Loses l h l′ h′ g → countPlaces ≤ length t → u″ ≡ set u g (getD u g 0 + 1) → l″ ≡ l′ → h″ ≡ h′
+    → Loses l h l′ h′ g → groupPlaces ≤ length t → u″ ≡ set u g (getD u g 0 + 1) → l″ ≡ l′ → h″ ≡ h′
     → Turns low high t n l″ h″ u″ (counter + 1)
 turn low high l h l′ h′ g n counter t u v d r x y z =
     rw (x, y, z)

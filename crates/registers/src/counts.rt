@@ -8,7 +8,7 @@ ghost use Rattle.wire.specs.Limits.{groupLimit, rowLimit};
 ghost use Rattle.meaning.specs.Sum.{sum};
 ghost use Rattle.registers.specs.Digits.{Lowest, LowestGroup};
 ghost use Rattle.registers.specs.Words.{pairDigit, wordSets};
-ghost use Rattle.registers.specs.Tallies.{countPlaces, Counted, CountedRow, CountsTo};
+ghost use Rattle.registers.specs.Tallies.{groupPlaces, Counted, CountedRow, CountsTo};
 
 // the number of a row's groups
 pub fn groups_of(low: u64, high: u64) -> u32
@@ -60,7 +60,7 @@ fn bump(counts: &mut [u32], g: GroupNo)
 
 // one more member in each group of a row
 fn count_row(low: u64, high: u64, counts: &mut [u32])
-    requires { ⌜ (countPlaces ≤ length (now counts)) × CountsTo rowLimit (now counts) ⌝ }
+    requires { ⌜ (groupPlaces ≤ length (now counts)) × CountsTo rowLimit (now counts) ⌝ }
     ensures { λ _. ⌜ CountedRow low high (now (counts .entry)) (now (counts .exit)) ⌝ }
 {
     let n = groups_of(low, high);
@@ -79,7 +79,7 @@ fn count_row(low: u64, high: u64, counts: &mut [u32])
 
 // the count of each group over the first n rows of a table
 pub fn count_groups(words: &[u64], n: usize, counts: &mut [u32])
-    requires { ⌜ (n ≤ rowLimit) × ((2 * n ≤ length (now words)) × ((countPlaces ≤ length (now counts)) × CountsTo 0 (now counts))) ⌝ }
+    requires { ⌜ (n ≤ rowLimit) × ((2 * n ≤ length (now words)) × ((groupPlaces ≤ length (now counts)) × CountsTo 0 (now counts))) ⌝ }
     ensures { λ _. ⌜ Counted (wordSets (now (words .entry)) n) (now (counts .exit)) ⌝ }
 {
     for row in 0..n {

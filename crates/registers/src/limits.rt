@@ -13,9 +13,10 @@ pub const ROW_LENGTH: u16 = ROW_BYTES as u16 - 2;
 
 pub const ROW_KIND: u16 = 32;
 
-// Two words, a bit for each group, hold the groups of a row, and the sons of a group. Places go by a group's number, 0 for none.
+// Two words, a bit for each group: so long is the table of the rows.
 pub const ROW_WORDS: usize = 2 * ROWS;
 
+// Places by a group's number, 0 for none, and two words at each for its sons.
 pub const GROUP_PLACES: usize = GROUPS as usize + 1;
 
 pub const SON_WORDS: usize = 2 * GROUP_PLACES;

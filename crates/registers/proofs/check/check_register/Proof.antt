@@ -7,7 +7,7 @@ use native.Mathlib.Nat.{le-refl, le-of-eq}
 use Rattle.reading.specs.Tables.{length-groupsIn}
 use Rattle.registers.specs.declared.rows.Rows.the-variants as rows
 use Rattle.registers.specs.RowsRead.{ReadInto}
-use Rattle.registers.specs.Tallies.{sonWords, countPlaces}
+use Rattle.registers.specs.Tallies.{sonWords, groupPlaces}
 use Rattle.registers.proofs.CheckLaws.{checked-refused, rows-most, checked-words, zeros, counts-zeros}
 use Rattle.registers.proofs.check.check_register.Statement.{statement}
 use Rattle.registers.proofs.check.check_register.Tie as tie
@@ -50,7 +50,7 @@ count-groups-requires c κs =
       omega (arith, rows-most _ _ _ _ (read-into n)),
       (
         omega (arith, rows-most _ _ _ _ (read-into n), n .before .before .before .read-rows .kept .1 .1 .0),
-        (le-refl countPlaces, counts-zeros countPlaces),
+        (le-refl groupPlaces, counts-zeros groupPlaces),
       ),
     )
 
