@@ -19,12 +19,12 @@ pub record SheetIn (t : List ℕ) (n : ℕ) : Type 0 where
   pub room : groupFields * n ≤ length t
   pub tree : Tree (sheetOf (groupsIn t n))
 
--- words of the table of sons, and places of the table of counts: group numbers start at 1, and place 0 is for none
-abbrev pub sonWords : ℕ
-sonWords = 2 * (groupLimit + 1)
+-- places of a table by group, and words of the table of sons: group numbers start at 1, and place 0 is for none
+abbrev pub groupPlaces : ℕ
+groupPlaces = groupLimit + 1
 
-abbrev pub countPlaces : ℕ
-countPlaces = groupLimit + 1
+abbrev pub sonWords : ℕ
+sonWords = 2 * groupPlaces
 
 -- a table of sons with h added to the sons of p
 abbrev pub withSon : List ℕ → ℕ → ℕ → List ℕ
@@ -53,7 +53,7 @@ pub record Gathered (t : List ℕ) (n : ℕ) (w : List ℕ) (rows : ℕ) (u c : 
   pub row-words : 2 * rows ≤ length w
   pub son-words : sonWords ≤ length u
   pub sons : SonsListed (sheetOf (groupsIn t n)) u
-  pub places : countPlaces ≤ length c
+  pub places : groupPlaces ≤ length c
   pub counts : Counted (wordSets w rows) c
 
 -- what the test of one row asks: row and groups are within the tables, and rules 1 and 2 have a parent p

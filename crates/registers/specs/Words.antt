@@ -6,7 +6,7 @@ use mathlib.Core.List.{List}
 use lib.ListN.{getD}
 use lib.Dec.{ltb, eqb}
 use Rattle.meaning.specs.Sum.{sum}
-use Rattle.meaning.specs.Sets.{Sets, numbered}
+use Rattle.meaning.specs.Sets.{Sets, Distinct, numbered}
 use Rattle.wire.specs.Limits.{groupLimit}
 use Rattle.wire.specs.Bytes.{u32At}
 use Rattle.registers.specs.Digits.{digit}
@@ -30,6 +30,9 @@ holds t i g = eqb (digitIn t i (g - 1)) 1
 -- the sets that the first n places of a table list
 abbrev pub wordSets : List ℕ → ℕ → Sets ℕ
 wordSets t n = numbered n (λ g i. holds t i g)
+
+pub words-distinct : (t : List ℕ) (n : ℕ) → Distinct (wordSets t n)
+words-distinct t n = record { once = λ i j k l e. e }
 
 -- the number of groups that are in the sets at place i of one table and at place p of another
 unfoldable pub inBoth : List ℕ → ℕ → List ℕ → ℕ → ℕ

@@ -5,13 +5,15 @@ use mathlib.Core.Path.{sym, _∙_}
 use native.Mathlib.Omega.{arith}
 use native.Mathlib.Nat.{add-zero}
 use lib.ListN.{drop, length-drop}
-use Rattle.registers.proofs.RowLaws.{u16-drop, row-none, row-short, row-length, row-kind, row-whole, words-made}
+use Rattle.wire.specs.Limits.{rowBytes}
+use Rattle.wire.specs.Fields.{u16-drop}
+use Rattle.registers.proofs.RowLaws.{front-none, front-short, front-length, front-kind, front-row, words-made}
 use Rattle.registers.proofs.rows.row_at.Statement.{statement}
 use Rattle.registers.proofs.rows.row_at.Tie as tie
 
 returns : tie.Need-returns
 returns c = let a = c .before .before .args in
-    sym (row-none (drop (24 * a .row) (a .register .now)) (simp length-drop (omega arith)))
+    sym (front-none (drop (rowBytes * a .row) (a .register .now)) (simp length-drop (omega arith)))
 
 mul-at : tie.Need-mul-at
 mul-at c = search needs
@@ -21,11 +23,11 @@ sub-left c = search needs
 
 returns-2 : tie.Need-returns-2
 returns-2 c = let a = c .before .before .before .args in
-    sym (row-none (drop (24 * a .row) (a .register .now)) (simp length-drop (omega arith)))
+    sym (front-none (drop (rowBytes * a .row) (a .register .now)) (simp length-drop (omega arith)))
 
 returns-3 : tie.Need-returns-3
 returns-3 c = let a = c .before .before .before .before .args in
-    sym (row-short (drop (24 * a .row) (a .register .now))
+    sym (front-short (drop (rowBytes * a .row) (a .register .now))
     (λ e. c .before .if2 .left (let z = rw length-drop at e in omega arith)) (simp length-drop (omega arith)))
 
 word-requires : tie.Need-word-requires
@@ -34,8 +36,8 @@ word-requires c κs = search needs
 returns-4 : tie.Need-returns-4
 returns-4 c =
     let a = c .before .before .before .before .before .before .args in
-    let at = 24 * a .row in
-    sym (row-length (drop at (a .register .now)) (simp length-drop (omega arith))
+    let at = rowBytes * a .row in
+    sym (front-length (drop at (a .register .now)) (simp length-drop (omega arith))
     (λ e. c .if4 .taken (c .before .word .ensures ∙ (rw (u16-drop at (a .register .now) 0, add-zero at) at e))))
 
 add-word : tie.Need-add-word
@@ -47,8 +49,8 @@ word-requires-2 c κs = search needs
 returns-5 : tie.Need-returns-5
 returns-5 c =
     let a = c .before .before .before .before .before .before .before .before .args in
-    let at = 24 * a .row in
-    sym (row-kind (drop at (a .register .now)) (simp length-drop (omega arith))
+    let at = rowBytes * a .row in
+    sym (front-kind (drop at (a .register .now)) (simp length-drop (omega arith))
     (rw (u16-drop at (a .register .now) 0, add-zero at)
     (sym (c .before .before .before .word .ensures) ∙ c .before .before .if4 .left))
     (λ e. c .if5 .taken (c .before .word2 .ensures ∙ (rw (u16-drop at (a .register .now) 2) at e))))
@@ -74,10 +76,11 @@ wide-requires-2 c κs = search needs
 returns-6 : tie.Need-returns-6
 returns-6 c =
     let d = c .before .before .before in
-    let a = d .before .before .before .before .before .before .before .before .args in
-    let at = 24 * a .row in
-    words-made at (a .register .now) (c .before .before .long .ensures) (c .before .wide .ensures) (c .wide2 .ensures)
-    ∙ sym (row-whole (drop at (a .register .now)) (simp length-drop (omega arith))
+    let bytes = d .before .before .before .before .before .before .before in
+    let a = bytes .before .args in
+    let at = rowBytes * a .row in
+    words-made at (a .register .now) (λ i. bytes .shared-slice-known .given i .fits) (simp length-drop (omega arith)) (c .before .before .long .ensures) (c .before .wide .ensures) (c .wide2 .ensures)
+    ∙ sym (front-row (drop at (a .register .now)) (simp length-drop (omega arith))
     (rw (u16-drop at (a .register .now) 0, add-zero at)
     (sym (d .before .before .before .word .ensures) ∙ d .before .before .if4 .left))
     (rw (u16-drop at (a .register .now) 2) (sym (d .before .word2 .ensures) ∙ d .if5 .left)))
