@@ -1,5 +1,6 @@
 pub mod Limits
 pub mod Bytes
+pub mod Wide
 pub mod Record
 pub mod SheetFormat
 pub mod RegisterFormat
