@@ -1,6 +1,7 @@
 pub mod Limits
 pub mod Edition
 pub mod Bytes
+pub mod Wide
 pub mod Record
 pub mod SheetFormat
 pub mod RegisterFormat
