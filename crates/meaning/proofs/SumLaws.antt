@@ -108,11 +108,6 @@ unfolding sum
 sum-add f h zero = refl
 sum-add f h (suc n) = omega (arith, sum-add f h n)
 
-pub sum-swap : (f : ℕ → ℕ → ℕ) (n k : ℕ) → sum (λ i. sum (λ j. f i j) k) n ≡ sum (λ j. sum (λ i. f i j) n) k
-unfolding sum
-sum-swap f zero k = sym (sum-zero (λ j. 0) k (λ m l. refl))
-sum-swap f (suc n) k = omega (arith, sum-swap f n k, sum-add (λ j. sum (λ i. f i j) n) (λ j. f n j) k)
-
 -- a term is at most the sum
 pub sum-term : (f : ℕ → ℕ) (n g : ℕ) → g < n → f g ≤ sum f n
 unfolding sum

@@ -106,13 +106,6 @@ module _ {s : Sheet} {A : Sets ℕ} (w : Fits s A) where
       rw (← (sum-add (λ i. bit (groupsOf A i g)) (λ i. bit (groupsOf A i h)) (A .bound)))
       (sum-le _ _ (A .bound) (λ i l. q (groupsOf A i) (w .rules i l)))
 
-  over-two : (p g h : ℕ) → ((M : ℕ → Bool) → Meets s M → bit (M p) ≤ bit (M g) + bit (M h))
-      → sets.count A p ≤ sets.count A g + sets.count A h
-  unfolding sets.count
-  over-two p g h q =
-      rw (← (sum-add (λ i. bit (groupsOf A i g)) (λ i. bit (groupsOf A i h)) (A .bound)))
-      (sum-le _ _ (A .bound) (λ i l. q (groupsOf A i) (w .rules i l)))
-
   as-one : (p g : ℕ) → ((M : ℕ → Bool) → Meets s M → M g ≡ M p) → sets.count A g ≡ sets.count A p
   unfolding sets.count
   as-one p g q = sum-eq _ _ (A .bound) (λ i l. ap bit (q (groupsOf A i) (w .rules i l)))

@@ -4,7 +4,7 @@ use mathlib.Core.Path.{_≡_}
 use mathlib.Core.List.{List}
 use native.Mathlib.Omega.{arith}
 use lib.ListN.{length}
-use Rattle.wire.specs.Limits.{boundLimit, modeLimit, noEnd}
+use Rattle.wire.specs.Limits.{boundLimit, noEnd}
 use Rattle.wire.specs.Record.{read}
 use Rattle.wire.specs.SheetFormat.{Records, readSheet}
 use Rattle.wire.specs.Encoding.{Right, SheetWithin}
@@ -23,9 +23,6 @@ module _ {d : Records} (R : Right d) (g : ℕ) (G : Group (sheetOf (d .groups)) 
 
   pub lo-most : groupAt (d .groups) g .lo ≤ boundLimit
   lo-most = group-at R (g - 1) _ (omega arith) .lo
-
-  pub mode-most : groupAt (d .groups) g .mode ≤ modeLimit
-  mode-most = group-at R (g - 1) _ (omega arith) .mode
 
 pub root-under-none : {d : Records} → Right d → groupAt (d .groups) 1 .parent ≡ 0
 root-under-none R = root-parent R _

@@ -1,4 +1,4 @@
--- What is given at the root, and at each son by what stands at smaller groups, exists and is unique. So are the ranges.
+-- What is given at the root, and at each son by what stands at smaller groups, exists and is unique. So the ranges exist.
 use Prim.Native.Nat.{ℕ, zero, suc, _-_, _<_}
 use mathlib.Core.Path.{_≡_, refl, sym, _∙_}
 use mathlib.Core.Bool.{Bool, false, cond}
@@ -90,9 +90,3 @@ module _ {s : Sheet} (t : Tree s) (r : Rooted s) (z : ℕ → Bool → Span) whe
   ranged-exists =
       let w = down-exists t r (z 1 false) (rangeAt s z) range-local in
       (w .0, record { root = w .1 .root; son = w .1 .son })
-
-  pub ranged-unique : (R T : ℕ → Span) → Ranged s z R → Ranged s z T → (g : ℕ) → Group s g → R g ≡ T g
-  ranged-unique R T x y =
-      down-unique t r (z 1 false) (rangeAt s z) range-local R T
-      (record { root = x .root; son = x .son })
-      (record { root = y .root; son = y .son })

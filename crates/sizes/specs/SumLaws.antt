@@ -9,7 +9,7 @@ use lib.Dec.{ltb, eqb}
 use Rattle.meaning.specs.Sum.{sum}
 use Rattle.meaning.specs.Sheet.{Sheet, Group, Son, Tree}
 use Rattle.sizes.specs.Balanced.{isSon, only, sons}
-pub use Rattle.meaning.proofs.SumLaws.{split, compare-le, compare-eq, below-suc, and-true, or-true, or-left, or-right, or-false, not-true-false, true-not-false, bit-most, bit-le, bit-le-true, bit-eq, bit-true, true-bit, false-bit, sum-le, sum-eq, sum-suc, sum-first, sum-zero, sum-add, sum-swap, sum-term, sum-prefix, sum-longer, sum-tight, locate, sum-some, sum-two, sum-one, sum-but, sum-run}
+pub use Rattle.meaning.proofs.SumLaws.{split, compare-le, compare-eq, below-suc, and-true, or-true, or-left, or-right, or-false, not-true-false, true-not-false, bit-most, bit-le, bit-le-true, bit-eq, bit-true, true-bit, false-bit, sum-le, sum-eq, sum-suc, sum-first, sum-zero, sum-add, sum-term, sum-prefix, sum-longer, sum-tight, locate, sum-some, sum-two, sum-one, sum-but, sum-run}
 
 -- sons
 pub son-of : (s : Sheet) (p g : ℕ) → g ≤ s .size → isSon s p g ≡ true → Son s p g
