@@ -5,7 +5,9 @@ use mathlib.Core.List.{List}
 use native.Mathlib.Omega.{arith}
 use native.Mathlib.Nat.{le-of-eq}
 use lib.ListN.{length, getD, replicate, length-replicate, getD-replicate, List·getD-eq-default}
-use Rattle.wire.specs.Limits.{groupLimit, rowLimit}
+use Rattle.wire.specs.Edition.{edition1}
+use Rattle.wire.specs.Limits.{rowLimit}
+use Rattle.registers.specs.Words.{rowGroups}
 use Rattle.wire.specs.Record.{Reading, refused}
 use Rattle.wire.specs.RegisterFormat.{Row, readRegister}
 use Rattle.wire.specs.RoundTripRegister.{register-read}
@@ -24,7 +26,7 @@ use Rattle.registers.specs.declared.check.Check.the-variants as check
 use Rattle.registers.specs.declared.rows.Rows.the-variants as rows
 use Rattle.registers.proofs.RowLaws.{length-rowsBefore}
 
-words-agree : (s : Sheet) (t : List ℕ) (rs : List Row) (n : ℕ) → s .size ≤ groupLimit → length rs ≡ n → Kept rs t
+words-agree : (s : Sheet) (t : List ℕ) (rs : List Row) (n : ℕ) → s .size ≤ rowGroups → length rs ≡ n → Kept rs t
     → Distinct (listedSets rs) → Agree s (wordSets t n) (listedSets rs)
 words-agree s t rs n z e k d =
     record {
@@ -45,17 +47,17 @@ checked-refused s d n k e =
 module _ (groups : ℕ) (b t : List ℕ) (n : ℕ) (w : ReadInto groups b (rows.Count n) t) where
   pub rows-most : n ≤ rowLimit
   rows-most =
-      omega (arith, length-rowsBefore b n, register-read groups b (rowsBefore b n) (sym (w .reading)) .rowCount)
+      omega (arith, length-rowsBefore b n, register-read edition1 groups b (rowsBefore b n) (sym (w .reading)) .rowCount)
 
   -- the answer to the words is the answer to the rows
-  pub checked-words : (s : Sheet) (r : Check) → Tree s → s .size ≤ groupLimit → AnswerTo s (wordSets t n) r
-      → Checked s (readRegister groups b) r
+  pub checked-words : (s : Sheet) (r : Check) → Tree s → s .size ≤ rowGroups → AnswerTo s (wordSets t n) r
+      → Checked s (readRegister edition1 groups b) r
   checked-words s r y z v =
       record {
         refusal = λ m j f. absurd (let e = w .reading ∙ f in let z : _≡_ {A = ℕ} 0 1 = cc in omega arith);
         answer = λ rs f.
             let same : rowsBefore b n ≡ rs = (let e = w .reading ∙ f in cc) in
-            let d = distinct-of-readable groups b rs f in
+            let d = distinct-of-readable edition1 groups b rs f in
             let g = words-agree s t rs n z (rw (← same) (length-rowsBefore b n)) (w .kept rs (w .reading ∙ f)) d in
             record {
               names = v .names;

@@ -9,7 +9,7 @@ use lib.ListN.{length, getD, set, length-set}
 use lib.Seq.{getD-set-same, getD-set-other}
 use lib.Bits.{bitAnd, and-le-l}
 use lib.Count.{ones}
-use Rattle.wire.specs.Limits.{groupLimit}
+use Rattle.registers.specs.Words.{rowGroups}
 use Rattle.meaning.specs.Sum.{sum}
 use Rattle.meaning.specs.Sets.{count}
 use Rattle.meaning.proofs.SumLaws.{compare-le, compare-eq, sum-eq, sum-suc, sum-zero, sum-term}
@@ -22,12 +22,12 @@ use Rattle.registers.proofs.WordLaws.{pair-low, pair-high, pair-le, pai
 pub record Walked (low high : ℕ) (t : List ℕ) (l h : ℕ) (u : List ℕ) : Type 0 where
   pub low-fits : l < 2 ^ 64
   pub high-fits : h < 2 ^ 64
-  pub each : (g : ℕ) → 1 ≤ g → g ≤ groupLimit → getD u g 0 + pairDigit l h (g - 1) ≡ getD t g 0 + pairDigit low high (g - 1)
+  pub each : (g : ℕ) → 1 ≤ g → g ≤ rowGroups → getD u g 0 + pairDigit l h (g - 1) ≡ getD t g 0 + pairDigit low high (g - 1)
 
 -- the words l and h lose the bit of group g
 pub record Loses (l h l′ h′ g : ℕ) : Type 0 where
   pub first : 1 ≤ g
-  pub last : g ≤ groupLimit
+  pub last : g ≤ rowGroups
   pub set : pairDigit l h (g - 1) ≡ 1
   pub cleared : pairDigit l′ h′ (g - 1) ≡ 0
   pub others : (j : ℕ) → (j ≡ g - 1 → ⊥) → pairDigit l′ h′ j ≡ pairDigit l h j
@@ -100,7 +100,7 @@ walk-end low high l h t u w e =
             arith,
             w .each g a b,
             pair-ones l h (w .low-fits) (w .high-fits),
-            sum-term (pairDigit l h) groupLimit (g - 1) (omega arith),
+            sum-term (pairDigit l h) rowGroups (g - 1) (omega arith),
           );
     }
 
@@ -111,7 +111,7 @@ ones-positive (suc m) l = omega arith
 
 -- the counts of the rows before `row`
 pub record CountedTo (t : List ℕ) (row : ℕ) (u : List ℕ) : Type 0 where
-  pub each : (g : ℕ) → 1 ≤ g → g ≤ groupLimit → getD u g 0 ≡ sum (λ i. digitIn t i (g - 1)) row
+  pub each : (g : ℕ) → 1 ≤ g → g ≤ rowGroups → getD u g 0 ≡ sum (λ i. digitIn t i (g - 1)) row
 
 pub counted-none : (t u : List ℕ) → CountsTo 0 u → CountedTo t 0 u
 counted-none t u z = record { each = λ g a b. rw (sum-zero (λ i. digitIn t i (g - 1)) 0 (λ i l. absurd (omega arith))) (omega (arith, z .each g a b)) }

@@ -9,7 +9,8 @@ use borrow.Author.Tests.{lt-ltb, le-ltb, eq-eqb, ne-eqb, eqb-true, eqb-false, no
 use lib.ListN.{length, getD, take, drop, length-append, List·getD-append}
 use lib.Seq.{drop-cons, take-at, getD-append-add}
 use lib.Dec.{eqb}
-use Rattle.wire.specs.Limits.{membershipBytes, groupLimit, rowBytes}
+use Rattle.wire.specs.Edition.{edition1, groupLimit, membershipBytes, rowBytes}
+use Rattle.registers.specs.Words.{rowGroups}
 use Rattle.wire.specs.Bytes.{u32At}
 use Rattle.wire.specs.RegisterFormat.{Row, inGroup, clearAbove}
 use Rattle.wire.specs.Encoding.{Bytes}
@@ -56,11 +57,12 @@ length-bytesOf zero w = refl
 length-bytesOf (suc n) w = omega (arith, length-bytesOf n (w / 256))
 
 -- the membership bytes of a row are those of its two words
-pub bits-back : (b : List ℕ) → Bytes b → rowBytes ≤ length b
-    → bytesOf 8 (u64At b 8) ++ bytesOf 8 (u64At b 16) ≡ take membershipBytes (drop 8 b)
+pub bits-back : (b : List ℕ) → Bytes b → rowBytes edition1 ≤ length b
+    → bytesOf 8 (u64At b 8) ++ bytesOf 8 (u64At b 16) ≡ take (membershipBytes edition1) (drop 8 b)
+unfolding membershipBytes
 bits-back b h l =
     rw (← word-back b 8 h (omega arith), ← word-back b 16 h l, ← append-assoc)
-    (sym (take-at (bytesOf 8 (u64At b 8) ++ bytesOf 8 (u64At b 16)) (drop rowBytes b) membershipBytes
+    (sym (take-at (bytesOf 8 (u64At b 8) ++ bytesOf 8 (u64At b 16)) (drop (rowBytes edition1) b) (membershipBytes edition1)
     (simp (length-append, length-bytesOf))))
 
 -- digit k of a byte of a number
@@ -76,7 +78,7 @@ digit-byte (suc n) w (suc i) k l m =
     digit-byte n (w / 256) i k (omega arith) m ∙ (rw e (digit-shift w 8 (8 * i + k)))
 
 -- digit j of two words is digit j mod 8 of byte j div 8 of both
-pair-byte : (low high j : ℕ) → j < groupLimit
+pair-byte : (low high j : ℕ) → j < rowGroups
     → digit (getD (bytesOf 8 low ++ bytesOf 8 high) (j / 8) 0) (j % 8) ≡ pairDigit low high j
 pair-byte low high j l =
     compare-le 64 j
@@ -93,7 +95,7 @@ unfolding inGroup digit
 in-group-digit r g = refl
 
 -- group g is digit g - 1 of a row's two words
-pub in-group-words : (w : RowWords) (g : ℕ) → g ≤ groupLimit
+pub in-group-words : (w : RowWords) (g : ℕ) → g ≤ rowGroups
     → inGroup (rowOfWords w) g ≡ eqb (pairDigit (w .low) (w .high) (g - 1)) 1
 in-group-words w g l =
     in-group-digit (rowOfWords w) g ∙ (rw (pair-byte (w .low) (w .high) (g - 1) (omega arith)))
@@ -113,7 +115,8 @@ clear-none r groups (suc n) h = rw (h n (le-refl (suc n))) (clear-none r groups 
 
 -- the test of the words is the test of the bytes
 pub clear-words : (w : RowWords) (groups : ℕ) (r : Bool) → Above groups (w .low) (w .high) r
-    → clearAbove (rowOfWords w) groups (8 * membershipBytes - groups) ≡ not r
+    → clearAbove (rowOfWords w) groups (groupLimit edition1 - groups) ≡ not r
+unfolding membershipBytes
 clear-words w groups true a =
     let j = a .some refl in
     clear-some (rowOfWords w) groups _ (j .0 - groups) (omega arith)
@@ -133,10 +136,10 @@ nothing : (x : ℕ) → not (eqb x 0) ≡ false → x ≡ 0
 nothing x e = eqb-true x 0 (not-false (eqb x 0) e)
 
 -- whether a digit from `groups` on is set, by shifts
-pub above-nothing : (groups low high : ℕ) → groupLimit ≤ groups → Above groups low high false
+pub above-nothing : (groups low high : ℕ) → rowGroups ≤ groups → Above groups low high false
 above-nothing groups low high l = record { some = λ e. absurd (false≢true e); none = λ e j a b. absurd (omega arith) }
 
-pub above-high : (groups low high : ℕ) → 64 ≤ groups → groups < groupLimit → high < 2 ^ 64
+pub above-high : (groups low high : ℕ) → 64 ≤ groups → groups < rowGroups → high < 2 ^ 64
     → Above groups low high (not (eqb (high / 2 ^ (groups - 64)) 0))
 unfolding pairDigit
 above-high groups low high l m h =

@@ -10,13 +10,14 @@ use borrow.Author.Tests.{lt-ltb, le-ltb, le-leb, lt-leb, eq-eqb, ne-eqb, eqb-tru
 use lib.ListN.{length, drop, getD, set, length-append, length-drop, List·getD-append}
 use lib.Seq.{getD-drop, drop-drop, getD-at}
 use lib.Dec.{leb, eqb}
-use Rattle.wire.specs.Limits.{rowBytes, rowLimit, membershipBytes}
+use Rattle.wire.specs.Limits.{rowLimit}
+use Rattle.wire.specs.Edition.{edition1, groupLimit, membershipBytes, rowBytes, rowKind}
 use Rattle.wire.specs.Bytes.{u16At, u32At}
 use Rattle.wire.specs.Record.{Reading, read, refused, onward, refusal}
 use Rattle.wire.specs.RegisterFormat.{Row, rowOf, lastMember, clearAbove, rowTests, readRows, readRegister}
 use Rattle.wire.specs.Encoding.{Bytes}
 use Rattle.wire.specs.Facts.{bytes-drop}
-use Rattle.meaning.specs.ReadableRows.{noRow}
+use Rattle.meaning.specs.OfRecords.{noRow}
 use Rattle.meaning.proofs.SumLaws.{split, below-suc}
 use Rattle.registers.specs.declared.rows.RowWords.{RowWords}
 use Rattle.registers.specs.declared.rows.RowAnswer.the-variants as answer
@@ -36,9 +37,9 @@ u64-drop n b i = rw (u32-drop n b i, u32-drop n b (i + 4), add-assoc n i 4)
 
 -- what bytes begin with
 abbrev framed : List ℕ → Bool
-framed b = leb rowBytes (length b) && eqb (u16At b 0) (rowBytes - 2) && eqb (u16At b 2) 32
+framed b = leb (rowBytes edition1) (length b) && eqb (u16At b 0) (rowBytes edition1 - 2) && eqb (u16At b 2) (rowKind edition1)
 
-front-some : (b : List ℕ) → eqb (length b) 0 ≡ false → frontOf b ≡ cond (framed b) (held (rowOf b)) (turned 11)
+front-some : (b : List ℕ) → eqb (length b) 0 ≡ false → frontOf b ≡ cond (framed b) (held (rowOf edition1 b)) (turned 11)
 unfolding frontOf rowTests refusal
 front-some b e = rw e (split (framed b) (λ x. rw x) (λ x. rw x))
 
@@ -46,26 +47,26 @@ pub front-none : (b : List ℕ) → length b ≡ 0 → frontOf b ≡ ended
 unfolding frontOf
 front-none b e = rw (eq-eqb (length b) 0 e)
 
-pub front-short : (b : List ℕ) → (length b ≡ 0 → ⊥) → length b < rowBytes → frontOf b ≡ turned 11
-front-short b e l = front-some b (ne-eqb (length b) 0 e) ∙ (rw (lt-leb rowBytes (length b) l))
+pub front-short : (b : List ℕ) → (length b ≡ 0 → ⊥) → length b < rowBytes edition1 → frontOf b ≡ turned 11
+front-short b e l = front-some b (ne-eqb (length b) 0 e) ∙ (rw (lt-leb (rowBytes edition1) (length b) l))
 
-module _ (b : List ℕ) (l : rowBytes ≤ length b) where
-  front-long : frontOf b ≡ cond (eqb (u16At b 0) (rowBytes - 2) && eqb (u16At b 2) 32) (held (rowOf b)) (turned 11)
-  front-long = front-some b (ne-eqb (length b) 0 (λ z. omega arith)) ∙ (rw (le-leb rowBytes (length b) l))
+module _ (b : List ℕ) (l : rowBytes edition1 ≤ length b) where
+  front-long : frontOf b ≡ cond (eqb (u16At b 0) (rowBytes edition1 - 2) && eqb (u16At b 2) (rowKind edition1)) (held (rowOf edition1 b)) (turned 11)
+  front-long = front-some b (ne-eqb (length b) 0 (λ z. omega arith)) ∙ (rw (le-leb (rowBytes edition1) (length b) l))
 
-  pub front-length : (u16At b 0 ≡ rowBytes - 2 → ⊥) → frontOf b ≡ turned 11
-  front-length e = front-long ∙ (rw (ne-eqb (u16At b 0) (rowBytes - 2) e))
+  pub front-length : (u16At b 0 ≡ rowBytes edition1 - 2 → ⊥) → frontOf b ≡ turned 11
+  front-length e = front-long ∙ (rw (ne-eqb (u16At b 0) (rowBytes edition1 - 2) e))
 
-  pub front-kind : u16At b 0 ≡ rowBytes - 2 → (u16At b 2 ≡ 32 → ⊥) → frontOf b ≡ turned 11
-  front-kind d e = front-long ∙ (rw (eq-eqb (u16At b 0) (rowBytes - 2) d, ne-eqb (u16At b 2) 32 e))
+  pub front-kind : u16At b 0 ≡ rowBytes edition1 - 2 → (u16At b 2 ≡ rowKind edition1 → ⊥) → frontOf b ≡ turned 11
+  front-kind d e = front-long ∙ (rw (eq-eqb (u16At b 0) (rowBytes edition1 - 2) d, ne-eqb (u16At b 2) (rowKind edition1) e))
 
-  pub front-row : u16At b 0 ≡ rowBytes - 2 → u16At b 2 ≡ 32 → frontOf b ≡ held (rowOf b)
-  front-row d e = front-long ∙ (rw (eq-eqb (u16At b 0) (rowBytes - 2) d, eq-eqb (u16At b 2) 32 e))
+  pub front-row : u16At b 0 ≡ rowBytes edition1 - 2 → u16At b 2 ≡ rowKind edition1 → frontOf b ≡ held (rowOf edition1 b)
+  front-row d e = front-long ∙ (rw (eq-eqb (u16At b 0) (rowBytes edition1 - 2) d, eq-eqb (u16At b 2) (rowKind edition1) e))
 
 -- the decoded words stand for the row
-pub words-made : (n : ℕ) (b : List ℕ) {m l h : ℕ} → Bytes b → rowBytes ≤ length (drop n b) → m ≡ u32At b (n + 4)
+pub words-made : (n : ℕ) (b : List ℕ) {m l h : ℕ} → Bytes b → rowBytes edition1 ≤ length (drop n b) → m ≡ u32At b (n + 4)
     → l ≡ u64At b (n + 8) → h ≡ u64At b (n + 16)
-    → rowGives (answer.Row (record { member = m; low = l; high = h })) ≡ held (rowOf (drop n b))
+    → rowGives (answer.Row (record { member = m; low = l; high = h })) ≡ held (rowOf edition1 (drop n b))
 unfolding rowOf
 words-made n b k w x y z =
     rw (x, y, z, ← u32-drop n b 4, ← u64-drop n b 8, ← u64-drop n b 16, bits-back (drop n b) (bytes-drop n b k) w)
@@ -89,7 +90,7 @@ turned-frame b n e =
     (λ y. absurd (let w = rw y at s in let z : _≡_ {A = ℕ} 0 1 = cc in omega arith))
     (λ y. let w = rw y at s in (o, y, cc))
 
-held-frame : (b : List ℕ) (r : Row) → held r ≡ frontOf b → (eqb (length b) 0 ≡ false) × (framed b ≡ true) × (r ≡ rowOf b)
+held-frame : (b : List ℕ) (r : Row) → held r ≡ frontOf b → (eqb (length b) 0 ≡ false) × (framed b ≡ true) × (r ≡ rowOf edition1 b)
 held-frame b r e =
     let o = not-empty b (held r) e (λ f. let z : _≡_ {A = ℕ} 0 1 = cc in omega arith) in
     let s = e ∙ front-some b o in
@@ -98,32 +99,32 @@ held-frame b r e =
     (λ y. absurd (let w = rw y at s in let z : _≡_ {A = ℕ} 0 1 = cc in omega arith))
 
 -- one step of the reading
-step-end : (groups left : ℕ) (rs : List Row) (b : List ℕ) → eqb (length b) 0 ≡ true → readRows groups (suc left) rs b ≡ read rs
+step-end : (groups left : ℕ) (rs : List Row) (b : List ℕ) → eqb (length b) 0 ≡ true → readRows edition1 groups (suc left) rs b ≡ read rs
 unfolding readRows
 step-end groups left rs b x = rw x
 
 step-refused : (groups left n : ℕ) (rs : List Row) (b : List ℕ) → eqb (length b) 0 ≡ false
-    → refusal (rowTests groups rs b) ≡ suc n
-    → readRows groups (suc left) rs b ≡ refused (suc n) (length rs + 1)
+    → refusal (rowTests edition1 groups rs b) ≡ suc n
+    → readRows edition1 groups (suc left) rs b ≡ refused (suc n) (length rs + 1)
 unfolding readRows onward
 step-refused groups left n rs b x y = rw (x, y, ne-eqb (suc n) 0 (λ z. omega arith))
 
-step-on : (groups left : ℕ) (rs : List Row) (b : List ℕ) → eqb (length b) 0 ≡ false → refusal (rowTests groups rs b) ≡ 0
-    → readRows groups (suc left) rs b ≡ readRows groups left (rs ++ (rowOf b ∷ [])) (drop rowBytes b)
+step-on : (groups left : ℕ) (rs : List Row) (b : List ℕ) → eqb (length b) 0 ≡ false → refusal (rowTests edition1 groups rs b) ≡ 0
+    → readRows edition1 groups (suc left) rs b ≡ readRows edition1 groups left (rs ++ (rowOf edition1 b ∷ [])) (drop (rowBytes edition1) b)
 unfolding readRows onward
 step-on groups left rs b x y = rw (x, y)
 
-tests-frame : (groups : ℕ) (rs : List Row) (b : List ℕ) → framed b ≡ false → refusal (rowTests groups rs b) ≡ 11
+tests-frame : (groups : ℕ) (rs : List Row) (b : List ℕ) → framed b ≡ false → refusal (rowTests edition1 groups rs b) ≡ 11
 unfolding rowTests refusal
 tests-frame groups rs b x = rw x
 
 tests-member : (groups : ℕ) (rs : List Row) (b : List ℕ) → framed b ≡ true → u32At b 4 ≤ lastMember rs
-    → refusal (rowTests groups rs b) ≡ 12
+    → refusal (rowTests edition1 groups rs b) ≡ 12
 unfolding rowTests refusal
 tests-member groups rs b x l = rw (x, le-ltb (lastMember rs) (u32At b 4) l)
 
 tests-rest : (groups : ℕ) (rs : List Row) (b : List ℕ) (r : Bool) → framed b ≡ true → lastMember rs < u32At b 4
-    → clearAbove (rowOf b) groups (8 * membershipBytes - groups) ≡ not r → refusal (rowTests groups rs b) ≡ cond r 13 0
+    → clearAbove (rowOf edition1 b) groups (groupLimit edition1 - groups) ≡ not r → refusal (rowTests edition1 groups rs b) ≡ cond r 13 0
 unfolding rowTests refusal
 tests-rest groups rs b true x l c = rw (x, lt-ltb (lastMember rs) (u32At b 4) l, c)
 tests-rest groups rs b false x l c = rw (x, lt-ltb (lastMember rs) (u32At b 4) l, c)
@@ -140,21 +141,21 @@ last-of-more [] r = refl
 last-of-more (p ∷ []) r = refl
 last-of-more (p ∷ (q ∷ rs)) r = last-of-more (q ∷ rs) r
 
-pub row-before : (b : List ℕ) (n i : ℕ) → i < n → getD (rowsBefore b n) i noRow ≡ rowOf (fromRow b i)
+pub row-before : (b : List ℕ) (n i : ℕ) → i < n → getD (rowsBefore b n) i noRow ≡ rowOf edition1 (fromRow b i)
 unfolding rowsBefore
 row-before b zero i l = absurd (omega arith)
 row-before b (suc n) i l =
     below-suc i n l
-    (λ (e : i ≡ n). rw e (getD-at (rowsBefore b n) (rowOf (fromRow b n)) [] noRow n (length-rowsBefore b n)))
-    (λ (k : i < n). List·getD-append (rowsBefore b n) (rowOf (fromRow b n) ∷ []) noRow i (rw (length-rowsBefore b n) k)
+    (λ (e : i ≡ n). rw e (getD-at (rowsBefore b n) (rowOf edition1 (fromRow b n)) [] noRow n (length-rowsBefore b n)))
+    (λ (k : i < n). List·getD-append (rowsBefore b n) (rowOf edition1 (fromRow b n) ∷ []) noRow i (rw (length-rowsBefore b n) k)
     ∙ row-before b n i k)
 
 -- the reading that is left after `row` rows
 unfoldable pub going : ℕ → List ℕ → ℕ → Reading (List Row)
-going groups b row = readRows groups (rowLimit - row) (rowsBefore b row) (fromRow b row)
+going groups b row = readRows edition1 groups (rowLimit - row) (rowsBefore b row) (fromRow b row)
 
-pub going-start : (groups : ℕ) (b : List ℕ) → readRegister groups b ≡ going groups b 0
-unfolding going readRegister rowsBefore
+pub going-start : (groups : ℕ) (b : List ℕ) → readRegister edition1 groups b ≡ going groups b 0
+unfolding going readRegister rowsBefore membershipBytes
 going-start groups b = refl
 
 pub last-start : (b : List ℕ) → lastMember (rowsBefore b 0) ≡ 0
@@ -169,7 +170,7 @@ module _ (groups : ℕ) (b : List ℕ) (row : ℕ) (l : row < rowLimit) where
   unfolding going
   going-end e = rw more (step-end groups (rowLimit - (row + 1)) (rowsBefore b row) (fromRow b row) (end-empty (fromRow b row) e))
 
-  going-turned : (n : ℕ) → eqb (length (fromRow b row)) 0 ≡ false → refusal (rowTests groups (rowsBefore b row) (fromRow b row)) ≡ suc n
+  going-turned : (n : ℕ) → eqb (length (fromRow b row)) 0 ≡ false → refusal (rowTests edition1 groups (rowsBefore b row) (fromRow b row)) ≡ suc n
       → going groups b row ≡ refused (suc n) (row + 1)
   unfolding going
   going-turned n x y =
@@ -182,7 +183,7 @@ module _ (groups : ℕ) (b : List ℕ) (row : ℕ) (l : row < rowLimit) where
       rw (w .2) (going-turned 10 (w .0) (tests-frame groups (rowsBefore b row) (fromRow b row) (w .1)))
 
   module _ (v : RowWords) (e : rowGives (answer.Row v) ≡ frontOf (fromRow b row)) where
-    is-row : rowOfWords v ≡ rowOf (fromRow b row)
+    is-row : rowOfWords v ≡ rowOf edition1 (fromRow b row)
     is-row = held-frame (fromRow b row) (rowOfWords v) e .2
 
     member-is : v .member ≡ u32At (fromRow b row) 4
@@ -195,7 +196,7 @@ module _ (groups : ℕ) (b : List ℕ) (row : ℕ) (l : row < rowLimit) where
         going-turned 11 (w .0) (tests-member groups (rowsBefore b row) (fromRow b row) (w .1) (rw member-is at m))
 
     tests-are : (r : Bool) → lastMember (rowsBefore b row) < v .member → Above groups (v .low) (v .high) r
-        → refusal (rowTests groups (rowsBefore b row) (fromRow b row)) ≡ cond r 13 0
+        → refusal (rowTests edition1 groups (rowsBefore b row) (fromRow b row)) ≡ cond r 13 0
     tests-are r m a =
         let w = held-frame (fromRow b row) (rowOfWords v) e in
         tests-rest groups (rowsBefore b row) (fromRow b row) r (w .1) (rw member-is at m)
@@ -210,15 +211,15 @@ module _ (groups : ℕ) (b : List ℕ) (row : ℕ) (l : row < rowLimit) where
     unfolding going rowsBefore
     going-on m a =
         let s : row + 1 ≡ suc row = omega arith in
-        let d : rowBytes * row + rowBytes ≡ rowBytes * suc row = omega arith in
+        let d : rowBytes edition1 * row + rowBytes edition1 ≡ rowBytes edition1 * suc row = omega arith in
         rw more
         (step-on groups (rowLimit - (row + 1)) (rowsBefore b row) (fromRow b row)
         (held-frame (fromRow b row) (rowOfWords v) e .0) (tests-are false m a)
-        ∙ (rw (drop-drop rowBytes (rowBytes * row) b, s, d)))
+        ∙ (rw (drop-drop (rowBytes edition1) (rowBytes edition1 * row) b, s, d)))
 
     pub last-on : v .member ≡ lastMember (rowsBefore b (row + 1))
     unfolding rowsBefore rowOf
-    last-on = rw (add-one row, last-of-more (rowsBefore b row) (rowOf (fromRow b row))) member-is
+    last-on = rw (add-one row, last-of-more (rowsBefore b row) (rowOf edition1 (fromRow b row))) member-is
 
     pub kept-on : (t : List ℕ) → 2 * row + 1 < length t → Kept (rowsBefore b row) t
         → Kept (rowsBefore b (row + 1)) (set (set t (2 * row) (v .low)) (2 * row + 1) (v .high))
@@ -245,23 +246,23 @@ pub kept-refused : (n k : ℕ) (rs : List Row) (t : List ℕ) → refused n k �
 kept-refused n k rs t e = absurd (let z : _≡_ {A = ℕ} 0 1 = cc in omega arith)
 
 -- no more rows are left
-step-full : (groups : ℕ) (rs : List Row) (b : List ℕ) → length b ≡ 0 → readRows groups 0 rs b ≡ read rs
+step-full : (groups : ℕ) (rs : List Row) (b : List ℕ) → length b ≡ 0 → readRows edition1 groups 0 rs b ≡ read rs
 unfolding readRows onward refusal
 step-full groups rs b e = rw (eq-eqb (length b) 0 e)
 
-step-over : (groups : ℕ) (rs : List Row) (b : List ℕ) → (length b ≡ 0 → ⊥) → readRows groups 0 rs b ≡ refused 10 (length rs + 1)
+step-over : (groups : ℕ) (rs : List Row) (b : List ℕ) → (length b ≡ 0 → ⊥) → readRows edition1 groups 0 rs b ≡ refused 10 (length rs + 1)
 unfolding readRows onward refusal
 step-over groups rs b e = rw (ne-eqb (length b) 0 e)
 
-pub going-full : (groups : ℕ) (b : List ℕ) → length b ≤ rowBytes * rowLimit
+pub going-full : (groups : ℕ) (b : List ℕ) → length b ≤ rowBytes edition1 * rowLimit
     → going groups b rowLimit ≡ read (rowsBefore b rowLimit)
 unfolding going
 going-full groups b l = step-full groups (rowsBefore b rowLimit) (fromRow b rowLimit)
-    (length-drop (rowBytes * rowLimit) b ∙ omega arith)
+    (length-drop (rowBytes edition1 * rowLimit) b ∙ omega arith)
 
-pub going-over : (groups : ℕ) (b : List ℕ) → rowBytes * rowLimit < length b → going groups b rowLimit ≡ refused 10 (rowLimit + 1)
+pub going-over : (groups : ℕ) (b : List ℕ) → rowBytes edition1 * rowLimit < length b → going groups b rowLimit ≡ refused 10 (rowLimit + 1)
 unfolding going
 going-over groups b l =
     step-over groups (rowsBefore b rowLimit) (fromRow b rowLimit)
-    (λ e. let z = rw (length-drop (rowBytes * rowLimit) b) at e in omega arith)
+    (λ e. let z = rw (length-drop (rowBytes edition1 * rowLimit) b) at e in omega arith)
     ∙ (rw (length-rowsBefore b rowLimit))

@@ -6,7 +6,7 @@ use mathlib.Core.List.{List}
 use native.Mathlib.Omega.{arith}
 use native.Mathlib.Numerals.{add-one}
 use lib.ListN.{getD}
-use Rattle.wire.specs.Limits.{groupLimit}
+use Rattle.registers.specs.Words.{rowGroups}
 use Rattle.meaning.specs.Sheet.{Sheet, Group, Tree}
 use Rattle.meaning.specs.Sets.{Sets}
 use Rattle.meaning.specs.Rule.{Rule, ruleNumber, Broken}
@@ -69,9 +69,9 @@ rules-more : {X : Type 0} (s : Sheet) (A : Sets X) (g k : ℕ) → ClearRules s 
 rules-more s A g k c f =
     record { clear = λ q l b. below-suc (ruleNumber q) k (rw add-one at l) (λ x. f q x b) (λ x. c .clear q x b) }
 
-module _ (t : List ℕ) (n : ℕ) (w : List ℕ) (rows : ℕ) (u counts : List ℕ) (r : Tree (sheetOf (groupsIn t n))) (z : n ≤ groupLimit)
+module _ (t : List ℕ) (n : ℕ) (w : List ℕ) (rows : ℕ) (u counts : List ℕ) (r : Tree (sheetOf (groupsIn t n))) (z : n ≤ rowGroups)
     (sons : SonsListed (sheetOf (groupsIn t n)) u) (tally : Counted (wordSets w rows) counts) where
-  size-most : sheetOf (groupsIn t n) .size ≤ groupLimit
+  size-most : sheetOf (groupsIn t n) .size ≤ rowGroups
   size-most = rw (length-groupsIn t n) z
 
   -- nothing is broken at any group

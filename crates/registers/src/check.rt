@@ -16,7 +16,8 @@ use reading::tables::parent_of;
 ghost use mathlib.Core.Path.{_≡_};
 ghost use Prim.Native.Nat.{_+_, _*_, _≤_, _<_};
 ghost use lib.ListN.{length, getD};
-ghost use Rattle.wire.specs.Limits.{groupLimit};
+ghost use Rattle.registers.specs.Words.{rowGroups};
+ghost use Rattle.wire.specs.Edition.{edition1};
 ghost use Rattle.wire.specs.RegisterFormat.{readRegister};
 ghost use Rattle.meaning.specs.OfRecords.{sheetOf};
 ghost use Rattle.reading.specs.Tables.{groupsIn};
@@ -34,7 +35,7 @@ pub enum Check {
 
 // whether group g is in the set at place i of a table
 fn has(table: &[u64], i: usize, g: GroupNo) -> bool
-    requires { ⌜ (2 * i + 1 < length (now table)) × ((1 ≤ g .0) × (g .0 ≤ groupLimit)) ⌝ }
+    requires { ⌜ (2 * i + 1 < length (now table)) × ((1 ≤ g .0) × (g .0 ≤ rowGroups)) ⌝ }
     ensures { λ r. ⌜ r ≡ holds (now (table .entry)) i (g .0) ⌝ }
 {
     let j = g.0 as usize - 1;
@@ -150,7 +151,7 @@ fn scan(groups: &[u16], size: u16, words: &[u64], n: usize, sons: &[u64], counts
 // All rows are read before any rule is looked at.
 pub fn check_register(groups: &[u16], size: u16, register: &[u8]) -> Check
     requires { ⌜ SheetIn (now groups) size ⌝ }
-    ensures { λ r. ⌜ Checked (sheetOf (groupsIn (now (groups .entry)) size)) (readRegister size (now (register .entry))) r ⌝ }
+    ensures { λ r. ⌜ Checked (sheetOf (groupsIn (now (groups .entry)) size)) (readRegister edition1 size (now (register .entry))) r ⌝ }
 {
     let mut words = [0u64; ROW_WORDS];
     match read_rows(register, size, &mut words) {

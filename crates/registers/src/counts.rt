@@ -4,7 +4,8 @@ ghost use mathlib.Core.Path.{_≡_};
 ghost use Prim.Native.Nat.{_+_, _-_, _*_, _≤_, _<_};
 ghost use lib.ListN.{length, getD, set};
 ghost use lib.Bits.{bitAnd};
-ghost use Rattle.wire.specs.Limits.{groupLimit, rowLimit};
+ghost use Rattle.wire.specs.Limits.{rowLimit};
+ghost use Rattle.registers.specs.Words.{rowGroups};
 ghost use Rattle.meaning.specs.Sum.{sum};
 ghost use Rattle.registers.specs.Digits.{Lowest, LowestGroup};
 ghost use Rattle.registers.specs.Words.{pairDigit, wordSets};
@@ -12,7 +13,7 @@ ghost use Rattle.registers.specs.Tallies.{groupPlaces, Counted, CountedR
 
 // the number of a row's groups
 pub fn groups_of(low: u64, high: u64) -> u32
-    ensures { λ r. ⌜ r ≡ sum (pairDigit low high) groupLimit ⌝ }
+    ensures { λ r. ⌜ r ≡ sum (pairDigit low high) rowGroups ⌝ }
 {
     u64::count_ones(low) + u64::count_ones(high)
 }

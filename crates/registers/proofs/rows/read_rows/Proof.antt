@@ -5,6 +5,7 @@ use Prim.Native.Nat.{_-_, _≤_}
 use mathlib.Core.Path.{_≡_, refl, sym, _∙_}
 use native.Mathlib.Omega.{arith}
 use lib.ListN.{length, length-set}
+use Rattle.wire.specs.Edition.{edition1, membershipBytes}
 use Rattle.wire.specs.Limits.{rowLimit}
 use Rattle.wire.specs.RegisterFormat.{lastMember, readRegister}
 use Rattle.registers.specs.RowsRead.{rowsBefore, Kept}
@@ -16,7 +17,7 @@ use Rattle.registers.proofs.rows.read_rows.Tie as tie
 abbrev Inv-loop : tie.InvT-loop
 Inv-loop register groups words₀ last₀ row₀ words last row =
     (row ≤ rowLimit) × ((length words ≡ length words₀) × ((last ≡ lastMember (rowsBefore register row))
-    × ((readRegister groups register ≡ going groups register row) × Kept (rowsBefore register row) words)))
+    × ((readRegister edition1 groups register ≡ going groups register row) × Kept (rowsBefore register row) words)))
 
 abbrev μ-loop : tie.MeasureT-loop
 μ-loop register groups words₀ last₀ row₀ words last row = rowLimit - row
@@ -161,6 +162,7 @@ same-length-5 : tie.Need-same-length-5 Inv-loop μ-loop
 same-length-5 c = search needs
 
 returns-5 : tie.Need-returns-5 Inv-loop μ-loop
+unfolding membershipBytes
 returns-5 c =
     let l = c .before .before .loop in
     let full : l .row ≡ rowLimit = omega arith in
@@ -170,6 +172,7 @@ same-length-6 : tie.Need-same-length-6 Inv-loop μ-loop
 same-length-6 c = search needs
 
 returns-6 : tie.Need-returns-6 Inv-loop μ-loop
+unfolding membershipBytes
 returns-6 c =
     let l = c .before .before .loop in
     let full : l .row ≡ rowLimit = omega arith in
