@@ -36,12 +36,12 @@ unfolding u64At
 u64-drop n b i = rw (u32-drop n b i, u32-drop n b (i + 4), add-assoc n i 4)
 
 -- what bytes begin with
-abbrev framed : List ℕ → Bool
-framed b = leb (rowBytes edition1) (length b) && eqb (u16At b 0) (rowBytes edition1 - 2) && eqb (u16At b 2) (rowKind edition1)
+abbrev rowFramed : List ℕ → Bool
+rowFramed b = leb (rowBytes edition1) (length b) && eqb (u16At b 0) (rowBytes edition1 - 2) && eqb (u16At b 2) (rowKind edition1)
 
-front-some : (b : List ℕ) → eqb (length b) 0 ≡ false → frontOf b ≡ cond (framed b) (held (rowOf edition1 b)) (turned 11)
+front-some : (b : List ℕ) → eqb (length b) 0 ≡ false → frontOf b ≡ cond (rowFramed b) (held (rowOf edition1 b)) (turned 11)
 unfolding frontOf rowTests refusal
-front-some b e = rw e (split (framed b) (λ x. rw x) (λ x. rw x))
+front-some b e = rw e (split (rowFramed b) (λ x. rw x) (λ x. rw x))
 
 pub front-none : (b : List ℕ) → length b ≡ 0 → frontOf b ≡ ended
 unfolding frontOf
@@ -75,26 +75,26 @@ words-made n b k w x y z =
 end-empty : (b : List ℕ) → ended ≡ frontOf b → eqb (length b) 0 ≡ true
 end-empty b e =
     split (eqb (length b) 0) (λ x. x)
-    (λ x. absurd (split (framed b)
+    (λ x. absurd (split (rowFramed b)
     (λ y. let w = rw (front-some b x, y) at e in let z : _≡_ {A = ℕ} 0 1 = cc in omega arith)
     (λ y. let w = rw (front-some b x, y) at e in let z : _≡_ {A = ℕ} 0 1 = cc in omega arith)))
 
 not-empty : (b : List ℕ) (f : Front) → f ≡ frontOf b → (ended ≡ f → ⊥) → eqb (length b) 0 ≡ false
 not-empty b f e n = split (eqb (length b) 0) (λ x. absurd (n (sym (front-none b (eqb-true (length b) 0 x)) ∙ sym e))) (λ x. x)
 
-turned-frame : (b : List ℕ) (n : ℕ) → turned n ≡ frontOf b → (eqb (length b) 0 ≡ false) × (framed b ≡ false) × (n ≡ 11)
+turned-frame : (b : List ℕ) (n : ℕ) → turned n ≡ frontOf b → (eqb (length b) 0 ≡ false) × (rowFramed b ≡ false) × (n ≡ 11)
 turned-frame b n e =
     let o = not-empty b (turned n) e (λ f. let z : _≡_ {A = ℕ} 0 1 = cc in omega arith) in
     let s = e ∙ front-some b o in
-    split (framed b)
+    split (rowFramed b)
     (λ y. absurd (let w = rw y at s in let z : _≡_ {A = ℕ} 0 1 = cc in omega arith))
     (λ y. let w = rw y at s in (o, y, cc))
 
-held-frame : (b : List ℕ) (r : Row) → held r ≡ frontOf b → (eqb (length b) 0 ≡ false) × (framed b ≡ true) × (r ≡ rowOf edition1 b)
+held-frame : (b : List ℕ) (r : Row) → held r ≡ frontOf b → (eqb (length b) 0 ≡ false) × (rowFramed b ≡ true) × (r ≡ rowOf edition1 b)
 held-frame b r e =
     let o = not-empty b (held r) e (λ f. let z : _≡_ {A = ℕ} 0 1 = cc in omega arith) in
     let s = e ∙ front-some b o in
-    split (framed b)
+    split (rowFramed b)
     (λ y. let w = rw y at s in (o, y, cc))
     (λ y. absurd (let w = rw y at s in let z : _≡_ {A = ℕ} 0 1 = cc in omega arith))
 
@@ -114,16 +114,16 @@ step-on : (groups left : ℕ) (rs : List Row) (b : List ℕ) → eqb (length b) 
 unfolding readRows onward
 step-on groups left rs b x y = rw (x, y)
 
-tests-frame : (groups : ℕ) (rs : List Row) (b : List ℕ) → framed b ≡ false → refusal (rowTests edition1 groups rs b) ≡ 11
+tests-frame : (groups : ℕ) (rs : List Row) (b : List ℕ) → rowFramed b ≡ false → refusal (rowTests edition1 groups rs b) ≡ 11
 unfolding rowTests refusal
 tests-frame groups rs b x = rw x
 
-tests-member : (groups : ℕ) (rs : List Row) (b : List ℕ) → framed b ≡ true → u32At b 4 ≤ lastMember rs
+tests-member : (groups : ℕ) (rs : List Row) (b : List ℕ) → rowFramed b ≡ true → u32At b 4 ≤ lastMember rs
     → refusal (rowTests edition1 groups rs b) ≡ 12
 unfolding rowTests refusal
 tests-member groups rs b x l = rw (x, le-ltb (lastMember rs) (u32At b 4) l)
 
-tests-rest : (groups : ℕ) (rs : List Row) (b : List ℕ) (r : Bool) → framed b ≡ true → lastMember rs < u32At b 4
+tests-rest : (groups : ℕ) (rs : List Row) (b : List ℕ) (r : Bool) → rowFramed b ≡ true → lastMember rs < u32At b 4
     → clearAbove (rowOf edition1 b) groups (groupLimit edition1 - groups) ≡ not r → refusal (rowTests edition1 groups rs b) ≡ cond r 13 0
 unfolding rowTests refusal
 tests-rest groups rs b true x l c = rw (x, lt-ltb (lastMember rs) (u32At b 4) l, c)

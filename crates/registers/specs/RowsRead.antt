@@ -26,7 +26,7 @@ bytesOf (suc n) w = w % 256 ∷ bytesOf n (w / 256)
 abbrev pub rowOfWords : RowWords → Row
 rowOfWords w = record { member = w .member; bits = bytesOf 8 (w .low) ++ bytesOf 8 (w .high) }
 
--- what bytes begin with: nothing, a row, or what a refusal turns back
+-- what bytes begin with: no bytes at all, a row, or a row that is turned back with a refusal's number
 pub data Front : Type 0 where
   ended : Front
   held : Row → Front
