@@ -1,7 +1,7 @@
 -- The arrangement of document 01 is one only: sets that fit settle the bottom-up bounds of every group, and these the runs.
 use Prim.Native.Nat.{ℕ, suc, _+_, _≤_}
 use mathlib.Core.Path.{_≡_, refl, ap}
-use mathlib.Core.Logic.{_↔_}
+use mathlib.Core.Logic.{_↔_, Iff·symm, Iff·trans}
 use native.Mathlib.Omega.{arith}
 use native.Mathlib.Nat.{le-refl}
 use Rattle.meaning.specs.Sheet.{Sheet, Group, Tree, Top, fin, inf, AtMost}
@@ -25,13 +25,15 @@ tops-once l m (fin a) inf h i e = absurd (omega (arith, e (suc (a + m)) .1 (omeg
 tops-once l m inf (fin b) h i e = absurd (omega (arith, e (suc (b + l)) .0 (omega arith, tt)))
 tops-once l m inf inf h i e = refl
 
--- and intervals that have the same numbers, one at least, have the same ends
-ends-once : (n l m : ℕ) (u v : Top) → (l ≤ n) × AtMost n u → ((k : ℕ) → ((l ≤ k) × AtMost k u) ↔ ((m ≤ k) × AtMost k v))
-    → (l ≡ m) × (u ≡ v)
-ends-once n l m u v h e =
-    let i = e n .0 h in
-    let x = at-le l n u (h .0) (h .1) in
-    let y = at-le m n v (i .0) (i .1) in
+-- and intervals of which each has the numbers of P and no others, one at least, have the same ends
+pub ends-once : {P : ℕ → Type 0} (l m : ℕ) (u v : Top) → ((k : ℕ) → ((l ≤ k) × AtMost k u) ↔ P k)
+    → ((k : ℕ) → ((m ≤ k) × AtMost k v) ↔ P k) → (n : ℕ) → P n → (l ≡ m) × (u ≡ v)
+ends-once l m u v a b n h =
+    let e : (k : ℕ) → ((l ≤ k) × AtMost k u) ↔ ((m ≤ k) × AtMost k v) = λ k. Iff·trans (a k) (Iff·symm (b k)) in
+    let i = a n .1 h in
+    let j = b n .1 h in
+    let x = at-le l n u (i .0) (i .1) in
+    let y = at-le m n v (j .0) (j .1) in
     (omega (arith, e l .0 (le-refl l, x) .0, e m .1 (le-refl m, y) .0), tops-once l m u v x y e)
 
 -- the count that sets fitting the whole sheet give a group is had by sets that fit the part at it
@@ -46,8 +48,7 @@ part-had {s} t o w g q =
 pub bottom-up-once : {s : Sheet} → Tree s → s .parent 0 ≡ 0 → Possible s → {L L' : ℕ → ℕ} {U U' : ℕ → Top} → BottomUp s L U
     → BottomUp s L' U' → (g : ℕ) → Group s g → (L g ≡ L' g) × (U g ≡ U' g)
 bottom-up-once t o w {L} {L'} {U} {U'} x y g q =
-    ends-once (count (w .0) g) (L g) (L' g) (U g) (U' g) (x .counts g q _ .1 (part-had t o w g q))
-    (λ k. (λ h. y .counts g q k .1 (x .counts g q k .0 h), λ h. x .counts g q k .1 (y .counts g q k .0 h)))
+    ends-once (L g) (L' g) (U g) (U' g) (x .counts g q) (y .counts g q) (count (w .0) g) (part-had t o w g q)
 
 -- an arrangement from bottom-up bounds: what the reply to ranges holds
 abbrev pub ArrangedBottomUp : Sheet → (ℕ → ℕ) → (ℕ → ℕ) → Type 0
