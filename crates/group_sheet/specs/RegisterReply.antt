@@ -22,5 +22,5 @@ pub record AnswerIn (s : Sheet) (rows : List Row) (out : List ℕ) : Type 0 wher
 abbrev pub Register : List ℕ → List ℕ → Call → Type 0
 Register sheet register c =
     OnceRead (readSheet sheet) c (λ d.
-    OnceRead (readRegister (length (d .groups)) register) c (λ rows.
+    OnceRead (readRegister (d .edition) (length (d .groups)) register) c (λ rows.
     OnceRoom answerBytes c (AnswerIn (sheetOf (d .groups)) rows)))

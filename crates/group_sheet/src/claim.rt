@@ -8,7 +8,7 @@ use reading::claim::Claim;
 use reading::claim::claim_in;
 use reading::load::Loaded;
 use reading::load::load_sheet;
-use reading::tables::CLAIM_PLACES;
+use reading::tables::PLACE_TABLE;
 use reading::tables::CLAIM_TABLE;
 use reading::tables::GROUP_CAPACITY;
 use reading::tables::GROUP_TABLE;
@@ -79,7 +79,7 @@ pub extern "C" fn sheet_claim(sheet: &[u8], claim: u32, reply: &mut [u8]) -> u64
     let mut names = [0u16; NAME_TABLE];
     let mut labels = [0usize; LABEL_TABLE];
     let mut claims = [0u16; CLAIM_TABLE];
-    let mut places = [0usize; CLAIM_PLACES];
+    let mut places = [0usize; PLACE_TABLE];
     match load_sheet(
         sheet,
         &mut groups,

@@ -2,7 +2,7 @@
 use crate::pairs::pack;
 use reading::load::Loaded;
 use reading::load::load_sheet;
-use reading::tables::CLAIM_PLACES;
+use reading::tables::PLACE_TABLE;
 use reading::tables::CLAIM_TABLE;
 use reading::tables::GROUP_TABLE;
 use reading::tables::LABEL_TABLE;
@@ -35,7 +35,7 @@ pub extern "C" fn sheet_register(sheet: &[u8], register: &[u8], reply: &mut [u8]
     let mut names = [0u16; NAME_TABLE];
     let mut labels = [0usize; LABEL_TABLE];
     let mut claims = [0u16; CLAIM_TABLE];
-    let mut places = [0usize; CLAIM_PLACES];
+    let mut places = [0usize; PLACE_TABLE];
     match load_sheet(
         sheet,
         &mut groups,

@@ -5,7 +5,8 @@ use mathlib.Core.List.{List}
 use native.Mathlib.Omega.{arith}
 use borrow.Author.Tests.{eq-eqb, ne-eqb}
 use lib.ListN.{length, drop, length-drop}
-use Rattle.wire.specs.Edition.{Edition, editionOf, groups-within}
+use Rattle.wire.specs.Edition.{Edition, editionOf}
+use Rattle.wire.specs.EditionFacts.{groups-within}
 use Rattle.wire.specs.Passing.{pass-of-refusal}
 use Rattle.wire.specs.Sorts.{HeadRight, head-numbered, head-right}
 use Rattle.wire.specs.Bytes.{u16At}

@@ -9,7 +9,8 @@ use borrow.Author.Tests.{eqb-false}
 use lib.Dec.{eqb}
 use lib.ListN.{length}
 use Rattle.wire.specs.Limits.{boundLimit, noEnd}
-use Rattle.wire.specs.Edition.{Edition, groupLimit, groups-many}
+use Rattle.wire.specs.Edition.{Edition, groupLimit}
+use Rattle.wire.specs.EditionFacts.{groups-many}
 use Rattle.wire.specs.Record.{read}
 use Rattle.wire.specs.SheetFormat.{Records, readSheet}
 use Rattle.wire.specs.Encoding.{Bytes, Right, SheetWithin}

@@ -1,9 +1,7 @@
 -- The editions of the format and what each of them sets: document 01, "Records of a sheet" (kinds 1 and 3) and "Registers".
--- A fact that needs an edition's numbers is proved here, by clauses; everywhere else the edition stays a variable.
-use Prim.Native.Nat.{ℕ, _+_, _*_, _≤_}
-use mathlib.Core.Path.{_≡_, refl}
-use native.Mathlib.Omega.{arith}
-use Rattle.wire.specs.Limits.{groupCapacity, nameLimit, claimLimit, noEnd, headBytes, groupBytes, claimBytes}
+-- `EditionFacts` proves what needs an edition's numbers, by clauses; everywhere else the edition stays a variable.
+use Prim.Native.Nat.{ℕ, _+_, _*_}
+use Rattle.wire.specs.Limits.{nameLimit, claimLimit, headBytes, groupBytes, claimBytes}
 
 pub data Edition : Type 0 where
   edition1 : Edition
@@ -40,31 +38,3 @@ rowBytes e = 8 + membershipBytes e
 -- most bytes of a readable sheet
 abbrev pub sheetLimit : Edition → ℕ
 sheetLimit e = headBytes + groupBytes * groupLimit e + nameBytes e * nameLimit + claimBytes * claimLimit
-
--- no two editions have one number
-pub edition-back : (e : Edition) → editionOf (editionNumber e) ≡ e
-unfolding editionOf editionNumber
-edition-back edition1 = refl
-
--- tables hold the groups of every edition
-pub groups-within : (e : Edition) → groupLimit e ≤ groupCapacity
-unfolding membershipBytes
-groups-within edition1 = omega arith
-
--- every edition takes a root with a son
-pub groups-many : (e : Edition) → 2 ≤ groupLimit e
-unfolding membershipBytes
-groups-many edition1 = omega arith
-
--- numbers, kinds and lengths fit two bytes
-pub edition-fits : (e : Edition) → editionNumber e ≤ noEnd
-unfolding editionNumber
-edition-fits edition1 = omega arith
-
-pub name-fits : (e : Edition) → nameBytes e ≤ noEnd
-unfolding labelLimit
-name-fits edition1 = omega arith
-
-pub row-kind-fits : (e : Edition) → rowKind e ≤ noEnd
-unfolding rowKind
-row-kind-fits edition1 = omega arith

@@ -10,7 +10,8 @@ use lib.Seq.{getD-drop}
 use lib.Dec.{leb, ltb, eqb}
 use borrow.Author.Tests.{leb-true, ltb-true, eqb-true}
 use Rattle.wire.specs.Limits.{groupCapacity, recordLimit, noEnd, groupBytes, claimBytes}
-use Rattle.wire.specs.Edition.{Edition, editionOf, nameBytes, sheetLimit, groups-within}
+use Rattle.wire.specs.Edition.{Edition, editionOf, nameBytes, sheetLimit}
+use Rattle.wire.specs.EditionFacts.{groups-within}
 use Rattle.wire.specs.Bytes.{u16At}
 use Rattle.wire.specs.Record.{lengthOf, after, test, read, refused}
 use Rattle.wire.specs.SheetFormat.{headTests, groupTests, nameTests, claimTests, headOf, groupOf, nameOf, claimOf}

@@ -11,7 +11,8 @@ use lib.Seq.{drop-drop, take-append-seam}
 use lib.Dec.{leb}
 use borrow.Author.Tests.{leb-true, le-leb, eq-eqb, ne-eqb}
 use Rattle.wire.specs.Limits.{groupCapacity, nameLimit, sideLimit, boundLimit, noEnd}
-use Rattle.wire.specs.Edition.{Edition, editionNumber, editionOf, labelLimit, edition-back, edition-fits, name-fits}
+use Rattle.wire.specs.Edition.{Edition, editionNumber, editionOf, labelLimit}
+use Rattle.wire.specs.EditionFacts.{edition-back, edition-fits, name-fits}
 use Rattle.wire.specs.Bytes.{u16At, le16}
 use Rattle.wire.specs.Record.{lengthOf, kindOf, after, framed, Test}
 use Rattle.wire.specs.SheetFormat.{HeadRecord, GroupRecord, NameRecord, ClaimRecord, count, inside, apart, Records}

@@ -9,7 +9,8 @@ use lib.Seq.{drop-drop, take-at, drop-at}
 use lib.Dec.{leb, eqb}
 use borrow.Author.Tests.{leb-true, ltb-true, eqb-true, le-leb, lt-ltb, eq-eqb, ne-eqb}
 use Rattle.wire.specs.Limits.{rowLimit, noEnd}
-use Rattle.wire.specs.Edition.{Edition, membershipBytes, rowKind, rowBytes, groups-within, row-kind-fits}
+use Rattle.wire.specs.Edition.{Edition, membershipBytes, rowKind, rowBytes}
+use Rattle.wire.specs.EditionFacts.{groups-within, row-kind-fits}
 use Rattle.wire.specs.Bytes.{u16At, u32At, le16, le32}
 use Rattle.wire.specs.Record.{lengthOf, kindOf, after, test, read, refused}
 use Rattle.wire.specs.RegisterFormat.{Row, rowOf, lastMember, rowTests, readRows, readRegister}
