@@ -7,7 +7,8 @@ use measuring::pairs::pair_at;
 use reading::tables::GroupNo;
 ghost use Prim.Native.Nat.{_≤_};
 ghost use lib.ListN.{length};
-ghost use Rattle.measuring.specs.Tables.{sheetIn, mayIn};
+ghost use Rattle.reading.specs.SheetIn.{sheetIn};
+ghost use Rattle.measuring.specs.Tables.{mayIn};
 ghost use Rattle.choosing.specs.Chosen.{Chose, Asking};
 
 // `c`: whether the member is in the root.

@@ -7,11 +7,12 @@ use borrow.Author.Tests.{le-leb, lt-leb, lt-ltb, ne-eqb}
 use Rattle.wire.specs.Limits.{noEnd}
 use Rattle.meaning.specs.Sheet.{Top, fin, inf}
 use Rattle.meaning.specs.OfRecords.{endOf}
+use Rattle.reading.specs.SheetIn.{sizeLimit}
 use Rattle.sizes.specs.Span.{Span, none, span, plus, smaller, larger, make, meet, hull, Kind, lap, add, eq, join}
 use Rattle.sizes.specs.Fold.{ownTo}
 use Rattle.sizes.specs.Bounds.{weight-least, weight-most}
 use Rattle.sizes.specs.SumLaws.{compare-le, compare-eq}
-use Rattle.measuring.specs.Held.{endless, topOf, spanOf, room, EndRoom, Room, Alike}
+use Rattle.measuring.specs.Held.{endless, topOf, spanOf, EndRoom, Room, Alike}
 
 pub none-of : {l m : ℕ} → m < l → spanOf l m ≡ none
 unfolding spanOf
@@ -74,11 +75,11 @@ unfolding hull
 hull-of l u m v a b h k = rw (some-of h, some-of k, some-of {l = min l m} {m = max u v} (omega arith), top-max a b)
 
 -- a span with room has ends with room
-pub room-least : {l m : ℕ} → l ≤ m → Room (spanOf l m) → l ≤ room
-room-least {l} {m} h r = weight-least l (topOf m) room (rw (some-of h) at r)
+pub room-least : {l m : ℕ} → l ≤ m → Room (spanOf l m) → l ≤ sizeLimit
+room-least {l} {m} h r = weight-least l (topOf m) sizeLimit (rw (some-of h) at r)
 
 pub room-most : {l m : ℕ} → l ≤ m → Room (spanOf l m) → EndRoom m
-room-most {l} {m} h r e = weight-most l m room (rw (some-of h, top-fin e) at r)
+room-most {l} {m} h r e = weight-most l m sizeLimit (rw (some-of h, top-fin e) at r)
 
 -- the sum of upper ends, in the three cases that the code takes
 pub plus-left : (a b : ℕ) → a ≡ endless → topOf endless ≡ plus (topOf a) (topOf b)
@@ -91,7 +92,7 @@ plus-left a b e = rw (e, top-end) (any (topOf b))
 pub plus-right : (a b : ℕ) → (a ≡ endless → ⊥) → b ≡ endless → topOf endless ≡ plus (topOf a) (topOf b)
 plus-right a b n e = rw (e, top-end, top-fin n)
 
-pub plus-both : (a b : ℕ) → (a ≡ endless → ⊥) → (b ≡ endless → ⊥) → a ≤ room → b ≤ room → topOf (a + b) ≡ plus (topOf a) (topOf b)
+pub plus-both : (a b : ℕ) → (a ≡ endless → ⊥) → (b ≡ endless → ⊥) → a ≤ sizeLimit → b ≤ sizeLimit → topOf (a + b) ≡ plus (topOf a) (topOf b)
 plus-both a b n k h j = rw (top-fin n, top-fin k, top-fin {m = a + b} (λ e. omega arith))
 
 -- joined spans, by their ends
@@ -100,7 +101,7 @@ pub lap-of : (l u m v n w : ℕ) → n ≡ max l m → (topOf w ≡ plus (topOf 
 unfolding join
 lap-of l u m v n w d e a b h k = rw (some-of h, some-of k, some-of {l = n} {m = w} (omega arith), e .0, d)
 
-pub add-of : (l u m v w : ℕ) → (topOf w ≡ plus (topOf u) (topOf v)) × (w ≡ min (u + v) endless) → l ≤ room → m ≤ room
+pub add-of : (l u m v w : ℕ) → (topOf w ≡ plus (topOf u) (topOf v)) × (w ≡ min (u + v) endless) → l ≤ sizeLimit → m ≤ sizeLimit
     → l ≤ u → m ≤ v → spanOf (l + m) w ≡ join add (spanOf l u) (spanOf m v)
 unfolding join
 add-of l u m v w e a b h k = rw (some-of h, some-of k, some-of {l = l + m} {m = w} (omega arith), e .0)

@@ -1,5 +1,5 @@
 // A group is measured from its sons, and the sons, one after another, from their own. The chain of calls follows the tree
-// down: at most two frames for each group on the way, 256 for 128 groups.
+// down: at most two frames for each group on the way.
 use crate::links::link_at;
 use crate::links::link_sons;
 use crate::pairs::pair_at;
@@ -18,12 +18,12 @@ ghost use mathlib.Core.Path.{_≡_};
 ghost use Prim.Native.Nat.{_-_, _*_, _≤_};
 ghost use lib.ListN.{length, getD};
 ghost use Rattle.meaning.specs.Sheet.{Group};
+ghost use Rattle.reading.specs.SheetIn.{sheetIn};
 ghost use Rattle.sizes.specs.Span as sizes;
 ghost use Rattle.sizes.specs.Fold as fold;
 ghost use Rattle.measuring.specs.Held.{pairOf, Alike, RoomBoth, shutBy};
-ghost use Rattle.measuring.specs.Tables.{sheetIn, mayIn, spansIn};
+ghost use Rattle.measuring.specs.Tables.{mayIn, spansIn};
 ghost use Rattle.measuring.specs.Links.{Links};
-ghost use Rattle.sizes.specs.Ranged.{Rooted};
 ghost use Rattle.measuring.specs.Done.{Long, Readable, Lent, Done, Spanned, AllDone};
 
 // whether the sons alone must make up a group of this mode, with its last son and the one before that, 0 for none
@@ -148,7 +148,7 @@ pub fn measure_sheet(
     spans: &mut [u32],
     after: &mut [u32],
 )
-    requires { ⌜ Long (now groups) size (now flags) (now last) (now prev) × Rooted (sheetIn (now groups) size) ⌝ }
+    requires { ⌜ Long (now groups) size (now flags) (now last) (now prev) ⌝ }
     requires { ⌜ Lent size (now spans) (now after) ⌝ }
     ensures { λ _. ⌜ AllDone (sheetIn (now (groups .entry)) size) (spansIn (now (groups .entry)) size (now (flags .entry)))
         (now (spans .exit)) (now (after .exit)) ⌝ }

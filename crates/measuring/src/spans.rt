@@ -1,8 +1,8 @@
 // Intervals in two numbers, pairs of them for a member out of the group and in it, and how a son's are joined to those so far.
 // Each function is an equation with the function of the same meaning in `sizes`.
 ghost use mathlib.Core.Path.{_≡_};
-ghost use mathlib.Core.Bool.{Bool, true, false, cond};
-ghost use Prim.Native.Nat.{_+_, _-_, _≤_, _<_, min, max};
+ghost use mathlib.Core.Bool.{true, false, cond};
+ghost use Prim.Native.Nat.{_+_, _-_, _<_, min, max};
 ghost use Rattle.meaning.specs.OfRecords.{endOf};
 ghost use Rattle.sizes.specs.Span as sizes;
 ghost use Rattle.sizes.specs.Fold as fold;

@@ -1,24 +1,25 @@
 -- Ranges taken from the root down, group after group. With each group stands what its sons not yet taken must make up.
-use Prim.Native.Nat.{ℕ, zero, suc, _+_, _-_, _*_, _≤_, _<_}
+use Prim.Native.Nat.{ℕ, zero, suc, _-_, _≤_, _<_}
 use mathlib.Core.Path.{_≡_, refl, sym, ap, _∙_}
 use mathlib.Core.Bool.{Bool, true, false}
 use mathlib.Core.List.{List}
 use mathlib.Core.Logic.{_↔_}
 use native.Mathlib.Omega.{arith}
 use native.Mathlib.Nat.{le-refl}
-use lib.ListN.{length, getD}
-use Rattle.meaning.specs.Sheet.{Sheet, Group, Son, Tree}
+use Rattle.meaning.specs.Sheet.{Sheet, Group, Son, Tree, Rooted}
 use Rattle.sizes.specs.Balanced.{isSon}
 use Rattle.meaning.specs.Fits.{Possible}
+use Rattle.reading.specs.Tables.{groupIn}
+use Rattle.reading.specs.SheetIn.{sheetIn, Tabled, group-in, son-in, parent-below}
 use Rattle.sizes.specs.Span.{Span, none, meet, Kind, pull}
 use Rattle.sizes.specs.Fold.{kindOf, later, Measured}
-use Rattle.sizes.specs.Ranged.{Rooted, free, held, Ranged}
+use Rattle.sizes.specs.Ranged.{free, held, Ranged}
 use Rattle.sizes.specs.RangeExact.{possible-sets}
 use Rattle.sizes.specs.SumLaws.{split, compare-le, compare-eq, son-of, son-is, son-parent}
 use Rattle.measuring.specs.Held.{spanOf, modeKind}
 use Rattle.measuring.specs.HeldLaws.{none-of, some-of}
 use Rattle.measuring.specs.Pairs.{pairIn}
-use Rattle.measuring.specs.Tables.{sheetIn, size-in, parent-in, kind-in}
+use Rattle.measuring.specs.Tables.{kind-in}
 use Rattle.ranging.specs.Tables.{spanIn, SpanPut}
 
 -- the tables of measuring hold z for the member out of every group: the span of each group, and the joined spans of the
@@ -26,15 +27,6 @@ use Rattle.ranging.specs.Tables.{spanIn, SpanPut}
 pub record Measures (s : Sheet) (z : ℕ → Bool → Span) (spans after : List ℕ) : Type 0 where
   pub spanned : (g : ℕ) → Group s g → pairIn spans g false ≡ z g false
   pub followed : (p g : ℕ) → Son s p g → pairIn after g false ≡ later s z p (s .size - g) false
-
--- the table of n groups is that of a tree with one root, and the tables of measuring beside it are long enough
-pub record Rooting (groups : List ℕ) (n : ℕ) (spans after : List ℕ) : Type 0 where
-  pub some : 1 ≤ n
-  pub groups-long : 4 * n ≤ length groups
-  pub spans-long : 4 * n ≤ length spans
-  pub after-long : 4 * n ≤ length after
-  pub tree : Tree (sheetIn groups n)
-  pub rooted : Rooted (sheetIn groups n)
 
 -- the groups up to i have their ranges R, and T is what the sons after i must make up
 pub record Narrowed (s : Sheet) (z : ℕ → Bool → Span) (R T : ℕ → Span) (i : ℕ) : Type 0 where
@@ -124,21 +116,6 @@ module _ {s : Sheet} {z : ℕ → Bool → Span} (t : Tree s) (r : Rooted s) whe
   pub narrowed-all : {R T : ℕ → Span} → Narrowed s z R T (s .size) → Ranged s z R
   narrowed-all w = record { root = w .root; son = λ p g k. w .son p g k (k .group .last) }
 
--- the sheet of the tables: its groups, and the parent of a group
-pub group-in : (groups : List ℕ) (n g : ℕ) → 1 ≤ g → g ≤ n → Group (sheetIn groups n) g
-group-in groups n g a b = omega (arith, size-in groups n)
-
-module _ {groups spans after : List ℕ} {n : ℕ} (k : Rooting groups n spans after) (g p : ℕ) (a : 2 ≤ g) (b : g ≤ n)
-    (e : p ≡ getD groups (4 * (g - 1)) 0) where
-  pub son-in : Son (sheetIn groups n) p g
-  son-in =
-      let q = group-in groups n g (omega arith) b in
-      let up = parent-in groups n g q in
-      record { above = omega (arith, k .rooted .rest g q a); group = q; under = up ∙ sym e }
-
-  pub parent-below : (1 ≤ p) × (p < g)
-  parent-below = omega (arith, son-in .above, son-in .under, k .tree .before g (son-in .group))
-
 -- what the stores of one turn do
 pub record Turned (ranges rest : List ℕ) (g p : ℕ) (range left : Span) (ranges' rest' : List ℕ) : Type 0 where
   pub found : spanIn ranges' g ≡ range
@@ -159,8 +136,8 @@ turned g p l one two three = record {
 
 -- one turn, own and others being the spans of g and of its brothers after it
 pub narrow-step : {groups spans after ranges rest ranges' rest' : List ℕ} {n : ℕ} {own others whole x range y left : Span}
-    {q : Kind} → Rooting groups n spans after → (g p : ℕ) → 2 ≤ g → g ≤ n → p ≡ getD groups (4 * (g - 1)) 0
-    → q ≡ modeKind (getD groups (4 * (p - 1) + 3) 0) → own ≡ pairIn spans g false → others ≡ pairIn after g false
+    {q : Kind} → Tabled groups n → (g p : ℕ) → 2 ≤ g → g ≤ n → p ≡ groupIn groups (g - 1) .parent
+    → q ≡ modeKind (groupIn groups (p - 1) .mode) → own ≡ pairIn spans g false → others ≡ pairIn after g false
     → whole ≡ spanIn rest p → x ≡ pull q whole others → range ≡ meet own x → y ≡ pull q whole own → left ≡ meet others y
     → Turned ranges rest g p range left ranges' rest' → (z : ℕ → Bool → Span) → Measures (sheetIn groups n) z spans after
     → Narrowed (sheetIn groups n) z (spanIn ranges) (spanIn rest) (g - 1)
@@ -170,7 +147,7 @@ narrow-step {groups} {n = n} k (suc i) p a b e f own others whole x range y left
     let j = son-in k (suc i) p a b e in
     let l = parent-below k (suc i) p a b e in
     let d : suc i - 1 ≡ i = omega arith in
-    let o = group-in groups n p (l .0) (omega arith) in
+    let o = group-in groups n (l .0) (omega arith) in
     let kind = kind-in groups n p o in
     let mine = own ∙ m .spanned (suc i) (j .group) in
     let late = others ∙ m .followed p (suc i) j in

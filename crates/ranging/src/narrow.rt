@@ -15,16 +15,17 @@ ghost use mathlib.Core.Bool.{Bool, true, false};
 ghost use mathlib.Core.Logic.{_↔_};
 ghost use Prim.Native.Nat.{ℕ, _-_, _*_, _≤_, _<_};
 ghost use lib.ListN.{length};
-ghost use Rattle.meaning.specs.Sheet.{Sheet, Tree};
+ghost use Rattle.meaning.specs.Sheet.{Sheet, Tree, Rooted};
 ghost use Rattle.meaning.specs.Fits.{Possible};
+ghost use Rattle.reading.specs.SheetIn.{sheetIn, Tabled};
 ghost use Rattle.sizes.specs.Span as sizes;
 ghost use Rattle.sizes.specs.Fold.{Measured};
-ghost use Rattle.sizes.specs.Ranged.{Rooted, free, Ranged};
+ghost use Rattle.sizes.specs.Ranged.{free, Ranged};
 ghost use Rattle.measuring.specs.Held.{held};
 ghost use Rattle.measuring.specs.Pairs.{pairIn};
-ghost use Rattle.measuring.specs.Tables.{sheetIn};
+ghost use Rattle.measuring.specs.Done.{Lent};
 ghost use Rattle.ranging.specs.Tables.{spanIn};
-ghost use Rattle.ranging.specs.Narrowed.{Rooting, Measures, Turned, Narrowed};
+ghost use Rattle.ranging.specs.Narrowed.{Measures, Turned, Narrowed};
 
 // whether the root's interval, as measured, has a number: whether some sets fit
 pub fn possible(spans: &[u32]) -> bool
@@ -57,7 +58,7 @@ fn narrow_son(
     rest: &mut [u32],
     g: GroupNo,
 )
-    requires { ⌜ Rooting (now groups) size (now spans) (now after) ⌝ }
+    requires { ⌜ Tabled (now groups) size × Lent size (now spans) (now after) ⌝ }
     requires { ⌜ (2 * size ≤ length (now ranges)) × (2 * size ≤ length (now rest)) ⌝ }
     requires { ⌜ (2 ≤ g .0) × (g .0 ≤ size) ⌝ }
     ensures { λ _. ⌜ ((z : ℕ → Bool → sizes.Span)
@@ -84,7 +85,7 @@ pub fn narrow(
     ranges: &mut [u32],
     rest: &mut [u32],
 )
-    requires { ⌜ Rooting (now groups) size (now spans) (now after) ⌝ }
+    requires { ⌜ Tabled (now groups) size × Lent size (now spans) (now after) ⌝ }
     requires { ⌜ (2 * size ≤ length (now ranges)) × (2 * size ≤ length (now rest)) ⌝ }
     ensures { λ _. ⌜ ((z : ℕ → Bool → sizes.Span)
         → Measures (sheetIn (now (groups .entry)) size) z (now (spans .entry)) (now (after .entry))

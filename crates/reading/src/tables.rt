@@ -12,8 +12,14 @@ pub const NAMES: u16 = 128;
 
 pub const CLAIMS: u16 = 64;
 
+// The groups that tables hold: a table of one number for each group has this length.
+pub const GROUP_CAPACITY: usize = 128;
+
+// Fields of a group.
+pub const GROUP_FIELDS: usize = 4;
+
 // The lengths of the tables that hold any sheet: groups, names, labels' places, claims' places.
-pub const GROUP_TABLE: usize = 4 * 128;
+pub const GROUP_TABLE: usize = GROUP_FIELDS * GROUP_CAPACITY;
 
 pub const NAME_TABLE: usize = 128;
 

@@ -6,10 +6,10 @@ use native.Mathlib.Omega.{arith}
 use native.Mathlib.Nat.{le-refl}
 use borrow.Author.Tests.{ne-eqb}
 use lib.Dec.{eqb}
-use Rattle.meaning.specs.Sheet.{Sheet, Group, Son, Tree}
+use Rattle.meaning.specs.Sheet.{Sheet, Group, Son, Tree, Rooted}
 use Rattle.sizes.specs.Span.{Span, meet, pull}
 use Rattle.sizes.specs.Fold.{kindOf, later}
-use Rattle.sizes.specs.Ranged.{Rooted, held, Ranged}
+use Rattle.sizes.specs.Ranged.{held, Ranged}
 use Rattle.sizes.specs.SumLaws.{compare-eq, son-parent}
 
 -- h and k are equal at the groups below n

@@ -14,12 +14,11 @@ use Rattle.wire.specs.Record.{read}
 use Rattle.wire.specs.SheetFormat.{Records, readSheet}
 use Rattle.wire.specs.Encoding.{Bytes, Right, SheetWithin}
 use Rattle.wire.specs.Facts.{read-right, read-within}
-use Rattle.meaning.specs.Sheet.{Group}
+use Rattle.meaning.specs.Sheet.{Group, Rooted}
 use Rattle.meaning.specs.Fits.{Possible}
 use Rattle.meaning.specs.Claim.{Breakable}
 use Rattle.meaning.specs.OfRecords.{sheetOf, claimAt, endOf, groupAt}
 use Rattle.meaning.specs.Readable.{root-under-none, root-group, parent-group, lo-most, hi-most, tree-of-right, tree-of-readable}
-use Rattle.sizes.specs.Ranged.{Rooted}
 use Rattle.sizes.specs.SumLaws.{split}
 use Rattle.sizes.specs.Bounds.{Small}
 use Rattle.sizes.specs.Ends.{End, end-limit}

@@ -8,7 +8,8 @@ use Rattle.measuring.specs.LinksLaws.{next-less}
 use native.Mathlib.Omega.{arith}
 use mathlib.Core.Path.{_≡_, refl, _∙_}
 use Rattle.measuring.specs.Held.{pairOf}
-use Rattle.measuring.specs.Tables.{sheetIn, spansIn, size-in}
+use Rattle.reading.specs.SheetIn.{sheetIn, size-in}
+use Rattle.measuring.specs.Tables.{spansIn}
 use Rattle.measuring.specs.DoneLaws.{AtSon, put-alike, done-put, finished, at-last, at-next, at-end, room-sum, room-son}
 use borrow.Fn.Kinds.{In}
 use borrow.Fn.PlainCycle.{Measures, is, falls, and}
@@ -83,7 +84,7 @@ measure-group-finish-requires t c κs =
     let a = s .args in
     let r = s .pre .1 .0 in
     let g = s .pre .1 .1 .1 in
-    ((r .long .groups-long, r .long .flags-long), g)
+    ((r .long .tabled .long, r .long .flags-long), g)
 
 measure-group-put-pair-requires : (t : ℕ) → measure-group-lts.Need-put-pair-requires (
   measure-sons-below t,
@@ -175,7 +176,7 @@ measure-sons-start-of-requires t c κs =
     let a = s .args in
     let r = s .pre .1 .0 in
     let g = s .pre .1 .1 .1 in
-    ((r .long .groups-long, r .long .last-long, r .long .prev-long), (g, r .links))
+    ((r .long .tabled .long, r .long .last-long, r .long .prev-long), (g, r .links))
 
 measure-sons-link-at-requires : (t : ℕ) → measure-sons-lts.Need-link-at-requires (
   start-of-reads.Asked,
@@ -245,7 +246,7 @@ measure-sons-measure-group-requires t c κs =
     let r = s .pre .1 .0 in
     let g = s .pre .1 .1 .1 in
     let k = l .loop .inv .2 .chain (omega (arith, e .if1 .taken)) in (
-      omega (arith, size-in (a .groups .now) (a .size), r .long .tree .before _ (k .group)),
+      omega (arith, size-in (a .groups .now) (a .size), r .long .tabled .tree .before _ (k .group)),
       (r, (record { spans-long = omega arith; after-long = omega arith }, k .group)),
     )
 
@@ -326,7 +327,7 @@ measure-sons-join-son-requires t c κs =
     let k = l .loop .inv .2 .chain (omega (arith, e .if1 .taken)) in
     let b : (j : ℕ) → getD (a .groups .now) j 0 ≤ noEnd =
     λ j. let h = l .before .before .before .before .before .before .before .before .shared-slice-known .given j in omega arith in (
-      r .long .groups-long,
+      r .long .tabled .long,
       (
         g,
         (

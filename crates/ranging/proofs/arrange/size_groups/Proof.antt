@@ -5,7 +5,7 @@ use native.Mathlib.Omega.{arith}
 use lib.ListN.{length, length-set}
 use lib.Seq.{getD-set-same}
 use Rattle.meaning.specs.Arranged.{Arranged}
-use Rattle.measuring.specs.Tables.{sheetIn, size-in}
+use Rattle.reading.specs.SheetIn.{sheetIn, size-in}
 use Rattle.runs.specs.Told.{numberIn}
 use Rattle.ranging.specs.Tables.{leastIn, greatestIn}
 use Rattle.ranging.specs.Sized.{Sized, sized-root}
@@ -34,7 +34,7 @@ slice-write-left c = search needs
 loop-holds : tie.Need-loop-holds Inv-loop μ-loop
 loop-holds c =
     let s = c .before .before .before .before .before .before in
-    let k = s .pre .0 .rooting in
+    let k = s .pre .0 .tabled in
     let root = c .out-at .ensures .least in (
       search needs,
       search needs,

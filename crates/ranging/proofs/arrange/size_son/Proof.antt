@@ -1,7 +1,7 @@
 -- `size_son` meets its contract: one turn.
 use Prim.Native.Nat.{_≤_, _<_}
 use mathlib.Core.Path.{refl}
-use Rattle.ranging.specs.Narrowed.{parent-below}
+use Rattle.reading.specs.SheetIn.{parent-below}
 use Rattle.ranging.specs.Sized.{size-step}
 use borrow.Author.Needs.{needs}
 use Rattle.ranging.proofs.arrange.size_son.Statement.{statement}
@@ -12,7 +12,7 @@ son : (c : tie.After-parent-of)
     → (1 ≤ c .parent-of .result .0) × (c .parent-of .result .0 < c .before .before .before .before .before .before .args .g .0)
 son c =
     let s = c .before .before .before .before .before .before in
-    parent-below (s .pre .0 .rooting) _ _ (s .pre .1 .1 .0) (s .pre .1 .1 .1) (c .parent-of .ensures)
+    parent-below (s .pre .0 .tabled) _ _ (s .pre .1 .1 .0) (s .pre .1 .1 .1) (c .parent-of .ensures)
 
 parent-of-requires : tie.Need-parent-of-requires
 parent-of-requires c κs = search needs

@@ -1,9 +1,10 @@
 -- `narrow_son` meets its contract: one turn.
 use Prim.Native.Nat.{_≤_, _<_}
 use mathlib.Core.Path.{ap, _∙_}
+use Rattle.reading.specs.SheetIn.{parent-below}
 use Rattle.measuring.specs.Held.{modeKind}
 use Rattle.ranging.specs.Tables.{out-held}
-use Rattle.ranging.specs.Narrowed.{parent-below, narrow-step}
+use Rattle.ranging.specs.Narrowed.{narrow-step}
 use borrow.Author.Needs.{needs}
 use Rattle.ranging.proofs.narrow.narrow_son.Statement.{statement}
 use Rattle.ranging.proofs.narrow.narrow_son.Tie as tie
@@ -16,7 +17,7 @@ son : (c : tie.After-parent-of)
     → (1 ≤ c .parent-of .result .0) × (c .parent-of .result .0 < c .before .before .before .before .before .before .args .g .0)
 son c =
     let s = c .before .before .before .before .before .before in
-    parent-below (s .pre .0) _ _ (s .pre .1 .1 .0) (s .pre .1 .1 .1) (c .parent-of .ensures)
+    parent-below (s .pre .0 .0) _ _ (s .pre .1 .1 .0) (s .pre .1 .1 .1) (c .parent-of .ensures)
 
 mode-of-requires : tie.Need-mode-of-requires
 mode-of-requires c κs = let k = son c in search needs
@@ -67,7 +68,7 @@ returns c =
     let kind = others .before .before in
     let up = kind .before .before in
     let s = up .before .before .before .before .before .before in
-    narrow-step (s .pre .0) _ _ (s .pre .1 .1 .0) (s .pre .1 .1 .1) (up .parent-of .ensures)
+    narrow-step (s .pre .0 .0) _ _ (s .pre .1 .1 .0) (s .pre .1 .1 .1) (up .parent-of .ensures)
     (kind .kind-of .ensures ∙ ap modeKind (kind .before .mode-of .ensures))
     (out-held _ _ _ _ (others .before .out-at .ensures)) (out-held _ _ _ _ (others .out-at2 .ensures))
     (read .span-at .ensures) (meet1 .before .pull .ensures) (meet1 .meet .ensures)
