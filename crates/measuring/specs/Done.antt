@@ -9,7 +9,7 @@ use Rattle.sizes.specs.Span.{Span}
 use Rattle.sizes.specs.Fold.{later}
 use Rattle.measuring.specs.Held.{Alike}
 use Rattle.measuring.specs.Links.{Links}
-use Rattle.measuring.specs.Pairs.{pairIn}
+use Rattle.measuring.specs.Pairs.{pairFields, pairIn}
 
 -- h is g or a group below it
 pub data Within (s : Sheet) : ℕ → ℕ → Type 0 where
@@ -55,8 +55,8 @@ pub record Readable (groups : List ℕ) (n : ℕ) (flags last prev : List ℕ) :
 
 -- the tables of spans are long enough
 pub record Lent (n : ℕ) (spans after : List ℕ) : Type 0 where
-  pub spans-long : 4 * n ≤ length spans
-  pub after-long : 4 * n ≤ length after
+  pub spans-long : pairFields * n ≤ length spans
+  pub after-long : pairFields * n ≤ length after
 
 -- all groups are measured
 pub record AllDone (s : Sheet) (z : ℕ → Bool → Span) (spans after : List ℕ) : Type 0 where

@@ -18,6 +18,7 @@ ghost use mathlib.Core.Path.{_≡_};
 ghost use Prim.Native.Nat.{_-_, _*_, _≤_};
 ghost use lib.ListN.{length, getD};
 ghost use Rattle.meaning.specs.Sheet.{Group};
+ghost use Rattle.reading.specs.Tables.{groupFields};
 ghost use Rattle.reading.specs.SheetIn.{sheetIn};
 ghost use Rattle.sizes.specs.Span as sizes;
 ghost use Rattle.sizes.specs.Fold as fold;
@@ -43,7 +44,7 @@ fn is_shut(mode: u16, son: u16, other: u16) -> bool
 
 // the intervals of a group before any son is joined
 fn start_of(groups: &[u16], size: u16, last: &[u16], prev: &[u16], g: GroupNo) -> Pair
-    requires { ⌜ (4 * size ≤ length (now groups)) × (size ≤ length (now last)) × (size ≤ length (now prev)) ⌝ }
+    requires { ⌜ (groupFields * size ≤ length (now groups)) × (size ≤ length (now last)) × (size ≤ length (now prev)) ⌝ }
     requires { ⌜ Group (sheetIn (now groups) size) (g .0) ⌝ }
     requires { ⌜ Links (sheetIn (now groups) size) (now last) (now prev) size ⌝ }
     ensures { λ r. ⌜ Alike (pairOf r) (fold.start (fold.shut (sheetIn (now (groups .entry)) size) (g .0))) ⌝ }
@@ -63,7 +64,7 @@ fn flag_at(flags: &[u8], g: GroupNo) -> u8
 
 // What the sons leave, met with the group's own bounds.
 fn finish(groups: &[u16], size: u16, flags: &[u8], below: Pair, g: GroupNo) -> Pair
-    requires { ⌜ (4 * size ≤ length (now groups)) × (size ≤ length (now flags)) ⌝ }
+    requires { ⌜ (groupFields * size ≤ length (now groups)) × (size ≤ length (now flags)) ⌝ }
     requires { ⌜ Group (sheetIn (now groups) size) (g .0) ⌝ }
     ensures { λ r. ⌜ Alike (pairOf r) (λ c. sizes.meet (pairOf below c)
         (fold.own (sheetIn (now (groups .entry)) size) (mayIn (now (flags .entry))) (g .0) c)) ⌝ }
@@ -76,7 +77,7 @@ fn finish(groups: &[u16], size: u16, flags: &[u8], below: Pair, g: GroupNo) -> P
 
 // One more son of g, with intervals z, joined to the sons after it.
 fn join_son(groups: &[u16], size: u16, g: GroupNo, sum: Pair, z: Pair) -> Pair
-    requires { ⌜ 4 * size ≤ length (now groups) ⌝ }
+    requires { ⌜ groupFields * size ≤ length (now groups) ⌝ }
     requires { ⌜ Group (sheetIn (now groups) size) (g .0) ⌝ }
     requires { ⌜ RoomBoth (pairOf sum) × RoomBoth (pairOf z) ⌝ }
     ensures { λ r. ⌜ Alike (pairOf r)

@@ -1,8 +1,9 @@
 // Intervals in two numbers, pairs of them for a member out of the group and in it, and how a son's are joined to those so far.
 // Each function is an equation with the function of the same meaning in `sizes`.
+use reading::tables::NO_END;
 ghost use mathlib.Core.Path.{_≡_};
 ghost use mathlib.Core.Bool.{true, false, cond};
-ghost use Prim.Native.Nat.{_+_, _-_, _<_, min, max};
+ghost use Prim.Native.Nat.{_+_, _-_, min, max};
 ghost use Rattle.meaning.specs.OfRecords.{endOf};
 ghost use Rattle.sizes.specs.Span as sizes;
 ghost use Rattle.sizes.specs.Fold as fold;
@@ -189,7 +190,7 @@ pub fn start(shut: bool) -> Pair
 fn own_out(lo: u16, hi: u16) -> Span
     ensures { λ r. ⌜ held r ≡ fold.ownTo lo (endOf hi) false ⌝ }
 {
-    if hi == 65535 {
+    if hi == NO_END {
         return Span {
             least: lo as u32,
             most: ENDLESS,
@@ -202,7 +203,7 @@ fn own_out(lo: u16, hi: u16) -> Span
 }
 
 fn less_one(n: u16) -> u32
-    ensures { λ r. ⌜ (r ≡ n - 1) × (r < 65535) ⌝ }
+    ensures { λ r. ⌜ r ≡ n - 1 ⌝ }
 {
     if n == 0 { 0 } else { (n - 1) as u32 }
 }
@@ -210,7 +211,7 @@ fn less_one(n: u16) -> u32
 fn own_in(lo: u16, hi: u16) -> Span
     ensures { λ r. ⌜ held r ≡ fold.ownTo lo (endOf hi) true ⌝ }
 {
-    if hi == 65535 {
+    if hi == NO_END {
         return Span {
             least: less_one(lo),
             most: ENDLESS,

@@ -20,7 +20,7 @@ use Rattle.sizes.specs.ArrangedFits.{arranged-fits}
 use Rattle.sizes.specs.Part.{bottom-up}
 use Rattle.measuring.specs.Held.{topOf}
 use Rattle.measuring.specs.Done.{AllDone}
-use Rattle.ranging.specs.Tables.{leastIn, greatestIn, spanIn}
+use Rattle.ranging.specs.Tables.{leastIn, greatestIn, spanFields, spanIn}
 use Rattle.ranging.specs.Narrowed.{Measures}
 use Rattle.ranging.specs.Sized.{Arrangeable, span-of-ends, span-told}
 
@@ -41,7 +41,7 @@ measured-free f m = record { at = λ p q c. m .at p q c ∙ rw (f p q c) }
 -- group g k members
 pub range-said : {s : Sheet} {z : ℕ → Bool → Span} (ranges : List ℕ) → Tree s → Rooted s → Measured s free z → Possible s
     → Ranged s z (spanIn ranges) → (g : ℕ) → Group s g → (k : ℕ)
-    → ((getD ranges (2 * (g - 1)) 0 ≤ k) × AtMost k (topOf (getD ranges (2 * (g - 1) + 1) 0))) ↔ Attains s g k
+    → ((getD ranges (spanFields * (g - 1)) 0 ≤ k) × AtMost k (topOf (getD ranges (spanFields * (g - 1) + 1) 0))) ↔ Attains s g k
 unfolding spanIn
 range-said ranges t r m p h g q k =
     let w = possible t .0 p in

@@ -10,12 +10,14 @@ use reading::tables::parent_of;
 use runs::place::place_runs;
 ghost use mathlib.Core.Path.{_≡_};
 ghost use Prim.Native.Nat.{ℕ, _+_, _-_, _*_, _≤_, _<_};
-ghost use lib.ListN.{length, getD};
+ghost use lib.ListN.{length};
 ghost use Rattle.meaning.specs.Sheet.{Group};
 ghost use Rattle.meaning.specs.OfRecords.{disjointMode, coverMode, sameMode};
 ghost use Rattle.meaning.specs.Arranged.{Arranged};
+ghost use Rattle.reading.specs.Tables.{groupFields, groupIn};
 ghost use Rattle.reading.specs.SheetIn.{sheetIn};
 ghost use Rattle.measuring.specs.Held.{topOf};
+ghost use Rattle.measuring.specs.Pairs.{pairFields};
 ghost use Rattle.runs.specs.Told.{numberIn};
 ghost use Rattle.ranging.specs.Tables.{leastIn, greatestIn};
 ghost use Rattle.ranging.specs.Sized.{sizeBy, Arrangeable, Sizing, Sized};
@@ -48,11 +50,11 @@ fn size_of(
     p: GroupNo,
     g: GroupNo,
 ) -> u32
-    requires { ⌜ (1 ≤ p .0) × (p .0 < g .0) × (4 * (g .0) ≤ length (now groups)) × (4 * (g .0) ≤ length (now spans))
-        × (4 * (g .0) ≤ length (now after)) × (g .0 ≤ length (now sizes)) × (g .0 ≤ length (now left)) ⌝ }
-    ensures { λ r. ⌜ r ≡ sizeBy (sameMode (getD (now (groups .entry)) (4 * (p .0 - 1) + 3) 0))
-        (disjointMode (getD (now (groups .entry)) (4 * (p .0 - 1) + 3) 0))
-        (coverMode (getD (now (groups .entry)) (4 * (p .0 - 1) + 3) 0))
+    requires { ⌜ (1 ≤ p .0) × (p .0 < g .0) × (groupFields * (g .0) ≤ length (now groups)) × (pairFields * (g .0) ≤ length (now spans))
+        × (pairFields * (g .0) ≤ length (now after)) × (g .0 ≤ length (now sizes)) × (g .0 ≤ length (now left)) ⌝ }
+    ensures { λ r. ⌜ r ≡ sizeBy (sameMode (groupIn (now (groups .entry)) (p .0 - 1) .mode))
+        (disjointMode (groupIn (now (groups .entry)) (p .0 - 1) .mode))
+        (coverMode (groupIn (now (groups .entry)) (p .0 - 1) .mode))
         (leastIn (now (spans .entry)) (g .0)) (greatestIn (now (spans .entry)) (g .0)) (numberIn (now (sizes .entry)) (p .0))
         (numberIn (now (left .entry)) (p .0) - leastIn (now (after .entry)) (g .0)) ⌝ }
 {

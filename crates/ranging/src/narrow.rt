@@ -22,14 +22,14 @@ ghost use Rattle.sizes.specs.Span as sizes;
 ghost use Rattle.sizes.specs.Fold.{Measured};
 ghost use Rattle.sizes.specs.Ranged.{free, Ranged};
 ghost use Rattle.measuring.specs.Held.{held};
-ghost use Rattle.measuring.specs.Pairs.{pairIn};
+ghost use Rattle.measuring.specs.Pairs.{pairFields, pairIn};
 ghost use Rattle.measuring.specs.Done.{Lent};
-ghost use Rattle.ranging.specs.Tables.{spanIn};
+ghost use Rattle.ranging.specs.Tables.{spanFields, spanIn};
 ghost use Rattle.ranging.specs.Narrowed.{Measures, Turned, Narrowed};
 
 // whether the root's interval, as measured, has a number: whether some sets fit
 pub fn possible(spans: &[u32]) -> bool
-    requires { ⌜ 4 ≤ length (now spans) ⌝ }
+    requires { ⌜ pairFields ≤ length (now spans) ⌝ }
     ensures { λ r. ⌜ ((s : Sheet) (z : ℕ → Bool → sizes.Span) → Tree s → Rooted s → Measured s free z
         → pairIn (now (spans .entry)) 1 false ≡ z 1 false → (r ≡ true) ↔ Possible s) ⌝ }
 {
@@ -39,7 +39,7 @@ pub fn possible(spans: &[u32]) -> bool
 
 // The range of g, a son of p, and what the sons of p after g must make up.
 fn put_turn(ranges: &mut [u32], rest: &mut [u32], g: GroupNo, p: GroupNo, range: Span, left: Span)
-    requires { ⌜ (1 ≤ p .0) × (p .0 < g .0) × (2 * (g .0) ≤ length (now ranges)) × (2 * (g .0) ≤ length (now rest)) ⌝ }
+    requires { ⌜ (1 ≤ p .0) × (p .0 < g .0) × (spanFields * (g .0) ≤ length (now ranges)) × (spanFields * (g .0) ≤ length (now rest)) ⌝ }
     ensures { λ _. ⌜ Turned (now (ranges .entry)) (now (rest .entry)) (g .0) (p .0) (held range) (held left)
         (now (ranges .exit)) (now (rest .exit)) ⌝ }
 {
@@ -59,7 +59,7 @@ fn narrow_son(
     g: GroupNo,
 )
     requires { ⌜ Tabled (now groups) size × Lent size (now spans) (now after) ⌝ }
-    requires { ⌜ (2 * size ≤ length (now ranges)) × (2 * size ≤ length (now rest)) ⌝ }
+    requires { ⌜ (spanFields * size ≤ length (now ranges)) × (spanFields * size ≤ length (now rest)) ⌝ }
     requires { ⌜ (2 ≤ g .0) × (g .0 ≤ size) ⌝ }
     ensures { λ _. ⌜ ((z : ℕ → Bool → sizes.Span)
         → Measures (sheetIn (now (groups .entry)) size) z (now (spans .entry)) (now (after .entry))
@@ -86,7 +86,7 @@ pub fn narrow(
     rest: &mut [u32],
 )
     requires { ⌜ Tabled (now groups) size × Lent size (now spans) (now after) ⌝ }
-    requires { ⌜ (2 * size ≤ length (now ranges)) × (2 * size ≤ length (now rest)) ⌝ }
+    requires { ⌜ (spanFields * size ≤ length (now ranges)) × (spanFields * size ≤ length (now rest)) ⌝ }
     ensures { λ _. ⌜ ((z : ℕ → Bool → sizes.Span)
         → Measures (sheetIn (now (groups .entry)) size) z (now (spans .entry)) (now (after .entry))
         → Ranged (sheetIn (now (groups .entry)) size) z (spanIn (now (ranges .exit)))) ⌝ }

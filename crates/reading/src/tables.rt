@@ -27,6 +27,9 @@ pub const LABEL_TABLE: usize = 128;
 
 pub const CLAIM_TABLE: usize = 64;
 
+// The bound that stands for no upper end.
+pub const NO_END: u16 = 65535;
+
 // A group's number and a name's number, each from 1 on, are two families. Where a group has no parent (the root) or no link
 // to another group, `GroupNo(0)` stands for 'none'.
 pub struct GroupNo(pub u16);
