@@ -15,7 +15,7 @@ use Rattle.reading.specs.SheetIn.{sheetIn, Tabled}
 use Rattle.sizes.specs.Balanced.{Choice}
 use Rattle.sizes.specs.Span.{Span, In, Kind}
 use Rattle.sizes.specs.Fold.{kindOf, later, Measured}
-use Rattle.sizes.specs.SumLaws.{compare-eq, son-parent, bit-most}
+use Rattle.meaning.proofs.SumLaws.{compare-eq, son-parent, bit-most}
 use Rattle.runs.specs.Told.{numberIn}
 use Rattle.measuring.specs.Held.{Alike, modeKind}
 use Rattle.measuring.specs.Tables.{kind-in}

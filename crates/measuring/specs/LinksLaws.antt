@@ -15,7 +15,7 @@ use Rattle.reading.specs.Tables.{groupIn}
 use Rattle.reading.specs.SheetIn.{sheetIn, size-in, group-in, parent-in}
 use Rattle.sizes.specs.Span.{Span}
 use Rattle.sizes.specs.Fold.{kindOf, shut, start, joined, later}
-use Rattle.sizes.specs.SumLaws.{split, compare-eq, compare-le, below-suc, true-not-false, not-true-false, son-of, son-is}
+use Rattle.meaning.proofs.SumLaws.{split, compare-eq, compare-le, below-suc, true-not-false, not-true-false, son-of, son-is, no-son-before}
 use Rattle.sizes.specs.RuleSteps.{no-son}
 use Rattle.sizes.specs.LaterLaws.{later-none, later-son, later-skip}
 use Rattle.measuring.specs.Links.{linkIn, sonBelow, Linked, Links}
@@ -97,11 +97,7 @@ pub below-nil : (s : Sheet) (p n : ℕ) → ((j : ℕ) → j < n → isSon s p j
 below-nil s p zero f = below-none s p
 below-nil s p (suc n) f = below-miss s p n (f n (le-refl (suc n))) ∙ below-nil s p n (λ j l. f j (omega arith))
 
--- sons come after their parent
-pub son-after : (s : Sheet) (p j : ℕ) → Tree s → j ≤ p → j ≤ s .size → isSon s p j ≡ false
-son-after s p j t l k =
-    not-true-false (isSon s p j) (λ e. let w = son-of s p j k e in omega (arith, t .before j (w .group)))
-
+-- number 0 is no group and has no sons
 pub son-of-none : (s : Sheet) (j : ℕ) → j ≤ s .size → isSon s 0 j ≡ false
 son-of-none s j k = not-true-false (isSon s 0 j) (λ e. let w = son-of s 0 j k e in omega arith)
 
@@ -115,7 +111,7 @@ links-more s last prev last' prev' n t l w k =
       sons = λ q i j.
           compare-eq q (suc n)
           (λ e. rw e (k .own
-          ∙ sym (below-nil s (suc n) (suc (suc n)) (λ j h. son-after s (suc n) j t (omega arith) (omega arith)))))
+          ∙ sym (below-nil s (suc n) (suc (suc n)) (λ j h. no-son-before t (suc n) j (omega arith) (omega arith)))))
           (λ e. compare-eq q (s .parent (suc n))
           (λ d. let son : Son s q (suc n) = omega arith in
           sym (below-hit s q (suc n) (son-is son) ∙ sym (k .parents (omega arith)) ∙ rw d))

@@ -8,6 +8,7 @@ use lib.ListN.{length, getD, set, length-set}
 use lib.Seq.{getD-set-same, getD-set-other}
 use Rattle.sizes.specs.Span.{Span}
 use Rattle.measuring.specs.Held.{spanOf, Alike}
+use Rattle.measuring.specs.HeldLaws.{span-eq}
 
 -- numbers of a pair
 abbrev pub pairFields : ℕ
@@ -63,9 +64,6 @@ module _ (t : List ℕ) (k a b c d : ℕ) where
 
     stored-3 : getD (stored t k a b c d) (k + 3) 0 ≡ d
     stored-3 = getD-set-same three (k + 3) d 0 (simp length-set (omega arith))
-
-span-eq : {l m u v : ℕ} → l ≡ m → u ≡ v → spanOf l u ≡ spanOf m v
-span-eq d e = rw (d, e)
 
 pub stored-put : (t : List ℕ) (g a b c d : ℕ) (p : Bool → Span) → 1 ≤ g → pairFields * g ≤ length t → p false ≡ spanOf a b
     → p true ≡ spanOf c d → PairPut t g p (stored t (pairFields * (g - 1)) a b c d)

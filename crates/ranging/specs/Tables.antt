@@ -10,6 +10,7 @@ use lib.Seq.{getD-set-same, getD-set-other}
 use Rattle.meaning.specs.Sheet.{Top}
 use Rattle.sizes.specs.Span.{Span}
 use Rattle.measuring.specs.Held.{topOf, spanOf}
+use Rattle.measuring.specs.HeldLaws.{span-eq}
 use Rattle.measuring.specs.Pairs.{pairFields, pairIn}
 
 -- the least and the greatest number of group g, the member being out of it
@@ -40,9 +41,6 @@ spanIn t g = spanOf (getD t (spanFields * (g - 1)) 0) (getD t (spanFields * (g -
 pub record SpanPut (t : List ℕ) (g : ℕ) (p : Span) (u : List ℕ) : Type 0 where
   pub put : spanIn u g ≡ p
   pub others : (h : ℕ) → 1 ≤ h → (h ≡ g → ⊥) → spanIn u h ≡ spanIn t h
-
-span-eq : {l m u v : ℕ} → l ≡ m → u ≡ v → spanOf l u ≡ spanOf m v
-span-eq d e = rw (d, e)
 
 -- two stores
 pub stored-put : (t : List ℕ) (g a b : ℕ) → 1 ≤ g → spanFields * g ≤ length t

@@ -1,12 +1,12 @@
 // The arrangement: sizes from the root down, group after group, then the starts of the runs. `left` has with each group
 // what its sons so far have left of it.
-use crate::pull::minus;
-use crate::pull::smaller;
 use crate::tables::out_at;
 use measuring::spans::Span;
+use measuring::spans::minus;
+use measuring::spans::smaller;
 use reading::tables::GroupNo;
 use reading::tables::mode_of;
-use reading::tables::parent_of;
+use runs::place::parent_group;
 use runs::place::place_runs;
 ghost use mathlib.Core.Path.{_≡_};
 ghost use Prim.Native.Nat.{ℕ, _+_, _-_, _*_, _≤_, _<_};
@@ -20,7 +20,7 @@ ghost use Rattle.measuring.specs.Held.{topOf};
 ghost use Rattle.measuring.specs.Pairs.{pairFields};
 ghost use Rattle.runs.specs.Told.{numberIn};
 ghost use Rattle.ranging.specs.Tables.{leastIn, greatestIn};
-ghost use Rattle.ranging.specs.Sized.{sizeBy, Arrangeable, Sizing, Sized};
+ghost use Rattle.ranging.specs.Sized.{sizeBy, Arrangeable, Sizing, SizedTo};
 
 // The size of a son under a group of this mode with `whole` members, of which `rest` are left for it. Where 'same' with
 // 'disjoint' has two or more sons the group itself is empty, so no case of its own is needed.
@@ -92,10 +92,10 @@ fn size_son(
     requires { ⌜ (2 ≤ g .0) × (g .0 ≤ size) ⌝ }
     ensures { λ _. ⌜ ((first f : ℕ → ℕ)
         → Arranged (sheetIn (now (groups .entry)) size) (leastIn (now (spans .entry))) (greatestIn (now (spans .entry))) first f
-        → Sized (sheetIn (now (groups .entry)) size) f (numberIn (now (sizes .entry))) (numberIn (now (left .entry))) (g .0 - 1)
-        → Sized (sheetIn (now (groups .entry)) size) f (numberIn (now (sizes .exit))) (numberIn (now (left .exit))) (g .0)) ⌝ }
+        → SizedTo (sheetIn (now (groups .entry)) size) f (numberIn (now (sizes .entry))) (numberIn (now (left .entry))) (g .0 - 1)
+        → SizedTo (sheetIn (now (groups .entry)) size) f (numberIn (now (sizes .exit))) (numberIn (now (left .exit))) (g .0)) ⌝ }
 {
-    let p = parent_of(groups, g);
+    let p = parent_group(groups, size, g);
     let n = size_of(groups, spans, after, sizes, left, p, g);
     put_size(sizes, left, p, g, n);
 }

@@ -9,7 +9,7 @@ use measuring::spans::kind_of;
 use measuring::spans::meet;
 use reading::tables::GroupNo;
 use reading::tables::mode_of;
-use reading::tables::parent_of;
+use runs::place::parent_group;
 ghost use mathlib.Core.Path.{_≡_};
 ghost use mathlib.Core.Bool.{Bool, true, false};
 ghost use mathlib.Core.Logic.{_↔_};
@@ -66,7 +66,7 @@ fn narrow_son(
         → Narrowed (sheetIn (now (groups .entry)) size) z (spanIn (now (ranges .entry))) (spanIn (now (rest .entry))) (g .0 - 1)
         → Narrowed (sheetIn (now (groups .entry)) size) z (spanIn (now (ranges .exit))) (spanIn (now (rest .exit))) (g .0)) ⌝ }
 {
-    let p = parent_of(groups, g);
+    let p = parent_group(groups, size, g);
     let kind = kind_of(mode_of(groups, p));
     let own = out_at(spans, g);
     let others = out_at(after, g);

@@ -16,7 +16,7 @@ use Rattle.meaning.specs.Arranged.{ended, firstOf}
 use Rattle.reading.specs.Tables.{groupIn}
 use Rattle.reading.specs.SheetIn.{sheetIn, sizeLimit, Tabled, size-in, disjoint-in, cover-in, same-in}
 use Rattle.sizes.specs.Balanced.{Balanced}
-use Rattle.sizes.specs.SumLaws.{split, compare-eq, son-of, son-is, son-parent}
+use Rattle.meaning.proofs.SumLaws.{split, compare-eq, son-of, son-is, son-parent, no-son-before, one-parent}
 use Rattle.runs.specs.Told.{Told, numberIn, runLimit}
 
 -- The start of a son with y members: the modes of its parent ('same', 'disjoint', 'cover'), the parent's start a and count
@@ -78,10 +78,7 @@ start-most false false false a w z y n h k = h
 ended-own : (s : Sheet) → Tree s → (first f : ℕ → ℕ) (g n : ℕ) → n ≤ suc g → g ≤ s .size → ended s first f g n ≡ first g
 unfolding ended
 ended-own s t first f g zero l h = refl
-ended-own s t first f g (suc n) l h =
-    split (isSon s g n)
-    (λ i. absurd (let k = son-of s g n (omega arith) i in omega (arith, t .before n (k .group))))
-    (λ i. rw i (ended-own s t first f g n (omega arith) h))
+ended-own s t first f g (suc n) l h = rw (no-son-before t g n (omega arith) h) (ended-own s t first f g n (omega arith) h)
 
 ended-son : (s : Sheet) (first f : ℕ → ℕ) (p n : ℕ) → isSon s p n ≡ true → ended s first f p (suc n) ≡ first n + f n
 unfolding ended
@@ -153,7 +150,7 @@ module _ {s : Sheet} {f : ℕ → ℕ} (t : Tree s) (r : Rooted s) (b : Balanced
             (λ n. compare-eq a p
             (λ e. rw e (v .last ∙ sym (ended-son s first' f p (suc i) (son-is k))))
             (λ o. v .ends a (j .first) n o ∙ w .last a j (omega arith)
-            ∙ sym (ended-skip s first' f a (suc i) (other a o)
+            ∙ sym (ended-skip s first' f a (suc i) (one-parent k a o)
             ∙ ended-eq s first first' f a (suc i) (same a (j .first) (omega arith)) same (omega arith))));
         near = λ h j l. compare-eq h (suc i)
             (λ e. rw e (omega arith))
@@ -164,11 +161,6 @@ module _ {s : Sheet} {f : ℕ → ℕ} (t : Tree s) (r : Rooted s) (b : Balanced
             (λ e. rw (e, v .last) (omega arith))
             (λ o. rw (v .ends h (j .first) n o) (omega (arith, w .close h j (omega arith)))));
       }
-    where
-      other : (a : ℕ) → (a ≡ p → ⊥) → isSon s a (suc i) ≡ false
-      other a n = split (isSon s a (suc i))
-          (λ e. absurd (n (sym (son-of s a (suc i) (k .group .last) e .under) ∙ k .under)))
-          (λ e. e)
 
   pub placed-all : {first end : ℕ → ℕ} → Placed s f first end (s .size) → Told s f first
   placed-all w = record { root = w .root; son = λ p g k. w .son p g k (k .group .last) }

@@ -15,7 +15,7 @@ use Rattle.sizes.specs.Balanced.{isSon, only, sons, RuleAt}
 use Rattle.sizes.specs.Span.{Span, span, In, eq}
 use Rattle.sizes.specs.Fold.{kindOf, sonCount, shut, Measured}
 use Rattle.sizes.specs.Ranged.{free}
-use Rattle.sizes.specs.SumLaws.{
+use Rattle.meaning.proofs.SumLaws.{
   split,
   compare-le,
   below-suc,

@@ -13,7 +13,7 @@ use Rattle.meaning.specs.Sets.{count}
 use Rattle.meaning.specs.Fits.{Meets, Fits, groupsOf}
 use Rattle.meaning.specs.Sons.{only}
 use Rattle.sizes.specs.Balanced.{Balanced, Choice}
-use Rattle.sizes.specs.SumLaws.{
+use Rattle.meaning.proofs.SumLaws.{
   split,
   compare-le,
   compare-eq,
