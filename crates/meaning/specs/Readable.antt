@@ -9,7 +9,7 @@ use Rattle.wire.specs.Record.{read}
 use Rattle.wire.specs.SheetFormat.{Records, readSheet}
 use Rattle.wire.specs.Encoding.{Right, SheetWithin}
 use Rattle.wire.specs.Facts.{read-right, ParentRight, root-parent, group-at, parent-at, name-at, end-at}
-use Rattle.meaning.specs.Sheet.{Group, Tree}
+use Rattle.meaning.specs.Sheet.{Group, Tree, Rooted}
 use Rattle.meaning.specs.OfRecords.{groupAt, sheetOf, nameGroup}
 
 module _ {d : Records} (R : Right d) (g : ℕ) (G : Group (sheetOf (d .groups)) g) where
@@ -39,6 +39,10 @@ hi-most w g G = end-at w (g - 1) _ (omega arith)
 
 pub tree-of-right : {d : Records} → Right d → Tree (sheetOf (d .groups))
 tree-of-right R = record { before = λ g G. parent-below R g G }
+
+-- group 1 of a readable sheet is its one root
+pub rooted-of-right : {d : Records} → Right d → Rooted (sheetOf (d .groups))
+rooted-of-right R = record { one = root-group R; top = root-under-none R; rest = λ g G two. parent-group R g G two }
 
 -- every readable sheet is a tree
 pub tree-of-readable : (b : List ℕ) (d : Records) → readSheet b ≡ read d → Tree (sheetOf (d .groups))

@@ -12,14 +12,23 @@ pub const NAMES: u16 = 128;
 
 pub const CLAIMS: u16 = 64;
 
+// The groups that tables hold: a table of one number for each group has this length.
+pub const GROUP_CAPACITY: usize = 128;
+
+// Fields of a group.
+pub const GROUP_FIELDS: usize = 4;
+
 // The lengths of the tables that hold any sheet: groups, names, labels' places, claims' places.
-pub const GROUP_TABLE: usize = 4 * 128;
+pub const GROUP_TABLE: usize = GROUP_FIELDS * GROUP_CAPACITY;
 
 pub const NAME_TABLE: usize = 128;
 
 pub const LABEL_TABLE: usize = 128;
 
 pub const CLAIM_TABLE: usize = 64;
+
+// The bound that stands for no upper end.
+pub const NO_END: u16 = 65535;
 
 // A group's number and a name's number, each from 1 on, are two families. Where a group has no parent (the root) or no link
 // to another group, `GroupNo(0)` stands for 'none'.

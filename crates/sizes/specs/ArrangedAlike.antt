@@ -2,11 +2,10 @@
 use Prim.Native.Nat.{ℕ, zero, suc, _≤_}
 use mathlib.Core.Path.{_≡_, refl, sym, _∙_}
 use native.Mathlib.Omega.{arith}
-use Rattle.meaning.specs.Sheet.{Sheet, Group, Son, Tree, Top}
+use Rattle.meaning.specs.Sheet.{Sheet, Group, Son, Tree, Rooted, Top}
 use Rattle.meaning.specs.Sons.{isSon}
 use Rattle.meaning.specs.Arranged.{leftFor, sizeOf, ended, firstOf, Arranged}
-use Rattle.sizes.specs.SumLaws.{split, son-of, son-parent, only-eq, sons-eq}
-use Rattle.sizes.specs.Ranged.{Rooted}
+use Rattle.meaning.proofs.SumLaws.{split, son-of, son-parent, only-eq, sons-eq}
 
 module _ {s : Sheet} (t : Tree s) {first size first' size' L L' : ℕ → ℕ} {U U' : ℕ → Top}
     (a : (g : ℕ) → Group s g → first g ≡ first' g) (b : (g : ℕ) → Group s g → size g ≡ size' g)

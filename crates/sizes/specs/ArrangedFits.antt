@@ -7,15 +7,15 @@ use native.Mathlib.Omega.{arith}
 use native.Mathlib.Nat.{le-refl, add-zero}
 use lib.Dec.{ltb}
 use Rattle.meaning.specs.Sum.{sum}
-use Rattle.meaning.specs.Sheet.{Sheet, Group, Son, Tree, Top, AtMost}
+use Rattle.meaning.specs.Sheet.{Sheet, Group, Son, Tree, Rooted, Top, AtMost}
 use Rattle.meaning.specs.Shown.{shown, above}
 use Rattle.meaning.specs.Fits.{Fits}
 use Rattle.meaning.specs.Arranged.{cap, leftFor, sizeOf, ended, firstOf, Arranged}
 use Rattle.sizes.specs.Balanced.{isSon, only, sons, RuleAt}
 use Rattle.sizes.specs.Span.{Span, span, In, eq}
 use Rattle.sizes.specs.Fold.{kindOf, sonCount, shut, Measured}
-use Rattle.sizes.specs.Ranged.{Rooted, free}
-use Rattle.sizes.specs.SumLaws.{
+use Rattle.sizes.specs.Ranged.{free}
+use Rattle.meaning.proofs.SumLaws.{
   split,
   compare-le,
   below-suc,

@@ -4,12 +4,12 @@ use mathlib.Core.Path.{_≡_, refl, ap}
 use mathlib.Core.Logic.{_↔_, Iff·symm, Iff·trans}
 use native.Mathlib.Omega.{arith}
 use native.Mathlib.Nat.{le-refl}
-use Rattle.meaning.specs.Sheet.{Sheet, Group, Tree, Top, fin, inf, AtMost}
+use Rattle.meaning.specs.Sheet.{Sheet, Group, Tree, Rooted, Top, fin, inf, AtMost}
 use Rattle.meaning.specs.Sets.{count}
 use Rattle.meaning.specs.Fits.{Possible, Attains}
 use Rattle.meaning.specs.Part.{partAt, BottomUp}
 use Rattle.meaning.specs.Arranged.{Arranged}
-use Rattle.sizes.specs.Ranged.{Rooted, free}
+use Rattle.sizes.specs.Ranged.{free}
 use Rattle.sizes.specs.SpanLaws.{at-le}
 use Rattle.sizes.specs.Possible.{nowhere, fits-sizes, sizes-choice}
 use Rattle.sizes.specs.Exact.{sound}

@@ -12,7 +12,7 @@ use Rattle.meaning.specs.Sheet.{Sheet, Group, Tree, Top, fin, inf}
 use Rattle.meaning.specs.Sons.{isSon, only, sons}
 use Rattle.sizes.specs.Span.{Span, none, span, make, meet, hull, Kind, lap, add, eq, join, pull, larger, smaller, plus, less, shorter, reaches}
 use Rattle.sizes.specs.Fold.{kindOf, shut, start, joined, later, own, ownTo, Measured}
-use Rattle.sizes.specs.SumLaws.{
+use Rattle.meaning.proofs.SumLaws.{
   split,
   compare-le,
   compare-eq,

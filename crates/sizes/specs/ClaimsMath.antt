@@ -22,7 +22,7 @@ use Rattle.meaning.specs.Sets.{Sets, count}
 use Rattle.meaning.specs.Fits.{Possible, groupsOf}
 use Rattle.meaning.specs.Claim.{Claim, counted, within, separate, named, union, countNamed, Says, Breaks, Breakable}
 use Rattle.sizes.specs.Balanced.{Choice}
-use Rattle.sizes.specs.SumLaws.{
+use Rattle.meaning.proofs.SumLaws.{
   split,
   compare-le,
   below-suc,

@@ -13,7 +13,7 @@ use Rattle.meaning.specs.Claim.{Claim, counted, within, separate, Breakable}
 use Rattle.sizes.specs.Balanced.{Choice}
 use Rattle.sizes.specs.Span.{Span, none, span, In}
 use Rattle.sizes.specs.Ranged.{free}
-use Rattle.sizes.specs.SumLaws.{compare-le, compare-eq}
+use Rattle.meaning.proofs.SumLaws.{compare-le, compare-eq}
 use Rattle.sizes.specs.SpanLaws.{Proper}
 use Rattle.sizes.specs.Possible.{Sizes, nowhere, sizes-choice, choice-sizes, possible}
 use Rattle.sizes.specs.ClaimsPlace.{placeIn}

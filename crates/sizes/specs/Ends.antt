@@ -5,13 +5,13 @@ use mathlib.Core.Bool.{Bool, false}
 use mathlib.Core.Logic.{_↔_, _⊎_, inl, inr, ⊎-elim}
 use native.Mathlib.Omega.{arith}
 use native.Mathlib.Nat.{le-refl, mul-le-mul-left}
-use Rattle.meaning.specs.Sheet.{Sheet, Group, Tree, fin, inf}
+use Rattle.meaning.specs.Sheet.{Sheet, Group, Tree, Rooted, fin, inf}
 use Rattle.meaning.specs.Fits.{Attains}
 use Rattle.meaning.specs.Sons.{isSon}
 use Rattle.sizes.specs.Span.{Span, none, span, In, pull}
 use Rattle.sizes.specs.Fold.{kindOf, later, Measured}
-use Rattle.sizes.specs.Ranged.{Rooted, free, held, Ranged}
-use Rattle.sizes.specs.SumLaws.{split, son-of, son-parent}
+use Rattle.sizes.specs.Ranged.{free, held, Ranged}
+use Rattle.meaning.proofs.SumLaws.{split, son-of, son-parent}
 use Rattle.sizes.specs.SpanLaws.{Proper}
 use Rattle.sizes.specs.MeasuredLaws.{spansOf, spans-measured}
 use Rattle.sizes.specs.Bounds.{weight, weight-meet, weight-pull, weight-least, weight-most, Small, span-ends, later-ends}

@@ -11,7 +11,7 @@ use Rattle.meaning.specs.Sons.{isSon}
 use Rattle.sizes.specs.Balanced.{RuleAt, Choice}
 use Rattle.sizes.specs.Span.{Span, In, eq, Makes, join}
 use Rattle.sizes.specs.Fold.{kindOf, own, later, Measured}
-use Rattle.sizes.specs.SumLaws.{split, compare-le, below-suc, son-of, son-is}
+use Rattle.meaning.proofs.SumLaws.{split, compare-le, below-suc, son-of, son-is}
 use Rattle.sizes.specs.SpanLaws.{Proper, in-meet, meet-join, near-join, near-proper}
 use Rattle.sizes.specs.JoinedLaws.{Nears, in-own, near-own}
 use Rattle.sizes.specs.RuleSteps.{Lasts, all-lasts, lasts-all, rule-upto, rule-eq, upto-eq, Upto}

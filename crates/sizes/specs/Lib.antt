@@ -2,7 +2,6 @@ pub mod Balanced
 pub mod Span
 pub mod Fold
 pub mod Ranged
-pub mod SumLaws
 pub mod Members
 pub mod Renumbered
 pub mod Runs

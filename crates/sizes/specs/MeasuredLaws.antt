@@ -9,7 +9,7 @@ use Rattle.meaning.specs.Sheet.{Sheet, Group, Son, Tree}
 use Rattle.meaning.specs.Sons.{isSon, sonCount}
 use Rattle.sizes.specs.Span.{Span, none, Kind, meet}
 use Rattle.sizes.specs.Fold.{kindOf, shut, start, joined, later, own, Measured}
-use Rattle.sizes.specs.SumLaws.{split, sum-eq}
+use Rattle.meaning.proofs.SumLaws.{split, sum-eq}
 use Rattle.sizes.specs.RuleSteps.{Lasts, all-lasts, lasts-less, no-son}
 use Rattle.sizes.specs.LaterLaws.{later-none, later-son, later-skip}
 

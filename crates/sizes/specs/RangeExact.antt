@@ -7,13 +7,13 @@ use native.Mathlib.Omega.{arith}
 use native.Mathlib.Nat.{le-refl}
 use borrow.Author.Tests.{eq-eqb, ne-eqb}
 use Rattle.meaning.specs.Sum.{bit}
-use Rattle.meaning.specs.Sheet.{Sheet, Group, Son, Tree, Top, fin, inf, AtMost}
+use Rattle.meaning.specs.Sheet.{Sheet, Group, Son, Tree, Rooted, Top, fin, inf, AtMost}
 use Rattle.meaning.specs.Fits.{Possible, Attains}
 use Rattle.sizes.specs.Balanced.{isSon, Choice}
 use Rattle.sizes.specs.Span.{Span, none, span, In, Makes, meet, pull}
 use Rattle.sizes.specs.Fold.{kindOf, later, Measured}
-use Rattle.sizes.specs.Ranged.{Rooted, free, held, Ranged}
-use Rattle.sizes.specs.SumLaws.{split, son-of, son-is, son-parent, false-bit, true-not-false}
+use Rattle.sizes.specs.Ranged.{free, held, Ranged}
+use Rattle.meaning.proofs.SumLaws.{split, son-of, son-is, son-parent, false-bit, true-not-false}
 use Rattle.sizes.specs.Possible.{Sizes, nowhere, sizes-choice, choice-sizes, possible, attains}
 use Rattle.sizes.specs.SpanLaws.{Proper, in-meet}
 use Rattle.sizes.specs.JoinedLaws.{makes-zero}
@@ -28,12 +28,12 @@ held-none : (s : Sheet) (z : ℕ → Bool → Span) (R : ℕ → Span) (p : ℕ)
 unfolding held
 held-none s z R p = rw (no-son s p)
 
-held-son : (s : Sheet) (z : ℕ → Bool → Span) (R : ℕ → Span) (p n : ℕ) → isSon s p n ≡ true
+pub held-son : (s : Sheet) (z : ℕ → Bool → Span) (R : ℕ → Span) (p n : ℕ) → isSon s p n ≡ true
     → held s z R p (suc n) ≡ meet (later s z p (s .size - n) false) (pull (kindOf s p) (held s z R p n) (z n false))
 unfolding held
 held-son s z R p n e = rw e
 
-held-skip : (s : Sheet) (z : ℕ → Bool → Span) (R : ℕ → Span) (p n : ℕ) → isSon s p n ≡ false
+pub held-skip : (s : Sheet) (z : ℕ → Bool → Span) (R : ℕ → Span) (p n : ℕ) → isSon s p n ≡ false
     → held s z R p (suc n) ≡ held s z R p n
 unfolding held
 held-skip s z R p n e = rw e

@@ -6,11 +6,11 @@ use native.Mathlib.Omega.{arith}
 use native.Mathlib.Nat.{le-refl}
 use borrow.Author.Tests.{ne-eqb}
 use lib.Dec.{eqb}
-use Rattle.meaning.specs.Sheet.{Sheet, Group, Son, Tree}
+use Rattle.meaning.specs.Sheet.{Sheet, Group, Son, Tree, Rooted}
 use Rattle.sizes.specs.Span.{Span, meet, pull}
 use Rattle.sizes.specs.Fold.{kindOf, later}
-use Rattle.sizes.specs.Ranged.{Rooted, held, Ranged}
-use Rattle.sizes.specs.SumLaws.{compare-eq, son-parent}
+use Rattle.sizes.specs.Ranged.{held, Ranged}
+use Rattle.meaning.proofs.SumLaws.{compare-eq, son-parent}
 
 -- h and k are equal at the groups below n
 abbrev pub Alike : Sheet → {A : Type 0} → (ℕ → A) → (ℕ → A) → ℕ → Type 0
@@ -74,7 +74,7 @@ module _ {s : Sheet} {A : Type 0} (t : Tree s) (r : Rooted s) (top : A) (F : (�
   down-unique h k i j g q = down-agree h k i j (suc g) g q (le-refl (suc g))
 
 -- `held` speaks of the range of p only
-held-eq : (s : Sheet) (z : ℕ → Bool → Span) (h k : ℕ → Span) (p n : ℕ) → h p ≡ k p → held s z h p n ≡ held s z k p n
+pub held-eq : (s : Sheet) (z : ℕ → Bool → Span) (h k : ℕ → Span) (p n : ℕ) → h p ≡ k p → held s z h p n ≡ held s z k p n
 unfolding held
 held-eq s z h k p zero e = e
 held-eq s z h k p (suc n) e = rw (held-eq s z h k p n e)

@@ -13,24 +13,18 @@ use Rattle.wire.specs.Edition.{Edition, groupLimit}
 use Rattle.wire.specs.EditionFacts.{groups-many}
 use Rattle.wire.specs.Record.{read}
 use Rattle.wire.specs.SheetFormat.{Records, readSheet}
-use Rattle.wire.specs.Encoding.{Bytes, Right, SheetWithin}
+use Rattle.wire.specs.Encoding.{Bytes, SheetWithin}
 use Rattle.wire.specs.Facts.{read-right, read-within}
 use Rattle.meaning.specs.Sheet.{Group}
 use Rattle.meaning.specs.Fits.{Possible}
 use Rattle.meaning.specs.Claim.{Breakable}
 use Rattle.meaning.specs.OfRecords.{sheetOf, claimAt, endOf, groupAt}
-use Rattle.meaning.specs.Readable.{root-under-none, root-group, parent-group, lo-most, hi-most, tree-of-right, tree-of-readable}
-use Rattle.sizes.specs.Ranged.{Rooted}
-use Rattle.sizes.specs.SumLaws.{split}
+use Rattle.meaning.specs.Readable.{root-under-none, lo-most, hi-most, tree-of-right, rooted-of-right, tree-of-readable}
+use Rattle.meaning.proofs.SumLaws.{split}
 use Rattle.sizes.specs.Bounds.{Small}
 use Rattle.sizes.specs.Ends.{End, end-limit}
 use Rattle.sizes.specs.Decidable.{possible-or-not, breakable-or-not}
 use Rattle.sizes.specs.ArrangedOnce.{ArrangedBottomUp, arrangement-once}
-
--- group 1 of a readable sheet is its one root
-pub rooted-of-right : {d : Records} → Right d → Rooted (sheetOf (d .groups))
-rooted-of-right R =
-    record { one = root-group R; top = root-under-none R; rest = λ g q two. parent-group R g q two }
 
 -- Every readable sheet falls under one case of the contracts: some sets fit or none do (8); some sets fit and break the claim
 -- (denied) or none do (holds).

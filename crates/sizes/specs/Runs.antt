@@ -13,7 +13,20 @@ use Rattle.meaning.specs.Sets.{count}
 use Rattle.meaning.specs.Fits.{Meets, Fits, groupsOf}
 use Rattle.meaning.specs.Sons.{only}
 use Rattle.sizes.specs.Balanced.{Balanced, Choice}
-use Rattle.sizes.specs.SumLaws.{split, compare-le, compare-eq, and-true, sum-eq, sum-but, sum-run, sum-term, son-parent, sons-prefix, only-prefix, sons-locate}
+use Rattle.meaning.proofs.SumLaws.{
+  split,
+  compare-le,
+  compare-eq,
+  and-true,
+  sum-eq,
+  sum-but,
+  sum-run,
+  sum-term,
+  son-parent,
+  sons-prefix,
+  only-prefix,
+  sons-locate,
+}
 use Rattle.sizes.specs.Members.{balanced-meets}
 use Rattle.sizes.specs.Renumbered.{numbered-distinct}
 use Rattle.meaning.specs.Shown.{inRun, shown, above}

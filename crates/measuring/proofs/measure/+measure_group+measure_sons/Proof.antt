@@ -8,7 +8,8 @@ use Rattle.measuring.specs.LinksLaws.{next-less}
 use native.Mathlib.Omega.{arith}
 use mathlib.Core.Path.{_≡_, refl, _∙_}
 use Rattle.measuring.specs.Held.{pairOf}
-use Rattle.measuring.specs.Tables.{sheetIn, spansIn, size-in}
+use Rattle.reading.specs.SheetIn.{sheetIn, size-in}
+use Rattle.measuring.specs.Tables.{spansIn}
 use Rattle.measuring.specs.DoneLaws.{AtSon, put-alike, done-put, finished, at-last, at-next, at-end, room-sum, room-son}
 use borrow.Fn.Kinds.{In}
 use borrow.Fn.PlainCycle.{Measures, is, falls, and}
@@ -57,42 +58,48 @@ measure-sons-below t =
     (falls 6 measure-sons-kinds.ps _<_ μ-measure-sons t)
     measure-sons.Pre
 
-measure-group-measure-sons-requires : (t : ℕ) → measure-group-lts.Need-measure-sons-requires (
+-- what the callees ask and leave
+abbrev measure-group-claims : ℕ → measure-group-lts.Claims
+measure-group-claims t = (
   measure-sons-below t,
   measure-sons.Post,
   finish-reads.Asked,
   finish-reads.Learnt,
   put-pair-reads.Asked,
   put-pair-reads.Learnt,
-) (measure-group-at t) measure-group.Post
+)
+
+abbrev measure-sons-claims : ℕ → measure-sons-lts.Claims
+measure-sons-claims t = (
+  start-of-reads.Asked,
+  start-of-reads.Learnt,
+  link-at-reads.Asked,
+  link-at-reads.Learnt,
+  measure-group-below t,
+  measure-group.Post,
+  put-pair-reads.Asked,
+  put-pair-reads.Learnt,
+  pair-at-reads.Asked,
+  pair-at-reads.Learnt,
+  join-son-reads.Asked,
+  join-son-reads.Learnt,
+)
+
+measure-group-measure-sons-requires : (t : ℕ) → measure-group-lts.Need-measure-sons-requires (measure-group-claims t) (measure-group-at t) measure-group.Post
 measure-group-measure-sons-requires t c κs =
     let s = c .before .before .before .before .before .before .before .before in
     (omega arith, s .pre .1)
 
-measure-group-finish-requires : (t : ℕ) → measure-group-lts.Need-finish-requires (
-  measure-sons-below t,
-  measure-sons.Post,
-  finish-reads.Asked,
-  finish-reads.Learnt,
-  put-pair-reads.Asked,
-  put-pair-reads.Learnt,
-) (measure-group-at t) measure-group.Post
+measure-group-finish-requires : (t : ℕ) → measure-group-lts.Need-finish-requires (measure-group-claims t) (measure-group-at t) measure-group.Post
 measure-group-finish-requires t c κs =
     let m = c .before .before .before .before .before in
     let s = m .before .before .before .before .before .before .before .before .before in
     let a = s .args in
     let r = s .pre .1 .0 in
     let g = s .pre .1 .1 .1 in
-    ((r .long .groups-long, r .long .flags-long), g)
+    ((r .long .tabled .long, r .long .flags-long), g)
 
-measure-group-put-pair-requires : (t : ℕ) → measure-group-lts.Need-put-pair-requires (
-  measure-sons-below t,
-  measure-sons.Post,
-  finish-reads.Asked,
-  finish-reads.Learnt,
-  put-pair-reads.Asked,
-  put-pair-reads.Learnt,
-) (measure-group-at t) measure-group.Post
+measure-group-put-pair-requires : (t : ℕ) → measure-group-lts.Need-put-pair-requires (measure-group-claims t) (measure-group-at t) measure-group.Post
 measure-group-put-pair-requires t c κs =
     let m = c .before .before .before .before .before .before in
     let s = m .before .before .before .before .before .before .before .before .before in
@@ -101,38 +108,17 @@ measure-group-put-pair-requires t c κs =
     let g = s .pre .1 .1 .1 in
     omega (arith, size-in (a .groups .now) (a .size), s .pre .1 .1 .0 .spans-long, m .measure-sons .kept .1 .1 .1 .1 .1 .0)
 
-measure-group-same-length : (t : ℕ) → measure-group-lts.Need-same-length (
-  measure-sons-below t,
-  measure-sons.Post,
-  finish-reads.Asked,
-  finish-reads.Learnt,
-  put-pair-reads.Asked,
-  put-pair-reads.Learnt,
-) (measure-group-at t) measure-group.Post
+measure-group-same-length : (t : ℕ) → measure-group-lts.Need-same-length (measure-group-claims t) (measure-group-at t) measure-group.Post
 measure-group-same-length t c =
     let m = c .before .before .before .before .before .before .before .before .before in
     c .before .before .put-pair .kept .0 ∙ m .measure-sons .kept .1 .1 .1 .1 .1 .0
 
-measure-group-same-length-2 : (t : ℕ) → measure-group-lts.Need-same-length-2 (
-  measure-sons-below t,
-  measure-sons.Post,
-  finish-reads.Asked,
-  finish-reads.Learnt,
-  put-pair-reads.Asked,
-  put-pair-reads.Learnt,
-) (measure-group-at t) measure-group.Post
+measure-group-same-length-2 : (t : ℕ) → measure-group-lts.Need-same-length-2 (measure-group-claims t) (measure-group-at t) measure-group.Post
 measure-group-same-length-2 t c =
     let m = c .before .before .before .before .before .before .before .before .before in
     m .measure-sons .kept .1 .1 .1 .1 .1 .1 .0
 
-measure-group-returns : (t : ℕ) → measure-group-lts.Need-returns (
-  measure-sons-below t,
-  measure-sons.Post,
-  finish-reads.Asked,
-  finish-reads.Learnt,
-  put-pair-reads.Asked,
-  put-pair-reads.Learnt,
-) (measure-group-at t) measure-group.Post
+measure-group-returns : (t : ℕ) → measure-group-lts.Need-returns (measure-group-claims t) (measure-group-at t) measure-group.Post
 measure-group-returns t c =
     let f = c .before .before .before in
     let m = f .before .before .before .before .before .before in
@@ -156,41 +142,15 @@ measure-sons-Inv-loop groups size flags last prev spans₀ after₀ g sum₀ i�
 abbrev measure-sons-μ-loop : measure-sons-lts.MeasureT-loop
 measure-sons-μ-loop groups size flags last prev spans₀ after₀ g sum₀ i₀ spans after sum i = i .0
 
-measure-sons-start-of-requires : (t : ℕ) → measure-sons-lts.Need-start-of-requires (
-  start-of-reads.Asked,
-  start-of-reads.Learnt,
-  link-at-reads.Asked,
-  link-at-reads.Learnt,
-  measure-group-below t,
-  measure-group.Post,
-  put-pair-reads.Asked,
-  put-pair-reads.Learnt,
-  pair-at-reads.Asked,
-  pair-at-reads.Learnt,
-  join-son-reads.Asked,
-  join-son-reads.Learnt,
-) (measure-sons-at t) measure-sons.Post measure-sons-Inv-loop measure-sons-μ-loop
+measure-sons-start-of-requires : (t : ℕ) → measure-sons-lts.Need-start-of-requires (measure-sons-claims t) (measure-sons-at t) measure-sons.Post measure-sons-Inv-loop measure-sons-μ-loop
 measure-sons-start-of-requires t c κs =
     let s = c .before .before .before .before .before .before in
     let a = s .args in
     let r = s .pre .1 .0 in
     let g = s .pre .1 .1 .1 in
-    ((r .long .groups-long, r .long .last-long, r .long .prev-long), (g, r .links))
+    ((r .long .tabled .long, r .long .last-long, r .long .prev-long), (g, r .links))
 
-measure-sons-link-at-requires : (t : ℕ) → measure-sons-lts.Need-link-at-requires (
-  start-of-reads.Asked,
-  start-of-reads.Learnt,
-  link-at-reads.Asked,
-  link-at-reads.Learnt,
-  measure-group-below t,
-  measure-group.Post,
-  put-pair-reads.Asked,
-  put-pair-reads.Learnt,
-  pair-at-reads.Asked,
-  pair-at-reads.Learnt,
-  join-son-reads.Asked,
-  join-son-reads.Learnt,
-) (measure-sons-at t) measure-sons.Post measure-sons-Inv-loop measure-sons-μ-loop
+measure-sons-link-at-requires : (t : ℕ) → measure-sons-lts.Need-link-at-requires (measure-sons-claims t) (measure-sons-at t) measure-sons.Post measure-sons-Inv-loop measure-sons-μ-loop
 measure-sons-link-at-requires t c κs =
     let s = c .before .before .before .before .before .before .before in
     let a = s .args in
@@ -198,20 +158,7 @@ measure-sons-link-at-requires t c κs =
     let g = s .pre .1 .1 .1 in
     omega (arith, size-in (a .groups .now) (a .size))
 
-measure-sons-loop-holds : (t : ℕ) → measure-sons-lts.Need-loop-holds (
-  start-of-reads.Asked,
-  start-of-reads.Learnt,
-  link-at-reads.Asked,
-  link-at-reads.Learnt,
-  measure-group-below t,
-  measure-group.Post,
-  put-pair-reads.Asked,
-  put-pair-reads.Learnt,
-  pair-at-reads.Asked,
-  pair-at-reads.Learnt,
-  join-son-reads.Asked,
-  join-son-reads.Learnt,
-) (measure-sons-at t) measure-sons.Post measure-sons-Inv-loop measure-sons-μ-loop
+measure-sons-loop-holds : (t : ℕ) → measure-sons-lts.Need-loop-holds (measure-sons-claims t) (measure-sons-at t) measure-sons.Post measure-sons-Inv-loop measure-sons-μ-loop
 measure-sons-loop-holds t c =
     let s = c .before .before .before .before .before .before .before .before in
     let a = s .args in
@@ -223,20 +170,7 @@ measure-sons-loop-holds t c =
           _ _ _ _ (c .link-at .ensures) (c .before .start-of .ensures),
     )
 
-measure-sons-measure-group-requires : (t : ℕ) → measure-sons-lts.Need-measure-group-requires (
-  start-of-reads.Asked,
-  start-of-reads.Learnt,
-  link-at-reads.Asked,
-  link-at-reads.Learnt,
-  measure-group-below t,
-  measure-group.Post,
-  put-pair-reads.Asked,
-  put-pair-reads.Learnt,
-  pair-at-reads.Asked,
-  pair-at-reads.Learnt,
-  join-son-reads.Asked,
-  join-son-reads.Learnt,
-) (measure-sons-at t) measure-sons.Post measure-sons-Inv-loop measure-sons-μ-loop
+measure-sons-measure-group-requires : (t : ℕ) → measure-sons-lts.Need-measure-group-requires (measure-sons-claims t) (measure-sons-at t) measure-sons.Post measure-sons-Inv-loop measure-sons-μ-loop
 measure-sons-measure-group-requires t c κs =
     let e = c .before .before in
     let l = e .before .before in
@@ -245,24 +179,11 @@ measure-sons-measure-group-requires t c κs =
     let r = s .pre .1 .0 in
     let g = s .pre .1 .1 .1 in
     let k = l .loop .inv .2 .chain (omega (arith, e .if1 .taken)) in (
-      omega (arith, size-in (a .groups .now) (a .size), r .long .tree .before _ (k .group)),
+      omega (arith, size-in (a .groups .now) (a .size), r .long .tabled .tree .before _ (k .group)),
       (r, (record { spans-long = omega arith; after-long = omega arith }, k .group)),
     )
 
-measure-sons-put-pair-requires : (t : ℕ) → measure-sons-lts.Need-put-pair-requires (
-  start-of-reads.Asked,
-  start-of-reads.Learnt,
-  link-at-reads.Asked,
-  link-at-reads.Learnt,
-  measure-group-below t,
-  measure-group.Post,
-  put-pair-reads.Asked,
-  put-pair-reads.Learnt,
-  pair-at-reads.Asked,
-  pair-at-reads.Learnt,
-  join-son-reads.Asked,
-  join-son-reads.Learnt,
-) (measure-sons-at t) measure-sons.Post measure-sons-Inv-loop measure-sons-μ-loop
+measure-sons-put-pair-requires : (t : ℕ) → measure-sons-lts.Need-put-pair-requires (measure-sons-claims t) (measure-sons-at t) measure-sons.Post measure-sons-Inv-loop measure-sons-μ-loop
 measure-sons-put-pair-requires t c κs =
     let m = c .before .before .before .before .before in
     let e = m .before .before .before in
@@ -274,20 +195,7 @@ measure-sons-put-pair-requires t c κs =
     let k = l .loop .inv .2 .chain (omega (arith, e .if1 .taken)) in
     omega (arith, size-in (a .groups .now) (a .size))
 
-measure-sons-pair-at-requires : (t : ℕ) → measure-sons-lts.Need-pair-at-requires (
-  start-of-reads.Asked,
-  start-of-reads.Learnt,
-  link-at-reads.Asked,
-  link-at-reads.Learnt,
-  measure-group-below t,
-  measure-group.Post,
-  put-pair-reads.Asked,
-  put-pair-reads.Learnt,
-  pair-at-reads.Asked,
-  pair-at-reads.Learnt,
-  join-son-reads.Asked,
-  join-son-reads.Learnt,
-) (measure-sons-at t) measure-sons.Post measure-sons-Inv-loop measure-sons-μ-loop
+measure-sons-pair-at-requires : (t : ℕ) → measure-sons-lts.Need-pair-at-requires (measure-sons-claims t) (measure-sons-at t) measure-sons.Post measure-sons-Inv-loop measure-sons-μ-loop
 measure-sons-pair-at-requires t c κs =
     let put = c .before .before .before in
     let m = put .before .before .before .before .before .before in
@@ -300,20 +208,7 @@ measure-sons-pair-at-requires t c κs =
     let k = l .loop .inv .2 .chain (omega (arith, e .if1 .taken)) in
     omega (arith, size-in (a .groups .now) (a .size), m .measure-group .kept .1 .1 .1 .1 .1 .0)
 
-measure-sons-join-son-requires : (t : ℕ) → measure-sons-lts.Need-join-son-requires (
-  start-of-reads.Asked,
-  start-of-reads.Learnt,
-  link-at-reads.Asked,
-  link-at-reads.Learnt,
-  measure-group-below t,
-  measure-group.Post,
-  put-pair-reads.Asked,
-  put-pair-reads.Learnt,
-  pair-at-reads.Asked,
-  pair-at-reads.Learnt,
-  join-son-reads.Asked,
-  join-son-reads.Learnt,
-) (measure-sons-at t) measure-sons.Post measure-sons-Inv-loop measure-sons-μ-loop
+measure-sons-join-son-requires : (t : ℕ) → measure-sons-lts.Need-join-son-requires (measure-sons-claims t) (measure-sons-at t) measure-sons.Post measure-sons-Inv-loop measure-sons-μ-loop
 measure-sons-join-son-requires t c κs =
     let put = c .before .before .before .before in
     let m = put .before .before .before .before .before .before in
@@ -326,7 +221,7 @@ measure-sons-join-son-requires t c κs =
     let k = l .loop .inv .2 .chain (omega (arith, e .if1 .taken)) in
     let b : (j : ℕ) → getD (a .groups .now) j 0 ≤ noEnd =
     λ j. let h = l .before .before .before .before .before .before .before .before .shared-slice-known .given j in omega arith in (
-      r .long .groups-long,
+      r .long .tabled .long,
       (
         g,
         (
@@ -338,20 +233,7 @@ measure-sons-join-son-requires t c κs =
       ),
     )
 
-measure-sons-link-at-requires-2 : (t : ℕ) → measure-sons-lts.Need-link-at-requires-2 (
-  start-of-reads.Asked,
-  start-of-reads.Learnt,
-  link-at-reads.Asked,
-  link-at-reads.Learnt,
-  measure-group-below t,
-  measure-group.Post,
-  put-pair-reads.Asked,
-  put-pair-reads.Learnt,
-  pair-at-reads.Asked,
-  pair-at-reads.Learnt,
-  join-son-reads.Asked,
-  join-son-reads.Learnt,
-) (measure-sons-at t) measure-sons.Post measure-sons-Inv-loop measure-sons-μ-loop
+measure-sons-link-at-requires-2 : (t : ℕ) → measure-sons-lts.Need-link-at-requires-2 (measure-sons-claims t) (measure-sons-at t) measure-sons.Post measure-sons-Inv-loop measure-sons-μ-loop
 measure-sons-link-at-requires-2 t c κs =
     let put = c .before .before .before .before .before in
     let m = put .before .before .before .before .before .before in
@@ -364,20 +246,7 @@ measure-sons-link-at-requires-2 t c κs =
     let k = l .loop .inv .2 .chain (omega (arith, e .if1 .taken)) in
     omega (arith, size-in (a .groups .now) (a .size))
 
-measure-sons-loop-less : (t : ℕ) → measure-sons-lts.Need-loop-less (
-  start-of-reads.Asked,
-  start-of-reads.Learnt,
-  link-at-reads.Asked,
-  link-at-reads.Learnt,
-  measure-group-below t,
-  measure-group.Post,
-  put-pair-reads.Asked,
-  put-pair-reads.Learnt,
-  pair-at-reads.Asked,
-  pair-at-reads.Learnt,
-  join-son-reads.Asked,
-  join-son-reads.Learnt,
-) (measure-sons-at t) measure-sons.Post measure-sons-Inv-loop measure-sons-μ-loop
+measure-sons-loop-less : (t : ℕ) → measure-sons-lts.Need-loop-less (measure-sons-claims t) (measure-sons-at t) measure-sons.Post measure-sons-Inv-loop measure-sons-μ-loop
 measure-sons-loop-less t c =
     let put = c .before .before .before .before .before .before in
     let m = put .before .before .before .before .before .before in
@@ -394,20 +263,7 @@ measure-sons-loop-less t c =
           (l .loop .i .0) (l .loop .inv .2 .chain) (omega (arith, e .if1 .taken)),
     )
 
-measure-sons-loop-again : (t : ℕ) → measure-sons-lts.Need-loop-again (
-  start-of-reads.Asked,
-  start-of-reads.Learnt,
-  link-at-reads.Asked,
-  link-at-reads.Learnt,
-  measure-group-below t,
-  measure-group.Post,
-  put-pair-reads.Asked,
-  put-pair-reads.Learnt,
-  pair-at-reads.Asked,
-  pair-at-reads.Learnt,
-  join-son-reads.Asked,
-  join-son-reads.Learnt,
-) (measure-sons-at t) measure-sons.Post measure-sons-Inv-loop measure-sons-μ-loop
+measure-sons-loop-again : (t : ℕ) → measure-sons-lts.Need-loop-again (measure-sons-claims t) (measure-sons-at t) measure-sons.Post measure-sons-Inv-loop measure-sons-μ-loop
 measure-sons-loop-again t c =
     let put = c .before .before .before .before .before .before in
     let m = put .before .before .before .before .before .before in
@@ -425,52 +281,13 @@ measure-sons-loop-again t c =
           (put .put-pair .ensures) (c .before .before .pair-at .ensures) (c .before .join-son .ensures) (c .link-at2 .ensures),
     )
 
-measure-sons-same-length : (t : ℕ) → measure-sons-lts.Need-same-length (
-  start-of-reads.Asked,
-  start-of-reads.Learnt,
-  link-at-reads.Asked,
-  link-at-reads.Learnt,
-  measure-group-below t,
-  measure-group.Post,
-  put-pair-reads.Asked,
-  put-pair-reads.Learnt,
-  pair-at-reads.Asked,
-  pair-at-reads.Learnt,
-  join-son-reads.Asked,
-  join-son-reads.Learnt,
-) (measure-sons-at t) measure-sons.Post measure-sons-Inv-loop measure-sons-μ-loop
+measure-sons-same-length : (t : ℕ) → measure-sons-lts.Need-same-length (measure-sons-claims t) (measure-sons-at t) measure-sons.Post measure-sons-Inv-loop measure-sons-μ-loop
 measure-sons-same-length t c = c .before .before .loop .inv .0
 
-measure-sons-same-length-2 : (t : ℕ) → measure-sons-lts.Need-same-length-2 (
-  start-of-reads.Asked,
-  start-of-reads.Learnt,
-  link-at-reads.Asked,
-  link-at-reads.Learnt,
-  measure-group-below t,
-  measure-group.Post,
-  put-pair-reads.Asked,
-  put-pair-reads.Learnt,
-  pair-at-reads.Asked,
-  pair-at-reads.Learnt,
-  join-son-reads.Asked,
-  join-son-reads.Learnt,
-) (measure-sons-at t) measure-sons.Post measure-sons-Inv-loop measure-sons-μ-loop
+measure-sons-same-length-2 : (t : ℕ) → measure-sons-lts.Need-same-length-2 (measure-sons-claims t) (measure-sons-at t) measure-sons.Post measure-sons-Inv-loop measure-sons-μ-loop
 measure-sons-same-length-2 t c = c .before .before .loop .inv .1
 
-measure-sons-returns : (t : ℕ) → measure-sons-lts.Need-returns (
-  start-of-reads.Asked,
-  start-of-reads.Learnt,
-  link-at-reads.Asked,
-  link-at-reads.Learnt,
-  measure-group-below t,
-  measure-group.Post,
-  put-pair-reads.Asked,
-  put-pair-reads.Learnt,
-  pair-at-reads.Asked,
-  pair-at-reads.Learnt,
-  join-son-reads.Asked,
-  join-son-reads.Learnt,
-) (measure-sons-at t) measure-sons.Post measure-sons-Inv-loop measure-sons-μ-loop
+measure-sons-returns : (t : ℕ) → measure-sons-lts.Need-returns (measure-sons-claims t) (measure-sons-at t) measure-sons.Post measure-sons-Inv-loop measure-sons-μ-loop
 measure-sons-returns t c =
     let l = c .before .before in
     let s = l .before .before .before .before .before .before .before .before .before in
@@ -482,14 +299,7 @@ measure-sons-returns t c =
 
 pub +measure-group+measure-sons-spec : {M : Type 1} → statement M
 +measure-group+measure-sons-spec =
-    close μ-measure-group μ-measure-sons (λ t. measure-group-lts.spec (
-      measure-sons-below t,
-      measure-sons.Post,
-      finish-reads.Asked,
-      finish-reads.Learnt,
-      put-pair-reads.Asked,
-      put-pair-reads.Learnt,
-    )
+    close μ-measure-group μ-measure-sons (λ t. measure-group-lts.spec (measure-group-claims t)
     (measure-group-at t)
     measure-group.Post
     (measure-group-measure-sons-requires t)
@@ -498,20 +308,7 @@ pub +measure-group+measure-sons-spec : {M : Type 1} → statement M
     (measure-group-same-length t)
     (measure-group-same-length-2 t)
     (measure-group-returns t))
-    λ t. measure-sons-lts.spec (
-      start-of-reads.Asked,
-      start-of-reads.Learnt,
-      link-at-reads.Asked,
-      link-at-reads.Learnt,
-      measure-group-below t,
-      measure-group.Post,
-      put-pair-reads.Asked,
-      put-pair-reads.Learnt,
-      pair-at-reads.Asked,
-      pair-at-reads.Learnt,
-      join-son-reads.Asked,
-      join-son-reads.Learnt,
-    )
+    λ t. measure-sons-lts.spec (measure-sons-claims t)
     (measure-sons-at t)
     measure-sons.Post
     measure-sons-Inv-loop
