@@ -123,9 +123,9 @@ done-son s z g i t₀ a₀ t a t' a' a'' k d e m w =
     group h u = within-group (u .is .group) (u .at)
 
 -- the spans of g are put when all below it are measured
-pub done-put : (s : Sheet) (z : ℕ → Bool → Span) (g : ℕ) (t₀ a₀ t a t' : List ℕ) → Done s z g 0 t₀ a₀ t a → PairPut t g (z g) t'
+pub done-put : {s : Sheet} {z : ℕ → Bool → Span} {g : ℕ} {t₀ a₀ t a t' : List ℕ} → Done s z g 0 t₀ a₀ t a → PairPut t g (z g) t'
     → Done s z g 0 t₀ a₀ t' a
-done-put s z g t₀ a₀ t a t' d w =
+done-put {s} {z} d w =
     record {
       spanned = λ h u. put-spanned s z w h (within-group (u .is .group) (u .at)) (d .spanned h u);
       followed = d .followed;
@@ -205,7 +205,7 @@ pub record AtSon (s : Sheet) (z : ℕ → Bool → Span) (g i : ℕ) (sum : Bool
   pub done : Done s z g i spans after spans' after'
   pub joins : Alike sum (later s z g (s .size - i))
 
-module _ (t : List ℕ) (n : ℕ) (f last prev : List ℕ) (w : Readable t n f last prev) (g : ℕ) (k : Group (sheetIn t n) g) where
+module _ {t : List ℕ} {n : ℕ} {f last prev : List ℕ} (w : Readable t n f last prev) {g : ℕ} (k : Group (sheetIn t n) g) where
   measured : Measured (sheetIn t n) (mayIn f) (spansIn t n f)
   measured = spans-measured (sheetIn t n) (mayIn f) (w .long .tabled .tree)
 
@@ -222,12 +222,12 @@ module _ (t : List ℕ) (n : ℕ) (f last prev : List ℕ) (w : Readable t n f l
         joins = λ c. h c ∙ sym (rw d (later-last (sheetIn t n) (spansIn t n f) g c));
       }
 
-  pub at-next : (i j : ℕ) (sum sum' y : Bool → Span) (t₀ a₀ t₁ a₁ t₂ a₂ a₃ : List ℕ)
+  pub at-next : {i j : ℕ} {sum : Bool → Span} (sum' y : Bool → Span) {t₀ a₀ t₁ a₁ t₂ a₂ a₃ : List ℕ}
       → AtSon (sheetIn t n) (spansIn t n f) g i sum t₀ a₀ t₁ a₁ → 1 ≤ i
       → Done (sheetIn t n) (spansIn t n f) i 0 t₁ a₁ t₂ a₂ → Spanned (spansIn t n f) t₂ i → PairPut a₂ i sum a₃
       → Alike y (pairIn t₂ i) → Alike sum' (joined (kindOf (sheetIn t n) g) sum y) → j ≡ linkIn prev i
       → AtSon (sheetIn t n) (spansIn t n f) g j sum' t₀ a₀ t₂ a₃
-  at-next i j sum sum' y t₀ a₀ t₁ a₁ t₂ a₂ a₃ a l d m p v q e =
+  at-next {i} {j} sum' y {t₀} {a₀} {t₁} {a₁} {t₂} {a₂} {a₃} a l d m p v q e =
       let s = sheetIn t n in
       let son = a .chain l in
       let b : j ≡ sonBelow s g i = e ∙ next-is t n last prev (w .links) g k i (a .chain) in
@@ -239,10 +239,9 @@ module _ (t : List ℕ) (n : ℕ) (f last prev : List ℕ) (w : Readable t n f l
             ∙ sym (rw b (later-next s (spansIn t n f) g i son c));
       }
 
-  pub at-end : (i : ℕ) (sum : Bool → Span) (t₀ a₀ t₁ a₁ : List ℕ)
-      → AtSon (sheetIn t n) (spansIn t n f) g i sum t₀ a₀ t₁ a₁ → i ≡ 0
+  pub at-end : {i : ℕ} {sum : Bool → Span} {t₀ a₀ t₁ a₁ : List ℕ} → AtSon (sheetIn t n) (spansIn t n f) g i sum t₀ a₀ t₁ a₁ → i ≡ 0
       → Done (sheetIn t n) (spansIn t n f) g 0 t₀ a₀ t₁ a₁ × Alike sum (later (sheetIn t n) (spansIn t n f) g n)
-  at-end i sum t₀ a₀ t₁ a₁ a e =
+  at-end {i} a e =
       let m : sheetIn t n .size - i ≡ n = omega (arith, size-in t n) in
       (rw e at (a .done), λ c. a .joins c ∙ ap (λ m. later (sheetIn t n) (spansIn t n f) g m c) m)
 
@@ -257,13 +256,13 @@ module _ (t : List ℕ) (n : ℕ) (f last prev : List ℕ) (w : Readable t n f l
 
   -- there is room for the sons joined so far, and for one more
   module _ (b : (i : ℕ) → getD t i 0 ≤ noEnd) where
-    pub room-sum : (i : ℕ) (sum : Bool → Span) (t₀ a₀ t₁ a₁ : List ℕ) → AtSon (sheetIn t n) (spansIn t n f) g i sum t₀ a₀ t₁ a₁
+    pub room-sum : {i : ℕ} {sum : Bool → Span} {t₀ a₀ t₁ a₁ : List ℕ} → AtSon (sheetIn t n) (spansIn t n f) g i sum t₀ a₀ t₁ a₁
         → RoomBoth sum
-    room-sum i sum t₀ a₀ t₁ a₁ a c =
+    room-sum {i} a c =
         rw (a .joins c)
         (room-later (w .long .tabled) b measured g (sheetIn t n .size - i) c (omega (arith, size-in t n)))
 
-    pub room-son : (i : ℕ) (y : Bool → Span) (u : List ℕ) → Group (sheetIn t n) i → Alike y (pairIn u i)
+    pub room-son : {i : ℕ} {y : Bool → Span} (u : List ℕ) → Group (sheetIn t n) i → Alike y (pairIn u i)
         → Spanned (spansIn t n f) u i
         → RoomBoth y
-    room-son i y u j v m c = rw (v c ∙ m c) (room-span (w .long .tabled) b measured i j c)
+    room-son {i} u j v m c = rw (v c ∙ m c) (room-span (w .long .tabled) b measured i j c)
