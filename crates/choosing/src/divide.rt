@@ -3,6 +3,7 @@
 use crate::parts::divided;
 use measuring::pairs::pair_at;
 use measuring::spans::kind_of;
+use reading::tables::GROUP_CAPACITY;
 use reading::tables::GroupNo;
 use reading::tables::mode_of;
 use runs::place::parent_group;
@@ -105,8 +106,8 @@ pub fn divide(
     ensures { λ _. ⌜ Dividend (sheetIn (now (groups .entry)) size) (pairIn (now (spans .entry))) r c (now (sizes .exit)) (now
         (marks .exit)) ⌝ }
 {
-    let mut rest = [0u32; 128];
-    let mut states = [0u8; 128];
+    let mut rest = [0u32; GROUP_CAPACITY];
+    let mut states = [0u8; GROUP_CAPACITY];
     give(sizes, marks, &mut rest, &mut states, GroupNo(1), r, c);
     let mut i: u16 = 1;
     while i < size {

@@ -15,6 +15,9 @@ pub const CLAIMS: u16 = 64;
 // The lengths of the tables that hold any sheet: groups, names, labels' places, claims' places.
 pub const GROUP_TABLE: usize = 4 * 128;
 
+// the length of a table of one number for each group
+pub const GROUP_CAPACITY: usize = 128;
+
 pub const NAME_TABLE: usize = 128;
 
 pub const LABEL_TABLE: usize = 128;
