@@ -1,11 +1,13 @@
 -- Tables of flags, one for each group: a flag is a sum of 1, the member may be out of the group, and 2, it may be in it.
-use Prim.Native.Nat.{ℕ, _-_, _*_, _/_, _%_, _≤_}
+use Prim.Native.Nat.{ℕ, _+_, _-_, _*_, _/_, _%_, _≤_, _<_}
 use mathlib.Core.Path.{_≡_, refl, sym, ap, _∙_}
-use mathlib.Core.Bool.{Bool, true, false, not, _&&_, _||_}
+use mathlib.Core.Bool.{Bool, true, false, cond, not, _&&_, _||_}
 use mathlib.Core.List.{List, [], _∷_, _++_}
 use native.Mathlib.Omega.{arith}
+use native.Mathlib.Numerals.{add-one}
 use borrow.Author.Tests.{eq-eqb, ne-eqb}
-use lib.ListN.{length, set, length-set, replicate, getD-replicate}
+use lib.ListN.{length, getD, set, take, length-set, replicate, getD-replicate}
+use lib.Seq.{take-suc}
 use lib.Dec.{eqb}
 use Rattle.wire.specs.Limits.{groupLimit}
 use Rattle.sizes.specs.SumLaws.{compare-eq}
@@ -17,8 +19,7 @@ use Rattle.choosing.specs.Divided.{number-same, number-other}
 
 -- the flag without one of its two: to be in the group (true) or out of it (false)
 abbrev pub flagWithout : Bool → ℕ → ℕ
-flagWithout true x = x % 2
-flagWithout false x = x / 2 * 2
+flagWithout d x = cond d (x % 2) (x / 2 * 2)
 
 -- u is the table t without that in the flags of the groups on the list
 pub record Barred (t : List ℕ) (d : Bool) (l : List ℕ) (u : List ℕ) : Type 0 where
@@ -81,7 +82,7 @@ in-append g (h ∷ l) r = rw (in-append g l r) (or-assoc (eqb g h) (isIn g l) (i
     or-assoc false b c = refl
 
 -- one list after another
-pub barred-more : {t u v : List ℕ} {d : Bool} (l r : List ℕ) → Barred t d l u → Barred u d r v → Barred t d (l ++ r) v
+barred-more : {t u v : List ℕ} {d : Bool} (l r : List ℕ) → Barred t d l u → Barred u d r v → Barred t d (l ++ r) v
 barred-more {t} {d = d} l r x y = record {
   same = y .same ∙ x .same;
   own = λ g a. y .own g a ∙ ap (λ b. b && not (isIn g r)) (x .own g a) ∙ neither (mayIn t g d) (isIn g l) (isIn g r)
@@ -93,6 +94,10 @@ barred-more {t} {d = d} l r x y = record {
     neither true true c = refl
     neither true false c = refl
     neither false b c = refl
+
+pub barred-next : {t u v : List ℕ} {d : Bool} (l : List ℕ) (i : ℕ) → i < length l → Barred t d (take i l) u
+    → Barred u d (getD l i 0 ∷ []) v → Barred t d (take (i + 1) l) v
+barred-next l i h x y = rw (add-one, take-suc l i 0 h) (barred-more (take i l) (getD l i 0 ∷ []) x y)
 
 -- the table of flags that forbids nothing
 abbrev pub freeTable : List ℕ

@@ -29,11 +29,15 @@ groupsAmong [] = []
 groupsAmong (zero ∷ l) = groupsAmong l
 groupsAmong (suc g ∷ l) = suc g ∷ groupsAmong l
 
--- a list of n groups, in a table, of a sheet of `size` groups
+-- every number on the list is a group of a sheet of `size` groups
+abbrev pub AllGroups : ℕ → List ℕ → Type 0
+AllGroups size [] = Unit {0}
+AllGroups size (g ∷ l) = (1 ≤ g) × (g ≤ size) × AllGroups size l
+
+-- a list of n groups, in a table
 pub record Listed (table : List ℕ) (n size : ℕ) : Type 0 where
   pub long : n ≤ length table
-  pub first : (g : ℕ) → List·Memᴰ g (take n table) → 1 ≤ g
-  pub last : (g : ℕ) → List·Memᴰ g (take n table) → g ≤ size
+  pub groups : AllGroups size (take n table)
 
 -- The empty set has no members: what names mean and the groups among it have the same union.
 pub union-groups : {X : Type 0} (A : Sets X) (l : List ℕ) (x : X) → union A (groupsAmong l) x ≡ union A l x
@@ -60,15 +64,12 @@ pub groups-zero : groupsAmong (0 ∷ []) ≡ []
 unfolding groupsAmong
 groups-zero = refl
 
-pub groups-of : (l : List ℕ) (g : ℕ) → List·Memᴰ g (groupsAmong l) → (1 ≤ g) × List·Memᴰ g l
+pub groups-all : (size : ℕ) (l : List ℕ) → ((g : ℕ) → List·Memᴰ g l → g ≤ size) → AllGroups size (groupsAmong l)
 unfolding groupsAmong
-groups-of [] g m = absurd (List·Memᴰ·not-nil m)
-groups-of (zero ∷ l) g m = let w = groups-of l g m in (w .0, List·Memᴰ·tail (w .1))
-groups-of (suc h ∷ l) g m =
-    ⊎-elim
-    (λ (e : g ≡ suc h). (omega arith, List·Memᴰ·head e))
-    (λ i. let w = groups-of l g i in (w .0, List·Memᴰ·tail (w .1)))
-    (List·Memᴰ·cases-cons m)
+groups-all size [] h = tt
+groups-all size (zero ∷ l) h = groups-all size l (λ g m. h g (List·Memᴰ·tail m))
+groups-all size (suc g ∷ l) h =
+    (omega arith, h (suc g) (List·Memᴰ·head refl), groups-all size l (λ i m. h i (List·Memᴰ·tail m)))
 
 -- the numbers on a list in a table
 pub listed-at : (t : List ℕ) (n i : ℕ) → i < n → n ≤ length t → List·Memᴰ (getD t i 0) (take n t)
@@ -84,6 +85,10 @@ listed-more t i g l m =
     (List·Memᴰ·append-cases (take i t) (rw (add-one, take-suc t i 0 l) at m))
 
 -- one group of a list
-pub listed-first : {t : List ℕ} {n size : ℕ} → Listed t n size → (i : ℕ) → i < n → (1 ≤ getD t i 0) × (getD t i 0 ≤ size)
-listed-first {t} {n} w i l =
-    let m = listed-at t n i l (w .long) in (w .first (getD t i 0) m, w .last (getD t i 0) m)
+pub all-groups : (size : ℕ) (l : List ℕ) → AllGroups size l → (g : ℕ) → List·Memᴰ g l → (1 ≤ g) × (g ≤ size)
+all-groups size [] w g m = absurd (List·Memᴰ·not-nil m)
+all-groups size (h ∷ l) w g m =
+    ⊎-elim (λ (e : g ≡ h). rw e (w .0, w .1)) (λ i. all-groups size l (w .2) g i) (List·Memᴰ·cases-cons m)
+
+pub listed-group : {t : List ℕ} {n size : ℕ} → Listed t n size → (i : ℕ) → i < n → (1 ≤ getD t i 0) × (getD t i 0 ≤ size)
+listed-group {t} {n} {size} w i l = all-groups size (take n t) (w .groups) (getD t i 0) (listed-at t n i l (w .long))

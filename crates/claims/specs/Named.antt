@@ -8,6 +8,7 @@ use mathlib.Core.List.{
   _∷_,
   _++_,
   map,
+  append-assoc,
   append-nil,
   List·Memᴰ,
   List·Memᴰ·head,
@@ -28,7 +29,7 @@ use Rattle.reading.specs.declared.claim.Lists.{Lists}
 use Rattle.reading.specs.declared.claim.Claim.{Claim as ClaimRead}
 use Rattle.reading.specs.declared.claim.Claim.the-variants as claim
 use Rattle.runs.specs.Told.{numberIn}
-use Rattle.claims.specs.Groups.{groupsAmong, Listed, groups-none, groups-more, groups-of}
+use Rattle.claims.specs.Groups.{groupsAmong, Listed, groups-none, groups-more, groups-all}
 
 -- what the names on a list mean, by the table of names
 abbrev pub meanings : List ℕ → List ℕ → List ℕ
@@ -91,11 +92,7 @@ module _ {Held : ℕ → Type 0} {names : List ℕ} {size : ℕ} (w : AskableBy 
 
   -- the groups that a table lists for them
   pub meanings-listed : (t : List ℕ) (n : ℕ) → n ≤ length t → take n t ≡ groupsAmong (meanings names l) → Listed t n size
-  meanings-listed t n a e = record {
-    long = a;
-    first = λ g m. groups-of (meanings names l) g (rw e at m) .0;
-    last = λ g m. meanings-known g (groups-of (meanings names l) g (rw e at m) .1);
-  }
+  meanings-listed t n a e = record { long = a; groups = rw e (groups-all size (meanings names l) meanings-known) }
 
 map-same : (f h : ℕ → ℕ) (l : List ℕ) → ((x : ℕ) → List·Memᴰ x l → f x ≡ h x) → map f l ≡ map h l
 map-same f h [] e = refl
@@ -121,44 +118,51 @@ module _ {sheet : List ℕ} {l : Lists} {names : List ℕ} {size : ℕ} (w : Ask
   }
 
 -- The claim that is asked about speaks of groups of the sheet, or of none.
-pub asked-speaks : {sheet : List ℕ} {c : ClaimRead} {names : List ℕ} {size : ℕ} → Askable sheet c names size
+pub asked-speaks : (sheet : List ℕ) (c : ClaimRead) {names : List ℕ} {size : ℕ} → Askable sheet c names size
     → SpeaksUpTo size (claimMeant names (claimRecord sheet c))
 unfolding claimMeant
-asked-speaks {c = claim.Count k} w = w .known (k .name .0) (w .held .0) (w .held .1)
-asked-speaks {c = claim.Inside l} w = (meanings-known w _ (left-named w), meanings-known w _ (right-named w))
-asked-speaks {c = claim.Apart l} w = (meanings-known w _ (left-named w), meanings-known w _ (right-named w))
+asked-speaks sheet (claim.Count k) w = w .known (k .name .0) (w .held .0) (w .held .1)
+asked-speaks sheet (claim.Inside l) w = (meanings-known w _ (left-named w), meanings-known w _ (right-named w))
+asked-speaks sheet (claim.Apart l) w = (meanings-known w _ (left-named w), meanings-known w _ (right-named w))
 
 -- Where the table of names agrees with the name records, it is the claim that is written down.
-pub claim-named : {sheet : List ℕ} {c : ClaimRead} {names : List ℕ} {size : ℕ} (w : Askable sheet c names size)
+pub claim-named : (sheet : List ℕ) (c : ClaimRead) {names : List ℕ} {size : ℕ} (w : Askable sheet c names size)
     (ns : List NameRecord) → ((n : ℕ) → 1 ≤ n → n ≤ w .count → numberIn names n ≡ nameGroup ns n)
     → claimMeant names (claimRecord sheet c) ≡ claimed ns (claimRecord sheet c)
 unfolding claimMeant claimed
-claim-named {c = claim.Count k} w ns h = rw (h (k .name .0) (w .held .0) (w .held .1))
-claim-named {c = claim.Inside l} {names = names} w ns h =
+claim-named sheet (claim.Count k) w ns h = rw (h (k .name .0) (w .held .0) (w .held .1))
+claim-named sheet (claim.Inside l) {names} w ns h =
     rw (
       map-same (numberIn names) (nameGroup ns) _ (λ x m. let n = left-named w x m in h x (n .0) (n .1)),
       map-same (numberIn names) (nameGroup ns) _ (λ x m. let n = right-named w x m in h x (n .0) (n .1)),
     )
-claim-named {c = claim.Apart l} {names = names} w ns h =
+claim-named sheet (claim.Apart l) {names} w ns h =
     rw (
       map-same (numberIn names) (nameGroup ns) _ (λ x m. let n = left-named w x m in h x (n .0) (n .1)),
       map-same (numberIn names) (nameGroup ns) _ (λ x m. let n = right-named w x m in h x (n .0) (n .1)),
     )
 
--- one more name's group, and no more
-pub meant-more : (sheet : List ℕ) (from n i : ℕ) (names : List ℕ) → i < n
-    → groupsAmong (meanings names (u16s sheet (from + 2 * i) (n - i)))
-    ≡ groupsAmong (numberIn names (u16At sheet (from + 2 * i)) ∷ [])
-    ++ groupsAmong (meanings names (u16s sheet (from + 2 * (i + 1)) (n - (i + 1))))
-unfolding u16s
-meant-more sheet from n i names l =
-    let e : n - i ≡ suc (n - (i + 1)) = omega arith in
-    let o : from + 2 * i + 2 ≡ from + 2 * (i + 1) = omega arith in
-    rw (e, ← o) (groups-more (numberIn names (u16At sheet (from + 2 * i))) _)
+-- The groups of the names one after another: of all of them, of one more, of no more.
+pub meant-first : (sheet : List ℕ) (from n : ℕ) (names : List ℕ)
+    → groupsAmong (meanings names (u16s sheet (from + 2 * 0) (n - 0))) ≡ groupsAmong (meanings names (u16s sheet from n))
+meant-first sheet from n names =
+    let e : from + 2 * 0 ≡ from = omega arith in
+    let o : n - 0 ≡ n = omega arith in
+    rw (e, o)
 
-pub meant-none : (sheet : List ℕ) (from n i : ℕ) (names l r : List ℕ) → n ≤ i
-    → l ++ groupsAmong (meanings names (u16s sheet from (n - i))) ≡ r → l ≡ r
+pub meant-next : (sheet : List ℕ) (from n i : ℕ) (names l t r : List ℕ) → i < n
+    → t ≡ l ++ groupsAmong (numberIn names (u16At sheet (from + 2 * i)) ∷ [])
+    → l ++ groupsAmong (meanings names (u16s sheet (from + 2 * i) (n - i))) ≡ r
+    → t ++ groupsAmong (meanings names (u16s sheet (from + 2 * (i + 1)) (n - (i + 1)))) ≡ r
 unfolding u16s
-meant-none sheet from n i names l r h e =
+meant-next sheet from n i names l t r h x e =
+    let o : n - i ≡ suc (n - (i + 1)) = omega arith in
+    let p : from + 2 * i + 2 ≡ from + 2 * (i + 1) = omega arith in
+    rw (x, append-assoc, ← p) (rw (o, groups-more) at e)
+
+pub meant-last : (sheet : List ℕ) (from n i : ℕ) (names l r : List ℕ) → n ≤ i
+    → l ++ groupsAmong (meanings names (u16s sheet (from + 2 * i) (n - i))) ≡ r → l ≡ r
+unfolding u16s
+meant-last sheet from n i names l r h e =
     let o : n - i ≡ 0 = omega arith in
     sym (append-nil l) ∙ (rw (o, groups-none) at e)

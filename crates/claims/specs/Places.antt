@@ -21,7 +21,7 @@ use Rattle.measuring.specs.Tables.{mayIn}
 use Rattle.choosing.specs.Divided.{markedIn}
 use Rattle.choosing.specs.Chosen.{Chose}
 use Rattle.claims.specs.Witnessed.{Witnessed}
-use Rattle.claims.specs.Groups.{Listed, listed-at, listed-first}
+use Rattle.claims.specs.Groups.{Listed, listed-at, listed-group}
 use Rattle.claims.specs.Judged.{Fitting, choice-allowed}
 
 -- some sets that fit have such a member
@@ -57,7 +57,7 @@ unfolding placeIn isIn
 root-state {s} t zero outs u r k f M c =
     ((λ g. f g + bit (M g)), nowhere, sizes-choice (placeIn [] outs) (λ g q. refl) (choice-sizes c), refl)
 root-state {s} t (suc m) outs u r k f M c =
-    let i = listed-first k 0 (omega arith) in
+    let i = listed-group k 0 (omega arith) in
     let q : Group s (getD t 0 0) = record { first = i .0; last = i .1 } in
     let p = flags-placed (take (suc m) t) outs M (c .allowed) in
     (
@@ -69,11 +69,11 @@ root-state {s} t (suc m) outs u r k f M c =
     )
 
 -- Under the flags of the place, and with the root in that state, the question is the one for the place.
-pub place-judged : {s : Sheet} {flags sizes marks : List ℕ} {x : Bool} (t : List ℕ) (m : ℕ) (outs : List ℕ) → Tree s → Rooted s
+pub place-judged : {s : Sheet} {sizes marks : List ℕ} {x : Bool} (flags t : List ℕ) (m : ℕ) (outs : List ℕ) → Tree s → Rooted s
     → Listed t m (s .size)
     → ((g : ℕ) → Group s g → (c : Bool) → mayIn flags g c ≡ placeIn (take m t) outs g c)
     → Chose s (mayIn flags) (ltb 0 m) sizes marks x → PlaceJudged s (take m t) outs sizes marks x
-place-judged {flags = flags} {marks = marks} t m outs u r k e w = record {
+place-judged {marks = marks} flags t m outs u r k e w = record {
   found = λ o. let v = w .found o in record {
     fitting = record { may = mayIn flags; choice = v .choice; top = v .top; bits = v .bits };
     placed = flags-placed (take m t) outs (markedIn marks)

@@ -53,11 +53,14 @@ way-split h (away {g = g} m p) = ⊎-elim (λ i. inl (away i p)) (λ e. inr (awa
 way-split h (along {g = g} m p o q) =
     ⊎-elim (λ i. inl (along i p o q)) (λ e. inr (along (List·Memᴰ·head e) p o q)) (h g m)
 
+way-none : {r ins outs : List ℕ} {b : Bool} → Way [] r b ins outs → ⊥
+way-none (away m p) = List·Memᴰ·not-nil m
+way-none (along m p o q) = List·Memᴰ·not-nil m
+
 -- the left list group by group: none of the first i is in the way
 module _ {s : Sheet} (b : Bool) (t : List ℕ) (m : ℕ) (r : List ℕ) where
   pub left-none : WayHad s b (take 0 t) r → ⊥
-  left-none (ins, outs, away i p, v) = List·Memᴰ·not-nil i
-  left-none (ins, outs, along i p o q, v) = List·Memᴰ·not-nil i
+  left-none v = way-none (v .2)
 
   pub left-more : {sizes marks : List ℕ} {x : Bool} (i : ℕ) → i < m → m ≤ length t → (WayHad s b (take i t) r → ⊥)
       → Tried s b (getD t i 0 ∷ []) r sizes marks x → x ≡ false → WayHad s b (take (i + 1) t) r → ⊥
@@ -88,28 +91,30 @@ inside-tried {s} {g} {r} l w =
     only ins outs e (away m p) v = let i = List·Memᴰ·eq-of-singleton m in rw i at v
     only ins outs e (along m p o q) v = absurd (true≢false e)
 
+right-some : {l ins outs : List ℕ} {b : Bool} → b ≡ true → Way l [] b ins outs → ⊥
+right-some e (away m p) = absurd (false≢true e)
+right-some e (along m p o q) = List·Memᴰ·not-nil o
+
 -- kind 6, one left group: a place for each right group
 module _ {s : Sheet} (g : ℕ) (t : List ℕ) (n : ℕ) where
-  right-of : {r ins outs : List ℕ} {b : Bool} → b ≡ true → Way (g ∷ []) r b ins outs
-      → (h : ℕ) × List·Memᴰ h r × (1 ≤ h) × (ins ≡ g ∷ h ∷ []) × (outs ≡ [])
-  right-of e (away m p) = absurd (false≢true e)
-  right-of e (along {h = h} m p o q) = (h, o, q, rw (List·Memᴰ·eq-of-singleton m), refl)
+  right-split : {r k ins outs : List ℕ} {b : Bool} {x : ℕ} → ((h : ℕ) → List·Memᴰ h r → List·Memᴰ h k ⊎ (h ≡ x)) → b ≡ true
+      → Way (g ∷ []) r b ins outs → PlaceHad s ins outs → WayHad s true (g ∷ []) k ⊎ PlaceHad s (g ∷ x ∷ []) []
+  right-split f e (away m p) v = absurd (false≢true e)
+  right-split {x = x} f e (along {g = k} {h = h} m p o q) v =
+      let i : k ≡ g = List·Memᴰ·eq-of-singleton m in
+      ⊎-elim
+      (λ j. inl (k ∷ h ∷ [], [], along m p j q, v))
+      (λ (j : h ≡ x). let l : k ∷ h ∷ [] ≡ g ∷ x ∷ [] = cc in inr (subst (λ z. PlaceHad s z []) l v))
+      (f h o)
 
   pub right-none : WayHad s true (g ∷ []) (take 0 t) → ⊥
-  right-none v = let w = right-of refl (v .2) in List·Memᴰ·not-nil (w .1)
+  right-none v = right-some refl (v .2)
 
-  pub right-more : {sizes marks : List ℕ} {x : Bool} (j : ℕ) → 1 ≤ g → j < n → n ≤ length t
+  pub right-more : {sizes marks : List ℕ} {x : Bool} (j : ℕ) → j < n → n ≤ length t
       → (WayHad s true (g ∷ []) (take j t) → ⊥) → PlaceJudged s (g ∷ getD t j 0 ∷ []) [] sizes marks x → x ≡ false
       → WayHad s true (g ∷ []) (take (j + 1) t) → ⊥
-  right-more j a l k h w e v =
-      let u = right-of refl (v .2) in
-      ⊎-elim
-      (λ o. h (v .0, v .1, subst2 (sym (u .3)) (sym (u .4)) (along (List·Memᴰ·head refl) a o (u .2)), v .3))
-      (λ o. w .lacking e (rw (u .3, u .4, o) at (v .3)))
-      (listed-more t j (u .0) (omega arith) (u .1))
-    where
-      subst2 : {ins outs k o : List ℕ} {r : List ℕ} → ins ≡ k → outs ≡ o → Way (g ∷ []) r true ins outs → Way (g ∷ []) r true k o
-      subst2 x y z = rw (← x, ← y) z
+  right-more j l k h w e v =
+      ⊎-elim h (w .lacking e) (right-split (λ i m. listed-more t j i (omega arith) m) refl (v .2) (v .3))
 
   pub right-found : {sizes marks : List ℕ} {x : Bool} (j : ℕ) → 1 ≤ g → 1 ≤ getD t j 0 → j < n → n ≤ length t
       → PlaceJudged s (g ∷ getD t j 0 ∷ []) [] sizes marks x → x ≡ true → Tried s true (g ∷ []) (take n t) sizes marks true

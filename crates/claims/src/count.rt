@@ -146,8 +146,8 @@ fn judge_group(
 // Whether some sets that fit break the claim that the empty set has lo members or more.
 fn judge_empty(groups: &[u16], size: u16, lo: u16, sizes: &mut [u32], marks: &mut [u8]) -> bool
     requires { ⌜ Asking (now groups) size (now sizes) (now marks) ⌝ }
-    ensures { λ r. ⌜ (hi : Top) → Judged (sheetIn (now (groups .entry)) size) (counted 0 lo hi) (now (sizes .exit)) (now
-        (marks .exit)) r ⌝ }
+    ensures { λ r. ⌜ ((hi : Top) → Judged (sheetIn (now (groups .entry)) size) (counted 0 lo hi) (now (sizes .exit)) (now
+        (marks .exit)) r) ⌝ }
 {
     if lo == 0 {
         return false;

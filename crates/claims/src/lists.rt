@@ -3,7 +3,7 @@
 use crate::places::ask_place;
 use crate::places::group_at;
 use reading::tables::GroupNo;
-ghost use mathlib.Core.Bool.{true, false};
+ghost use mathlib.Core.Bool.{true};
 ghost use mathlib.Core.List.{[], _∷_};
 ghost use Prim.Native.Nat.{_≤_};
 ghost use lib.ListN.{take};
@@ -12,6 +12,7 @@ ghost use Rattle.measuring.specs.Tables.{sheetIn};
 ghost use Rattle.choosing.specs.Chosen.{Asking};
 ghost use Rattle.claims.specs.Groups.{Listed};
 ghost use Rattle.claims.specs.Judged.{Judged};
+ghost use Rattle.claims.specs.Places.{PlaceJudged};
 ghost use Rattle.claims.specs.Ways.{Tried};
 
 // whether some sets that fit have a member in group g and in no group of a list
@@ -26,11 +27,29 @@ fn ask_inside(
 ) -> bool
     requires { ⌜ Asking (now groups) size (now sizes) (now marks) × Listed (now right) n size ⌝ }
     requires { ⌜ (1 ≤ g .0) × (g .0 ≤ size) ⌝ }
-    ensures { λ r. ⌜ Tried (sheetIn (now (groups .entry)) size) false (g .0 ∷ []) (take n (now (right .entry)))
+    ensures { λ r. ⌜ PlaceJudged (sheetIn (now (groups .entry)) size) (g .0 ∷ []) (take n (now (right .entry)))
         (now (sizes .exit)) (now (marks .exit)) r ⌝ }
 {
     let one = [g.0];
     ask_place(groups, size, &one, 1, right, n, sizes, marks)
+}
+
+// whether some sets that fit have a member in both groups
+fn ask_both(
+    groups: &[u16],
+    size: u16,
+    g: GroupNo,
+    h: GroupNo,
+    sizes: &mut [u32],
+    marks: &mut [u8],
+) -> bool
+    requires { ⌜ Asking (now groups) size (now sizes) (now marks) ⌝ }
+    requires { ⌜ (1 ≤ g .0) × (g .0 ≤ size) × (1 ≤ h .0) × (h .0 ≤ size) ⌝ }
+    ensures { λ r. ⌜ PlaceJudged (sheetIn (now (groups .entry)) size) (g .0 ∷ h .0 ∷ []) [] (now (sizes .exit)) (now
+        (marks .exit)) r ⌝ }
+{
+    let both = [g.0, h.0];
+    ask_place(groups, size, &both, 2, &both, 0, sizes, marks)
 }
 
 // whether some sets that fit have a member in group g and in some group of a list
@@ -49,8 +68,7 @@ fn ask_apart(
         (now (sizes .exit)) (now (marks .exit)) r ⌝ }
 {
     for j in 0..n {
-        let both = [g.0, group_at(right, j).0];
-        if ask_place(groups, size, &both, 2, right, 0, sizes, marks) {
+        if ask_both(groups, size, g, group_at(right, j), sizes, marks) {
             return true;
         }
     }
