@@ -92,3 +92,11 @@ all-groups size (h ∷ l) w g m =
 
 pub listed-group : {t : List ℕ} {n size : ℕ} → Listed t n size → (i : ℕ) → i < n → (1 ≤ getD t i 0) × (getD t i 0 ≤ size)
 listed-group {t} {n} {size} w i l = all-groups size (take n t) (w .groups) (getD t i 0) (listed-at t n i l (w .long))
+
+-- the list of a larger sheet
+pub listed-in : {t : List ℕ} {n size more : ℕ} → size ≤ more → Listed t n size → Listed t n more
+listed-in {t} {n} {size} {more} h w = record { long = w .long; groups = wider (take n t) (w .groups) }
+  where
+    wider : (l : List ℕ) → AllGroups size l → AllGroups more l
+    wider [] v = tt
+    wider (g ∷ l) v = (v .0, omega (arith, v .1), wider l (v .2))

@@ -22,7 +22,7 @@ abbrev μ-loop : tie.MeasureT-loop
 μ-loop sheet from n names list₀ k₀ i₀ list k i = n - i
 
 loop-holds : tie.Need-loop-holds Inv-loop μ-loop
-loop-holds c = (omega arith, omega arith, refl, meant-first _ _ _ _)
+loop-holds c = (omega arith, omega arith, refl, let s = c .before .before .before in meant-first (s .args .sheet .now) (s .args .from) (s .args .n) (s .args .names .now))
 
 cast-name-at : tie.Need-cast-name-at Inv-loop μ-loop
 cast-name-at c = search needs
@@ -65,7 +65,8 @@ loop-again c =
       omega (arith, add .add-meant .ensures .0, v .0),
       omega arith,
       add .add-meant .kept .0 ∙ v .2,
-      meant-next (s .args .sheet .now) (s .args .from) (s .args .n) (at .loop .i) (s .args .names .now) _ _ _ (omega arith)
+      meant-next (s .args .sheet .now) (s .args .from) (s .args .n) (at .loop .i) (s .args .names .now)
+          (take (at .loop .k) (at .loop .list)) _ _ (omega arith)
           (rw m at (add .add-meant .ensures .1)) (v .3),
     )
 
