@@ -93,6 +93,9 @@ all-groups size (h ∷ l) w g m =
 pub listed-group : {t : List ℕ} {n size : ℕ} → Listed t n size → (i : ℕ) → i < n → (1 ≤ getD t i 0) × (getD t i 0 ≤ size)
 listed-group {t} {n} {size} w i l = all-groups size (take n t) (w .groups) (getD t i 0) (listed-at t n i l (w .long))
 
+pub listed-known : {t : List ℕ} {n size : ℕ} → Listed t n size → (g : ℕ) → List·Memᴰ g (take n t) → g ≤ size
+listed-known {t} {n} {size} w g m = all-groups size (take n t) (w .groups) g m .1
+
 -- the list of a larger sheet
 pub listed-in : {t : List ℕ} {n size more : ℕ} → size ≤ more → Listed t n size → Listed t n more
 listed-in {t} {n} {size} {more} h w = record { long = w .long; groups = wider (take n t) (w .groups) }
