@@ -1,58 +1,71 @@
+-- `decide` meets its contract.
+use native.Mathlib.Omega.{arith}
+use Rattle.choosing.specs.Divided.{in-tree, in-rooted, in-balanced, in-told}
+use Rattle.claims.specs.Decided.{denial-shows, decided-denied, decided-holds}
 use borrow.Author.Needs.{needs}
 use Rattle.claims.proofs.decide.decide.Statement.{statement}
 use Rattle.claims.proofs.decide.decide.Tie as tie
-use Rattle.claims.proofs.decide.decide.Reads as reads
-use Rattle.claims.proofs.decide.decide.Lts as lts
-use Rattle.claims.proofs.decide.judge.Reads as judge-reads
-use Rattle.runs.proofs.place.place_runs.Reads as place-runs-reads
 
--- src/decide.rt:105:8
 judge-requires : tie.Need-judge-requires
 judge-requires c κs = search needs
 
--- src/decide.rt:107:49
 slice-aggregate-place-runs : tie.Need-slice-aggregate-place-runs
 slice-aggregate-place-runs c = search needs
 
--- src/decide.rt:107:9
 place-runs-requires : tie.Need-place-runs-requires
-place-runs-requires c κs = ?
+place-runs-requires c κs =
+    let c4 = c .before .before .before .before in
+    let c11 = c4 .before .before .before .before .before .before .before in
+    let s = c11 .before .before .before .before .before .before .before .before .before .before in
+    let w = s .pre .0 in
+    let j = c11 .judge in
+    let d = j .ensures .0 .found (c4 .if1 .taken) in
+    rw (j .ensures .1)
+    (record {
+      grown = w .grown;
+      sizes-long = omega (arith, w .sizes-long, j .kept .1 .1 .1 .1 .1 .0);
+      firsts-long = s .pre .2;
+      ends-long = omega (arith, w .grown .small);
+      balanced = in-balanced (s .args .groups .now) (s .args .size) (d .fitting .choice .others);
+      top = d .fitting .top;
+    })
 
--- src/decide.rt:108:9
 same-length : tie.Need-same-length
 same-length c = search needs
 
--- src/decide.rt:108:9
 same-length-2 : tie.Need-same-length-2
 same-length-2 c = search needs
 
--- src/decide.rt:108:9
 same-length-3 : tie.Need-same-length-3
 same-length-3 c = search needs
 
--- src/decide.rt:108:9
 same-length-4 : tie.Need-same-length-4
 same-length-4 c = search needs
 
--- src/decide.rt:108:9
 returns : tie.Need-returns
-returns c = ?
+returns c =
+    let c8 = c .before .before .before .before .before .before .before .before in
+    let c15 = c8 .before .before .before .before .before .before .before in
+    let s = c15 .before .before .before .before .before .before .before .before .before .before in
+    let w = s .pre .0 .grown in
+    let j = c15 .judge in
+    let d = j .ensures .0 .found (c8 .if1 .taken) in
+    let t = rw (j .ensures .1) at (c .before .before .before .place-runs .ensures) in
+    (decided-denied (denial-shows (in-tree w) (in-rooted w) d (in-told (s .args .groups .now) (s .args .size) t)), j .ensures .1)
 
--- src/decide.rt:88:1
 same-length-5 : tie.Need-same-length-5
 same-length-5 c = search needs
 
--- src/decide.rt:88:1
 same-length-6 : tie.Need-same-length-6
 same-length-6 c = search needs
 
--- src/decide.rt:88:1
 same-length-7 : tie.Need-same-length-7
 same-length-7 c = search needs
 
--- src/decide.rt:88:1
 returns-2 : tie.Need-returns-2
-returns-2 c = ?
+returns-2 c =
+    let j = c .before .before .before .before .before .before .before .judge in
+    (decided-holds (j .ensures .0 .lacking (c .if1 .left)), j .ensures .1)
 
 pub decide-spec : {M : Type 1} → statement M
 decide-spec =

@@ -1,87 +1,88 @@
+-- `judge` meets its contract.
+use mathlib.Core.Path.{refl}
+use native.Mathlib.Omega.{arith}
+use Rattle.claims.specs.Named.{claimMeant}
 use borrow.Author.Needs.{needs}
 use Rattle.claims.proofs.decide.judge.Statement.{statement}
 use Rattle.claims.proofs.decide.judge.Tie as tie
-use Rattle.claims.proofs.decide.judge.Reads as reads
-use Rattle.claims.proofs.decide.judge.Lts as lts
-use Rattle.claims.proofs.count.judge_count.Reads as judge-count-reads
-use Rattle.claims.proofs.decide.judge_names.Reads as judge-names-reads
-use Rattle.reading.proofs.tables.meant_by.Reads as meant-by-reads
 
--- src/decide.rt:77:22
 enum-known-c : tie.Need-enum-known-c
 enum-known-c c = search needs
 
--- src/decide.rt:79:39
 meant-by-requires : tie.Need-meant-by-requires
-meant-by-requires c κs = ?
+meant-by-requires c κs =
+    let w = rw (c .before .before .before .c .given .1) at (c .before .before .before .before .before .before .before .before .before .before .pre .1) in
+    (w .held .0, omega (arith, w .held .1, w .long))
 
--- src/decide.rt:79:13
 judge-count-requires : tie.Need-judge-count-requires
-judge-count-requires c κs = ?
+judge-count-requires c κs =
+    let s = c .before .before .before .before .before .before .before .before .before .before .before .before .before in
+    let w = rw (c .before .before .before .before .before .before .c .given .1) at (s .pre .1) in
+    let m = c .before .before .meant-by .ensures in
+    (s .pre .0, m .numbered, rw (m .number) (w .known _ (w .held .0) (w .held .1)))
 
--- src/decide.rt:81:23
 enum-known-c-2 : tie.Need-enum-known-c-2
 enum-known-c-2 c = search needs
 
--- src/decide.rt:81:29
 judge-names-requires : tie.Need-judge-names-requires
-judge-names-requires c κs = ?
+judge-names-requires c κs =
+    let s = c .before .before .before .before .before .before .before .before .before .before .before in
+    (s .pre .0, rw (c .before .before .before .before .c2 .given .1) at (s .pre .1))
 
--- src/decide.rt:82:22
 enum-known-c-3 : tie.Need-enum-known-c-3
 enum-known-c-3 c = search needs
 
--- src/decide.rt:82:28
 judge-names-requires-2 : tie.Need-judge-names-requires-2
-judge-names-requires-2 c κs = ?
+judge-names-requires-2 c κs =
+    let s = c .before .before .before .before .before .before .before .before .before .before .before in
+    (s .pre .0, rw (c .before .before .before .before .c3 .given .1) at (s .pre .1))
 
--- src/decide.rt:61:1
 same-length : tie.Need-same-length
 same-length c = search needs
 
--- src/decide.rt:61:1
 same-length-2 : tie.Need-same-length-2
 same-length-2 c = search needs
 
--- src/decide.rt:61:1
 same-length-3 : tie.Need-same-length-3
 same-length-3 c = search needs
 
--- src/decide.rt:61:1
 returns : tie.Need-returns
-returns c = ?
+unfolding claimMeant
+returns c =
+    let c6 = c .before .before .before .before .before .before in
+    let c9 = c6 .before .before .before in
+    let j = c6 .judge-count .ensures in
+    (rw (c9 .before .before .before .before .c .given .1) (rw (c9 .meant-by .ensures .number) at (j .0)), j .1)
 
--- src/decide.rt:61:1
 same-length-4 : tie.Need-same-length-4
 same-length-4 c = search needs
 
--- src/decide.rt:61:1
 same-length-5 : tie.Need-same-length-5
 same-length-5 c = search needs
 
--- src/decide.rt:61:1
 same-length-6 : tie.Need-same-length-6
 same-length-6 c = search needs
 
--- src/decide.rt:61:1
 returns-2 : tie.Need-returns-2
-returns-2 c = ?
+unfolding claimMeant
+returns-2 c =
+    let c4 = c .before .before .before .before in
+    (rw (c4 .before .before .before .before .before .c2 .given .1) (c4 .judge-names .ensures), refl)
 
--- src/decide.rt:61:1
 same-length-7 : tie.Need-same-length-7
 same-length-7 c = search needs
 
--- src/decide.rt:61:1
 same-length-8 : tie.Need-same-length-8
 same-length-8 c = search needs
 
--- src/decide.rt:61:1
 same-length-9 : tie.Need-same-length-9
 same-length-9 c = search needs
 
--- src/decide.rt:61:1
 returns-3 : tie.Need-returns-3
-returns-3 c = ?
+unfolding claimMeant
+returns-3 c =
+    let c4 = c .before .before .before .before in
+    (rw (c4 .before .before .before .before .before .c3 .given .1) (c4 .judge-names2 .ensures), refl)
 
 pub judge-spec : {M : Type 1} → statement M
 judge-spec =
