@@ -1,13 +1,13 @@
 -- Sizes of sets that fit, with a condition on them, and the sheets whose table has one bound narrowed.
 use Prim.Native.Nat.{ℕ, suc, _+_, _-_, _*_, _≤_, _<_, min, max}
 use mathlib.Core.Path.{_≡_, refl, sym, ap, _∙_}
-use mathlib.Core.Bool.{Bool, true, false, cond, true≢false, false≢true}
+use mathlib.Core.Bool.{Bool, true, false, cond, true≢false}
 use mathlib.Core.List.{List}
 use mathlib.Core.Logic.{_⊎_, inl, inr, ⊎-elim}
 use native.Mathlib.Omega.{arith}
 use native.Mathlib.Nat.{le-refl}
 use borrow.Author.Tests.{eq-eqb, ne-eqb}
-use lib.ListN.{length, getD, set, length-set, replicate}
+use lib.ListN.{length, getD, set, length-set}
 use lib.Seq.{getD-set-same, getD-set-other}
 use Rattle.wire.specs.Limits.{groupLimit, noEnd}
 use Rattle.meaning.specs.Sum.{sum, bit}
@@ -17,7 +17,7 @@ use Rattle.meaning.specs.OfRecords.{endOf, disjointMode, coverMode, sameMode}
 use Rattle.meaning.specs.Sons.{only}
 use Rattle.meaning.specs.Shown.{above}
 use Rattle.sizes.specs.Balanced.{isSon, sons, Balanced, Choice}
-use Rattle.sizes.specs.Ranged.{Rooted, free}
+use Rattle.sizes.specs.Ranged.{Rooted}
 use Rattle.sizes.specs.Span.{smaller}
 use Rattle.meaning.proofs.SumLaws.{split, compare-eq, sum-eq, son-of, son-is}
 use Rattle.sizes.specs.Runs.{above-runs}

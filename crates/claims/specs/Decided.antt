@@ -14,8 +14,8 @@ use Rattle.sizes.specs.Runs.{runs-first, shown-fits-above}
 use Rattle.runs.specs.Told.{numberIn, Told, told-runs}
 use Rattle.choosing.specs.Divided.{markedIn}
 use Rattle.claims.specs.Judged.{Denial}
-use Rattle.claims.specs.declared.decide.Verdict.{Verdict}
-use Rattle.claims.specs.declared.decide.Verdict.the-variants.{Holds, Denied}
+use Rattle.claims.specs.declared.verdict.Verdict.{Verdict}
+use Rattle.claims.specs.declared.verdict.Verdict.the-variants.{Holds, Denied}
 
 -- "verdict 1 holds or 0 denied"
 abbrev pub verdictNumber : Verdict → ℕ

@@ -6,7 +6,7 @@ use mathlib.Core.List.{List}
 use mathlib.Core.Logic.{_↔_}
 use Rattle.meaning.specs.Sheet.{Sheet, Group}
 use Rattle.meaning.specs.Sets.{Sets}
-use Rattle.meaning.specs.Claim.{Claim, within, separate, Says, Breaks, Breakable}
+use Rattle.meaning.specs.Claim.{Claim, Says, Breaks, Breakable}
 use Rattle.meaning.specs.Shown.{shown, above}
 use Rattle.sizes.specs.Balanced.{Choice}
 use Rattle.sizes.specs.Runs.{Starts}

@@ -1,7 +1,6 @@
 -- A claim that was read, its names replaced by what the table of names has for them.
 use Prim.Native.Nat.{ℕ, zero, suc, _+_, _-_, _*_, _≤_, _<_}
-use mathlib.Core.Path.{_≡_, refl, sym, ap, _∙_}
-use mathlib.Core.Bool.{Bool, true, false}
+use mathlib.Core.Path.{_≡_, refl, sym, _∙_}
 use mathlib.Core.List.{
   List,
   [],
@@ -98,6 +97,7 @@ map-same : (f h : ℕ → ℕ) (l : List ℕ) → ((x : ℕ) → List·Memᴰ x 
 map-same f h [] e = refl
 map-same f h (x ∷ l) e = rw (e x (List·Memᴰ·head refl), map-same f h l (λ y m. e y (List·Memᴰ·tail m)))
 
+-- the two lists of a claim
 module _ {sheet : List ℕ} {l : Lists} {names : List ℕ} {size : ℕ} (w : AskableLists sheet l names size) where
   pub left-named : (x : ℕ) → List·Memᴰ x (leftNames sheet l) → (1 ≤ x) × (x ≤ w .count)
   left-named = fields-all (λ x. (1 ≤ x) × (x ≤ w .count)) sheet (l .at) (l .m) (w .held .left)
@@ -105,25 +105,35 @@ module _ {sheet : List ℕ} {l : Lists} {names : List ℕ} {size : ℕ} (w : Ask
   pub right-named : (x : ℕ) → List·Memᴰ x (rightNames sheet l) → (1 ≤ x) × (x ≤ w .count)
   right-named = fields-all (λ x. (1 ≤ x) × (x ≤ w .count)) sheet (l .at + 2 * l .m) (l .n) (w .held .right)
 
+  side : (from n : ℕ) → from + 2 * n ≤ length sheet
+      → ((j : ℕ) → j < n → (1 ≤ u16At sheet (from + 2 * j)) × (u16At sheet (from + 2 * j) ≤ w .count)) → Side sheet from n names
+  side from n a h = record { long = a; name = λ j i. let x = h j i in (x .0, omega (arith, x .1, w .long)) }
+
   pub left-side : Side sheet (l .at) (l .m) names
-  left-side = record {
-    long = omega (arith, w .held .long);
-    name = λ j i. let a = w .held .left j i in (a .0, omega (arith, a .1, w .long));
-  }
+  left-side = side (l .at) (l .m) (omega (arith, w .held .long)) (w .held .left)
 
   pub right-side : Side sheet (l .at + 2 * l .m) (l .n) names
-  right-side = record {
-    long = omega (arith, w .held .long);
-    name = λ j i. let a = w .held .right j i in (a .0, omega (arith, a .1, w .long));
-  }
+  right-side = side (l .at + 2 * l .m) (l .n) (omega (arith, w .held .long)) (w .held .right)
+
+  -- what they speak of, and that name records which agree with the table mean the same
+  lists-speak : AllUpTo size (meanings names (leftNames sheet l)) × AllUpTo size (meanings names (rightNames sheet l))
+  lists-speak = (meanings-known w _ left-named, meanings-known w _ right-named)
+
+  lists-named : (ns : List NameRecord) → ((n : ℕ) → 1 ≤ n → n ≤ w .count → numberIn names n ≡ nameGroup ns n)
+      → (meanings names (leftNames sheet l) ≡ map (nameGroup ns) (leftNames sheet l))
+      × (meanings names (rightNames sheet l) ≡ map (nameGroup ns) (rightNames sheet l))
+  lists-named ns h = (
+    map-same _ _ _ (λ x m. let n = left-named x m in h x (n .0) (n .1)),
+    map-same _ _ _ (λ x m. let n = right-named x m in h x (n .0) (n .1)),
+  )
 
 -- The claim that is asked about speaks of groups of the sheet, or of none.
 pub asked-speaks : (sheet : List ℕ) (c : ClaimRead) {names : List ℕ} {size : ℕ} → Askable sheet c names size
     → SpeaksUpTo size (claimMeant names (claimRecord sheet c))
 unfolding claimMeant
 asked-speaks sheet (claim.Count k) w = w .known (k .name .0) (w .held .0) (w .held .1)
-asked-speaks sheet (claim.Inside l) w = (meanings-known w _ (left-named w), meanings-known w _ (right-named w))
-asked-speaks sheet (claim.Apart l) w = (meanings-known w _ (left-named w), meanings-known w _ (right-named w))
+asked-speaks sheet (claim.Inside l) w = lists-speak w
+asked-speaks sheet (claim.Apart l) w = lists-speak w
 
 -- Where the table of names agrees with the name records, it is the claim that is written down.
 pub claim-named : (sheet : List ℕ) (c : ClaimRead) {names : List ℕ} {size : ℕ} (w : Askable sheet c names size)
@@ -131,16 +141,8 @@ pub claim-named : (sheet : List ℕ) (c : ClaimRead) {names : List ℕ} {size : 
     → claimMeant names (claimRecord sheet c) ≡ claimed ns (claimRecord sheet c)
 unfolding claimMeant claimed
 claim-named sheet (claim.Count k) w ns h = rw (h (k .name .0) (w .held .0) (w .held .1))
-claim-named sheet (claim.Inside l) {names} w ns h =
-    rw (
-      map-same (numberIn names) (nameGroup ns) _ (λ x m. let n = left-named w x m in h x (n .0) (n .1)),
-      map-same (numberIn names) (nameGroup ns) _ (λ x m. let n = right-named w x m in h x (n .0) (n .1)),
-    )
-claim-named sheet (claim.Apart l) {names} w ns h =
-    rw (
-      map-same (numberIn names) (nameGroup ns) _ (λ x m. let n = left-named w x m in h x (n .0) (n .1)),
-      map-same (numberIn names) (nameGroup ns) _ (λ x m. let n = right-named w x m in h x (n .0) (n .1)),
-    )
+claim-named sheet (claim.Inside l) w ns h = let e = lists-named w ns h in rw (e .0, e .1)
+claim-named sheet (claim.Apart l) w ns h = let e = lists-named w ns h in rw (e .0, e .1)
 
 -- The groups of the names one after another: of all of them, of one more, of no more.
 pub meant-first : (sheet : List ℕ) (from n : ℕ) (names : List ℕ)

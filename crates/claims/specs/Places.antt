@@ -1,7 +1,7 @@
 -- The question for a place: whether some sets that fit have a member in all groups of one list and in none of another.
 use Prim.Native.Nat.{ℕ, zero, suc, _+_, _≤_, _<_}
-use mathlib.Core.Path.{_≡_, refl, sym, ap, _∙_}
-use mathlib.Core.Bool.{Bool, true, false}
+use mathlib.Core.Path.{_≡_, refl, sym, _∙_}
+use mathlib.Core.Bool.{Bool, true}
 use mathlib.Core.List.{List, []}
 use native.Mathlib.Omega.{arith}
 use native.Mathlib.Nat.{le-refl}
@@ -59,8 +59,7 @@ root-state {s} t zero outs u r k f M c =
 root-state {s} t (suc m) outs u r k f M c =
     let i = listed-group k 0 (omega arith) in
     let q : Group s (getD t 0 0) = record { first = i .0; last = i .1 } in
-    let p = flags-placed (take (suc m) t) outs M (c .allowed) in
-    (
+    let p = flags-placed (take (suc m) t) outs M (c .allowed) in (
       f,
       M,
       c,

@@ -1,6 +1,6 @@
 -- A claim of kind 5 or 6 on two lists of groups, judged by the places of a member that breaks it.
 use Prim.Native.Nat.{ℕ, _+_, _≤_, _<_}
-use mathlib.Core.Path.{_≡_, refl, sym, ap, _∙_, subst}
+use mathlib.Core.Path.{_≡_, refl, sym, subst}
 use mathlib.Core.Bool.{Bool, true, false, true≢false, false≢true}
 use mathlib.Core.List.{List, [], _∷_, List·Memᴰ, List·Memᴰ·head, List·Memᴰ·not-nil, List·Memᴰ·eq-of-singleton}
 use mathlib.Core.Logic.{_⊎_, inl, inr, ⊎-elim}
@@ -10,9 +10,9 @@ use Rattle.meaning.specs.Sheet.{Sheet, Tree}
 use Rattle.meaning.specs.Shown.{above}
 use Rattle.sizes.specs.ClaimsPlace.{placed-flags, place}
 use Rattle.sizes.specs.ClaimsMath.{Known, lists, Way, away, along, breakable-lists, shown-breaks}
-use Rattle.claims.specs.Witnessed.{Witnessed, witnessed-yes, witnessed-no, witnessed-as}
-use Rattle.claims.specs.Groups.{Listed, listed-at, listed-more}
-use Rattle.claims.specs.Judged.{Fitting, Denial, Judged, choice-allowed}
+use Rattle.claims.specs.Witnessed.{Witnessed, witnessed-yes, witnessed-as}
+use Rattle.claims.specs.Groups.{listed-at, listed-more}
+use Rattle.claims.specs.Judged.{Judged, choice-allowed}
 use Rattle.claims.specs.Places.{PlaceHad, PlaceShown, PlaceJudged}
 
 -- some sets that fit have a member at a place that breaks the claim

@@ -2,6 +2,7 @@
 use crate::count::judge_count;
 use crate::lists::judge_lists;
 use crate::names::groups_meant;
+use crate::verdict::Verdict;
 use reading::claim::Claim;
 use reading::claim::Lists;
 use reading::tables::GROUP_CAPACITY;
@@ -16,22 +17,7 @@ ghost use Rattle.reading.specs.SheetIn.{sheetIn};
 ghost use Rattle.choosing.specs.Chosen.{Asking};
 ghost use Rattle.claims.specs.Named.{meanings, claimMeant, Askable, AskableLists};
 ghost use Rattle.claims.specs.Judged.{Judged};
-ghost use Rattle.claims.specs.Decided.{verdictNumber, Decided};
-
-pub enum Verdict {
-    Holds,
-    Denied,
-}
-
-// document 01's number of a verdict
-pub fn verdict_number(v: Verdict) -> u16
-    ensures { λ r. ⌜ r ≡ verdictNumber v ⌝ }
-{
-    match v {
-        Verdict::Holds => 1,
-        Verdict::Denied => 0,
-    }
-}
+ghost use Rattle.claims.specs.Decided.{Decided};
 
 // Whether some sets that fit break the claim of kind 5 or 6 on two lists of names.
 fn judge_names(
@@ -76,7 +62,15 @@ fn judge(
     match c {
         Claim::Count(k) => {
             let name = k.name;
-            judge_count(groups, size, meant_by(names, name), k.lo, k.hi, sizes, marks)
+            judge_count(
+                groups,
+                size,
+                meant_by(names, name),
+                k.lo,
+                k.hi,
+                sizes,
+                marks,
+            )
         }
         Claim::Inside(l) => judge_names(false, sheet, l, names, groups, size, sizes, marks),
         Claim::Apart(l) => judge_names(true, sheet, l, names, groups, size, sizes, marks),

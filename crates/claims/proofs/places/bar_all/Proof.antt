@@ -1,10 +1,9 @@
 -- `bar_all` meets its contract: the first i groups of the list are barred.
-use Prim.Native.Nat.{_+_, _-_, _≤_}
+use Prim.Native.Nat.{_-_, _≤_}
 use mathlib.Core.Path.{_≡_}
-use mathlib.Core.List.{_∷_, []}
 use native.Mathlib.Omega.{arith}
 use borrow.Author.Needs.{needs}
-use lib.ListN.{take, getD}
+use lib.ListN.{take}
 use Rattle.claims.specs.Groups.{listed-group}
 use Rattle.claims.specs.Flags.{Barred, barred-none, barred-next}
 use Rattle.claims.proofs.places.bar_all.Statement.{statement}
