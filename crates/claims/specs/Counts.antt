@@ -9,7 +9,7 @@ use native.Mathlib.Nat.{le-refl}
 use borrow.Author.Tests.{eq-eqb, ne-eqb}
 use lib.ListN.{length, getD, set, length-set}
 use lib.Seq.{getD-set-same, getD-set-other}
-use Rattle.wire.specs.Limits.{groupLimit, noEnd}
+use Rattle.wire.specs.Limits.{groupCapacity, noEnd}
 use Rattle.meaning.specs.Sum.{sum, bit}
 use Rattle.meaning.specs.Sheet.{Sheet, Group, Son, Tree, Top, fin}
 use Rattle.meaning.specs.Claim.{counted}
@@ -17,15 +17,17 @@ use Rattle.meaning.specs.OfRecords.{endOf, disjointMode, coverMode, sameMode}
 use Rattle.meaning.specs.Sons.{only}
 use Rattle.meaning.specs.Shown.{above}
 use Rattle.sizes.specs.Balanced.{isSon, sons, Balanced, Choice}
-use Rattle.sizes.specs.Ranged.{Rooted}
+use Rattle.meaning.specs.Sheet.{Rooted}
 use Rattle.sizes.specs.Span.{smaller}
 use Rattle.meaning.proofs.SumLaws.{split, compare-eq, sum-eq, son-of, son-is}
 use Rattle.sizes.specs.Runs.{above-runs}
 use Rattle.sizes.specs.Possible.{Sizes, nowhere, sizes-choice, possible}
 use Rattle.sizes.specs.ClaimsCount.{rebound, narrowHi, narrowLo, narrowHi-sizes, narrowLo-sizes, narrowHi-choice, narrowLo-choice}
 use Rattle.sizes.specs.ClaimsMath.{Above, breakable-size, breakable-empty, empty-breaks, shown-breaks-count}
-use Rattle.runs.specs.Told.{numberIn, Grown}
-use Rattle.measuring.specs.Tables.{sheetIn, mayIn, size-in, parent-in, lo-in, hi-in, disjoint-in, cover-in, same-in}
+use Rattle.runs.specs.Told.{numberIn}
+use Rattle.reading.specs.SheetIn.{Tabled}
+use Rattle.measuring.specs.Tables.{mayIn}
+use Rattle.reading.specs.SheetIn.{sheetIn, size-in, parent-in, lo-in, hi-in, disjoint-in, cover-in, same-in}
 use Rattle.choosing.specs.Divided.{markedIn}
 use Rattle.choosing.specs.Chosen.{Chose}
 use Rattle.claims.specs.Witnessed.{Witnessed, witnessed-yes, witnessed-no, witnessed-as}
@@ -57,7 +59,7 @@ counts sizes marks g = numberIn sizes g + bit (markedIn marks g)
 abbrev pub Sized : Sheet → ((ℕ → ℕ) → Type 0) → List ℕ → List ℕ → Bool → Type 0
 Sized s P sizes marks x = Witnessed (Fitting s sizes marks × P (counts sizes marks)) ((f : ℕ → ℕ) × Sizes s f × P f) x
 
-pub chose-sized : {s : Sheet} {sizes marks : List ℕ} {x : Bool} → s .size ≤ groupLimit
+pub chose-sized : {s : Sheet} {sizes marks : List ℕ} {x : Bool} → s .size ≤ groupCapacity
     → Chose s (mayIn freeTable) false sizes marks x
     → Sized s Any sizes marks x
 chose-sized l w = record {
@@ -269,19 +271,20 @@ module _ (t : List ℕ) (n g : ℕ) (a : 1 ≤ g) (b : g ≤ n) (l : 4 * n ≤ l
 
   -- the narrowed table is that of a tree
   grown-bound : (u : List ℕ) (L : ℕ → ℕ) (H : ℕ → Top) → length u ≡ length t → Same (sheetIn u n) (rebound (sheetIn t n) L H)
-      → Grown t n → Grown u n
+      → Tabled t n → Tabled u n
   unfolding sheetIn
   grown-bound u L H e w v = record {
+    some = v .some;
     small = v .small;
     long = omega (arith, v .long);
     tree = tree-same (same-turned w) (tree-bound (sheetIn t n) L H (v .tree));
     rooted = rooted-same (same-turned w) (rooted-bound (sheetIn t n) L H (v .rooted));
   }
 
-  pub grown-hi : (k : ℕ) → k < noEnd → Grown t n → Grown (set t (4 * (g - 1) + 2) (min (getD t (4 * (g - 1) + 2) 0) k)) n
+  pub grown-hi : (k : ℕ) → k < noEnd → Tabled t n → Tabled (set t (4 * (g - 1) + 2) (min (getD t (4 * (g - 1) + 2) 0) k)) n
   grown-hi k o w = grown-bound _ _ _ (length-set t _ _) (same-hi k o) w
 
-  pub grown-lo : (k : ℕ) → Grown t n → Grown (set t (4 * (g - 1) + 1) (max (getD t (4 * (g - 1) + 1) 0) k)) n
+  pub grown-lo : (k : ℕ) → Tabled t n → Tabled (set t (4 * (g - 1) + 1) (max (getD t (4 * (g - 1) + 1) 0) k)) n
   grown-lo k w = grown-bound _ _ _ (length-set t _ _) (same-lo k) w
 
 -- fewer than lo: at most lo - 1, where lo is not 0

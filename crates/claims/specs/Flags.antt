@@ -9,7 +9,7 @@ use borrow.Author.Tests.{eq-eqb, ne-eqb}
 use lib.ListN.{length, getD, set, take, length-set, replicate, getD-replicate}
 use lib.Seq.{take-suc}
 use lib.Dec.{eqb}
-use Rattle.wire.specs.Limits.{groupLimit}
+use Rattle.wire.specs.Limits.{groupCapacity}
 use Rattle.meaning.proofs.SumLaws.{compare-eq}
 use Rattle.sizes.specs.ClaimsPlace.{isIn, placeIn}
 use Rattle.runs.specs.Told.{numberIn}
@@ -101,11 +101,11 @@ barred-next l i h x y = rw (add-one, take-suc l i 0 h) (barred-more (take i l) (
 
 -- the table of flags that forbids nothing
 abbrev pub freeTable : List ℕ
-freeTable = replicate groupLimit 3
+freeTable = replicate groupCapacity 3
 
-pub free-flag : (g : ℕ) → 1 ≤ g → g ≤ groupLimit → (c : Bool) → mayIn freeTable g c ≡ true
+pub free-flag : (g : ℕ) → 1 ≤ g → g ≤ groupCapacity → (c : Bool) → mayIn freeTable g c ≡ true
 free-flag g a l c =
-    may-number freeTable g c ∙ ap (λ x. mayFlag x c) (getD-replicate groupLimit (g - 1) 3 0 (omega arith)) ∙ three c
+    may-number freeTable g c ∙ ap (λ x. mayFlag x c) (getD-replicate groupCapacity (g - 1) 3 0 (omega arith)) ∙ three c
   where
     three : (c : Bool) → mayFlag 3 c ≡ true
     three true = refl
@@ -113,7 +113,7 @@ free-flag g a l c =
 
 -- The flags of a place: not out of the groups of one list, not in those of another.
 pub place-flags : {t u : List ℕ} (ins outs : List ℕ) → Barred freeTable false ins t → Barred t true outs u → (g : ℕ) → 1 ≤ g
-    → g ≤ groupLimit
+    → g ≤ groupCapacity
     → (c : Bool) → mayIn u g c ≡ placeIn ins outs g c
 unfolding placeIn
 place-flags ins outs x y g a l true =

@@ -11,7 +11,8 @@ use Rattle.meaning.specs.Shown.{shown, above}
 use Rattle.sizes.specs.Balanced.{Choice}
 use Rattle.sizes.specs.Runs.{Starts}
 use Rattle.sizes.specs.ClaimsMath.{lists}
-use Rattle.runs.specs.Told.{numberIn, sizeLimit}
+use Rattle.runs.specs.Told.{numberIn}
+use Rattle.reading.specs.SheetIn.{sizeLimit}
 use Rattle.choosing.specs.Divided.{markedIn}
 use Rattle.claims.specs.Witnessed.{Witnessed, witnessed-as}
 use Rattle.claims.specs.Groups.{groupsAmong, union-groups}

@@ -1,7 +1,7 @@
 -- `judge_group` meets its contract.
 use mathlib.Core.Path.{_∙_}
 use native.Mathlib.Omega.{arith}
-use Rattle.choosing.specs.Divided.{in-tree, in-group}
+use Rattle.reading.specs.SheetIn.{group-in}
 use Rattle.claims.specs.Counts.{under-judged, over-judged}
 use borrow.Author.Needs.{needs}
 use Rattle.claims.proofs.count.judge_group.Statement.{statement}
@@ -25,8 +25,8 @@ returns c =
     let s = c7 .before .before .before .before .before .before .before in
     let w = s .pre .0 .grown in
     let u = c7 .under .ensures in
-    let q = in-group (s .args .groups .now) (s .args .size) (s .pre .1) (s .pre .2) in
-    (under-judged (s .args .g .0) (s .args .lo) _ (in-tree w) q (rw (c .if1 .taken) at (u .0)), u .1)
+    let q = group-in (s .args .groups .now) (s .args .size) (s .pre .1) (s .pre .2) in
+    (under-judged (s .args .g .0) (s .args .lo) _ (w .tree) q (rw (c .if1 .taken) at (u .0)), u .1)
 
 over-requires : tie.Need-over-requires
 over-requires c κs =
@@ -61,8 +61,8 @@ returns-2 c =
     let w = s .pre .0 .grown in
     let u = c17 .under .ensures in
     let o = c6 .over .ensures in
-    let q = in-group (s .args .groups .now) (s .args .size) (s .pre .1) (s .pre .2) in
-    (over-judged (s .args .g .0) (s .args .lo) _ (in-tree w) q (rw (c10 .if1 .left) at (u .0)) (rw (u .1) at (o .0)), o .1 ∙ u .1)
+    let q = group-in (s .args .groups .now) (s .args .size) (s .pre .1) (s .pre .2) in
+    (over-judged (s .args .g .0) (s .args .lo) _ (w .tree) q (rw (c10 .if1 .left) at (u .0)) (rw (u .1) at (o .0)), o .1 ∙ u .1)
 
 pub judge-group-spec : {M : Type 1} → statement M
 judge-group-spec =

@@ -1,6 +1,5 @@
 -- `decide` meets its contract.
 use native.Mathlib.Omega.{arith}
-use Rattle.choosing.specs.Divided.{in-tree, in-rooted, in-balanced, in-told}
 use Rattle.claims.specs.Decided.{denial-shows, decided-denied, decided-holds}
 use borrow.Author.Needs.{needs}
 use Rattle.claims.proofs.decide.decide.Statement.{statement}
@@ -26,7 +25,7 @@ place-runs-requires c κs =
       sizes-long = omega (arith, w .sizes-long, j .kept .1 .1 .1 .1 .1 .0);
       firsts-long = s .pre .2;
       ends-long = omega (arith, w .grown .small);
-      balanced = in-balanced (s .args .groups .now) (s .args .size) (d .fitting .choice .others);
+      balanced = d .fitting .choice .others;
       top = d .fitting .top;
     })
 
@@ -51,7 +50,7 @@ returns c =
     let j = c15 .judge in
     let d = j .ensures .0 .found (c8 .if1 .taken) in
     let t = rw (j .ensures .1) at (c .before .before .before .place-runs .ensures) in
-    (decided-denied (denial-shows (in-tree w) (in-rooted w) d (in-told (s .args .groups .now) (s .args .size) t)), j .ensures .1)
+    (decided-denied (denial-shows (w .tree) (w .rooted) d t), j .ensures .1)
 
 same-length-5 : tie.Need-same-length-5
 same-length-5 c = search needs

@@ -3,8 +3,7 @@ use Prim.Native.Nat.{_-_, _≤_}
 use mathlib.Core.Path.{_≡_, refl, _∙_}
 use native.Mathlib.Omega.{arith}
 use lib.ListN.{length, take}
-use Rattle.measuring.specs.Tables.{sheetIn, size-in}
-use Rattle.choosing.specs.Divided.{in-tree}
+use Rattle.reading.specs.SheetIn.{sheetIn, size-in}
 use Rattle.claims.specs.Witnessed.{witnessed-no}
 use Rattle.claims.specs.Groups.{listed-group, listed-known, listed-in}
 use Rattle.claims.specs.Ways.{WayHad, tried-judged, left-none, left-more, left-found}
@@ -63,7 +62,7 @@ returns c =
     let s = at .before .before .before .before .before .before in
     let a = s .args in
     let n = size-in (a .groups .now) (a .size) in
-    tried-judged (a .apart) (in-tree (s .pre .0 .grown)) (listed-known (listed-in (omega (arith, n)) (s .pre .1 .0)))
+    tried-judged (a .apart) (s .pre .0 .grown .tree) (listed-known (listed-in (omega (arith, n)) (s .pre .1 .0)))
     (listed-known (listed-in (omega (arith, n)) (s .pre .1 .1)))
     (left-found (a .apart) (a .left .now) (a .m) (take (a .n) (a .right .now)) (at .loop .i) (omega arith) (s .pre .1 .0 .long)
     (rw g at (c5 .ask-left .ensures)) (c .if1 .taken))
@@ -102,7 +101,7 @@ returns-2 c =
     let a = s .args in
     let n = size-in (a .groups .now) (a .size) in
     let e : at .loop .i ≡ a .m = omega arith in
-    tried-judged (a .apart) (in-tree (s .pre .0 .grown)) (listed-known (listed-in (omega (arith, n)) (s .pre .1 .0)))
+    tried-judged (a .apart) (s .pre .0 .grown .tree) (listed-known (listed-in (omega (arith, n)) (s .pre .1 .0)))
     (listed-known (listed-in (omega (arith, n)) (s .pre .1 .1))) (witnessed-no (rw e at (at .loop .inv .3)))
 
 pub judge-lists-spec : {M : Type 1} → statement M

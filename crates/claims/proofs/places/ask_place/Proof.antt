@@ -1,8 +1,7 @@
 -- `ask_place` meets its contract.
 use native.Mathlib.Omega.{arith}
 use lib.ListN.{take}
-use Rattle.measuring.specs.Tables.{size-in}
-use Rattle.choosing.specs.Divided.{in-tree, in-rooted, in-small}
+use Rattle.reading.specs.SheetIn.{size-in}
 use Rattle.claims.specs.Groups.{listed-in}
 use Rattle.claims.specs.Flags.{place-flags}
 use Rattle.claims.specs.Places.{place-judged}
@@ -48,9 +47,9 @@ returns c =
     let a = s .args in
     let ins = take (a .m) (a .ins .now) in
     let outs = take (a .n) (a .outs .now) in
-    place-judged _ (a .ins .now) (a .m) outs (in-tree w) (in-rooted w)
+    place-judged _ (a .ins .now) (a .m) outs (w .tree) (w .rooted)
     (listed-in (omega (arith, size-in (a .groups .now) (a .size))) (s .pre .1 .0))
-    (λ g q d. place-flags ins outs (c12 .bar-all .ensures) (c9 .bar-all2 .ensures) g (q .first) (omega (arith, q .last, in-small w)) d)
+    (λ g q d. place-flags ins outs (c12 .bar-all .ensures) (c9 .bar-all2 .ensures) g (q .first) (omega (arith, q .last, size-in (a .groups .now) (a .size), w .small)) d)
     (c4 .choose .ensures)
 
 pub ask-place-spec : {M : Type 1} → statement M
