@@ -1,6 +1,9 @@
 -- What a claim that the reader hands up stands for: document 01, "Claims", its kind and what its record carries.
-use Prim.Native.Nat.{ℕ, _+_, _*_}
+use Prim.Native.Nat.{ℕ, _+_, _*_, _≤_, _<_}
 use mathlib.Core.List.{List}
+use lib.ListN.{length}
+use Rattle.wire.specs.Limits.{sideLimit}
+use Rattle.wire.specs.Bytes.{u16At}
 use Rattle.wire.specs.SheetFormat.{ClaimRecord, count, inside, apart, u16s}
 use Rattle.reading.specs.declared.claim.Lists.{Lists}
 use Rattle.reading.specs.declared.claim.Claim.{Claim}
@@ -24,3 +27,19 @@ abbrev pub claimRecord : List ℕ → Claim → ClaimRecord
 claimRecord s (claim.Count c) = count (c .name .0) (c .lo) (c .hi)
 claimRecord s (claim.Inside l) = inside (leftNames s l) (rightNames s l)
 claimRecord s (claim.Apart l) = apart (leftNames s l) (rightNames s l)
+
+-- two lists of names of a sheet with `names` names, each number from 1 to `names`
+pub record ListsHeld (s : List ℕ) (names : ℕ) (l : Lists) : Type 0 where
+  pub long : l .at + 2 * (l .m + l .n) ≤ length s
+  pub someLeft : 1 ≤ l .m
+  pub fewLeft : l .m ≤ sideLimit
+  pub someRight : 1 ≤ l .n
+  pub fewRight : l .n ≤ sideLimit
+  pub left : (j : ℕ) → j < l .m → (1 ≤ u16At s (l .at + 2 * j)) × (u16At s (l .at + 2 * j) ≤ names)
+  pub right : (j : ℕ) → j < l .n → (1 ≤ u16At s (l .at + 2 * l .m + 2 * j)) × (u16At s (l .at + 2 * l .m + 2 * j) ≤ names)
+
+-- a claim of a sheet with `names` names
+abbrev pub ClaimHeld : List ℕ → ℕ → Claim → Type 0
+ClaimHeld s names (claim.Count c) = (1 ≤ c .name .0) × (c .name .0 ≤ names)
+ClaimHeld s names (claim.Inside l) = ListsHeld s names l
+ClaimHeld s names (claim.Apart l) = ListsHeld s names l
