@@ -1,5 +1,6 @@
 pub mod Tables
 pub mod Meant
 pub mod ClaimHeld
+pub mod ClaimTable
 pub mod Answers
 pub mod Loaded
