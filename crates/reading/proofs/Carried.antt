@@ -17,9 +17,10 @@ use Rattle.wire.specs.Passing.{split, pass-of-refusal}
 use Rattle.wire.specs.Sorts.{length-u16s, claim-numbered, claim-cases, claim-count, claim-inside, claim-apart}
 use Rattle.reading.specs.Tables.{length-tabulate, getD-tabulate}
 use Rattle.reading.specs.Meant.{meantNumber}
-use Rattle.reading.specs.ClaimHeld.{claimRecord}
+use Rattle.reading.specs.ClaimHeld.{leftNames, rightNames, claimRecord}
 use Rattle.reading.specs.Answers.{headRecord, Value, head, group, name, claim, bytesFrom, recordAs, answerAs, refusalIn, Answered, WholeName}
 use Rattle.reading.specs.declared.tables.Meant.{Meant}
+use Rattle.reading.specs.declared.claim.Lists.{Lists}
 use Rattle.reading.specs.declared.claim.Claim.{Claim}
 use Rattle.reading.specs.declared.records.Head.{Head}
 use Rattle.reading.specs.declared.records.Group.{Group}
@@ -138,15 +139,25 @@ unfolding recordAs nameOf
 name-made s at n m k g e h = rw (k, g, label-from s at n e h)
 
 -- how many bytes the record of a claim has
-pub length-lists : (kind : ℕ) (l r : List ℕ) →
+length-lists : (kind : ℕ) (l r : List ℕ) →
     length (encodeRecord kind (le16s (length l ∷ length r ∷ l ++ r))) ≡ 8 + 2 * (length l + length r)
 unfolding encodeRecord le16
 length-lists kind l r = simp (length-le16s, length-append) (omega arith)
 
-pub claim-length : (names : ℕ) (b : List ℕ) → refusal (claimTests names [] b) ≡ 0 → length (encodeClaim (claimOf b)) ≡ u16At b 0 + 2
+pub lists-bytes : (s : List ℕ) (kind : ℕ) (l : Lists) →
+    length (encodeRecord kind (le16s (length (leftNames s l) ∷ length (rightNames s l) ∷ leftNames s l ++ rightNames s l)))
+    ≡ 8 + 2 * (l .m + l .n)
+lists-bytes s kind l = rw (length-lists kind (leftNames s l) (rightNames s l)) (simp length-u16s)
+
+claim-length : (names : ℕ) (b : List ℕ) → refusal (claimTests names [] b) ≡ 0 → length (encodeClaim (claimOf b)) ≡ u16At b 0 + 2
 unfolding encodeClaim
 claim-length names b e =
     claim-cases names [] b (pass-of-refusal 1 7 (claimTests names [] b) (claim-numbered names [] b) (omega arith) e)
     (λ k f. rw (claim-count b k) (unfold encodeRecord le16s le16 in omega arith))
     (λ k f. rw (claim-inside b k, length-lists 5 (leftOf b) (rightOf b)) (unfold leftOf rightOf in simp length-u16s (omega arith)))
     (λ k f. rw (claim-apart b k, length-lists 6 (leftOf b) (rightOf b)) (unfold leftOf rightOf in simp length-u16s (omega arith)))
+
+pub claim-bytes : (names : ℕ) {s : List ℕ} {at n : ℕ} {x : Record} {c : Claim} → Handed (claimTests names []) (λ b. claim (claimOf b)) s at x →
+    x ≡ record-of.Claim c → n ≡ length (encodeClaim (claimRecord s c)) → n ≡ u16At s at + 2
+claim-bytes names {s} {at} w e l =
+    l ∙ ap (λ r. length (encodeClaim r)) (claim-same w e) ∙ claim-length names (drop at s) (w .pass) ∙ ap (λ n. n + 2) (length-at s at)
