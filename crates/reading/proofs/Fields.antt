@@ -1,35 +1,21 @@
--- Laws of the bytes from a place on: their fields, the frame of a record there, and its answer.
+-- Laws of the bytes from a place on: their fields, the frame of a record there, and what its tests show.
 use Prim.Native.Nat.{ℕ, zero, suc, _+_, _-_, _*_, _≤_, _<_, zero-le}
 use mathlib.Core.Path.{_≡_, refl, sym, ap, _∙_}
-use mathlib.Core.Bool.{Bool, true, false, cond, not, _&&_, false≢true}
+use mathlib.Core.Bool.{Bool, true, false, cond, not, _&&_}
 use mathlib.Core.List.{List, [], _∷_}
 use native.Mathlib.Omega.{arith}
 use native.Mathlib.Nat.{add-zero, add-assoc}
-use borrow.Author.Tests.{leb-true, le-leb, eqb-true, eqb-false, ne-eqb}
+use borrow.Author.Tests.{leb-true, le-leb, eqb-true}
 use lib.ListN.{length, drop, length-drop}
 use lib.Seq.{getD-drop}
 use lib.Dec.{leb, eqb}
 use Rattle.wire.specs.Edition.{Edition, labelLimit}
 use Rattle.wire.specs.Bytes.{u16At}
 use Rattle.wire.specs.Record.{framed, Test, test, refusal}
-use Rattle.wire.specs.SheetFormat.{GroupRecord, NameRecord, ClaimRecord, u16s, groupOf}
+use Rattle.wire.specs.SheetFormat.{GroupRecord, NameRecord, ClaimRecord, u16s}
 use Rattle.wire.specs.SheetFormat.{groupTests, nameOf, nameTests, used, claimTests}
-use Rattle.reading.specs.Answers.{Framed, Whole, WholeName, answered, refusalOf, groupAt, nameAt, claimAt, claimBody}
-use Rattle.reading.specs.declared.records.Group.{Group}
-use Rattle.reading.specs.declared.records.Name.{Name}
-use Rattle.reading.specs.declared.records.Claim.{Claim}
-use Rattle.reading.specs.declared.records.Record.{Record}
-use Rattle.reading.specs.declared.records.Record.the-variants.{Group as grouped, Name as named, Claim as claimed}
-use Rattle.reading.specs.declared.records.Answer.{Answer}
-use Rattle.reading.specs.declared.records.Answer.the-variants.{Record as carried, Refused}
-
-pub split {ℓ} : {C : Type ℓ} (b : Bool) → (b ≡ true → C) → (b ≡ false → C) → C
-split true f g = f refl
-split false f g = g refl
-
-pub and-true : (a b : Bool) → a && b ≡ true → (a ≡ true) × (b ≡ true)
-and-true true b e = (refl, e)
-and-true false b e = absurd (false≢true e)
+pub use Rattle.wire.specs.Passing.{split, and-true}
+use Rattle.reading.specs.Answers.{Framed, Whole, WholeName, claimBody}
 
 pub field-at : (s : List ℕ) (at i : ℕ) → u16At (drop at s) i ≡ u16At s (at + i)
 unfolding u16At
@@ -118,33 +104,6 @@ pub sides-end : (m n len : ℕ) → (leb 1 m && leb m 8 && leb 1 n && leb n 8 &&
 sides-end m n len e =
     eqb-true (6 + 2 * (m + n)) len (and-true (leb 1 m && leb m 8 && leb 1 n && leb n 8) (eqb (6 + 2 * (m + n)) len) e .1)
 
--- the answer to a refusal's number
-pub answered-not : (n : ℕ) (x : Record) → (n ≡ 0 → ⊥) → answered n x ≡ Refused n
-unfolding answered
-answered-not n x h = rw (ne-eqb n 0 h)
-
--- what an answer says of the tests
-pub answered-carried : (n : ℕ) (x y : Record) → answered n x ≡ carried y → (n ≡ 0) × (x ≡ y)
-unfolding answered
-answered-carried n x y e =
-    split (eqb n 0)
-    (λ t. let z : carried x ≡ carried y = rw t at e in (eqb-true n 0 t, cc))
-    (λ t. let z : Refused n ≡ carried y = rw t at e in let w : _≡_ {A = ℕ} 0 1 = cc in absurd (omega arith))
-
-pub answered-refused : (n : ℕ) (x : Record) (k : ℕ) → answered n x ≡ Refused k → (n ≡ k) × (n ≡ 0 → ⊥)
-unfolding answered
-answered-refused n x k e =
-    split (eqb n 0)
-    (λ t. let z : carried x ≡ Refused k = rw t at e in let w : _≡_ {A = ℕ} 0 1 = cc in absurd (omega arith))
-    (λ t. let z : Refused n ≡ Refused k = rw t at e in (cc, eqb-false n 0 t))
-
-pub stopped : (n : ℕ) (x : Record) (a : Answer) (k r : ℕ) → a ≡ answered n x → a ≡ Refused k → r ≡ refusalOf a →
-    (n ≡ r) × (r ≡ 0 → ⊥)
-stopped n x a k r e f g =
-    let z = answered-refused n x k (sym e ∙ f) in
-    let w : r ≡ k = g ∙ ap refusalOf f in
-    (z .0 ∙ sym w, λ y. z .1 (z .0 ∙ sym w ∙ y))
-
 -- what a record that passed its tests shows
 pub passes : (n : ℕ) (ok : Bool) (ts : List Test) → refusal (test n ok ∷ ts) ≡ 0 → (n ≡ 0 → ⊥) → (ok ≡ true) × (refusal ts ≡ 0)
 unfolding refusal
@@ -165,14 +124,14 @@ group-whole s at gs e =
 pub name-whole : (e : Edition) (s : List ℕ) (at groups : ℕ) (ns : List NameRecord) → refusal (nameTests e groups ns (drop at s)) ≡ 0 →
     WholeName s at × (u16At s at ≤ labelLimit e + 4)
 unfolding nameTests
-name-whole e s at groups ns p =
-    let f = passes _ _ _ p (λ z. omega arith) in
+name-whole e s at groups ns w =
+    let f = passes _ _ _ w (λ z. omega arith) in
     let k = passes _ _ _ (f .1) (λ z. omega arith) in
     let l = passes _ _ _ (k .1) (λ z. omega arith) in
     let g = frame-of s at (f .0) in
     let y = and-true (leb 5 (u16At (drop at s) 0)) (leb (u16At (drop at s) 0) (labelLimit e + 4)) (l .0) in
-    let q = leb-true 5 (u16At (drop at s) 0) (y .0) in
-    let r = leb-true (u16At (drop at s) 0) (labelLimit e + 4) (y .1) in
+    let p = leb-true 5 (u16At (drop at s) 0) (y .0) in
+    let q = leb-true (u16At (drop at s) 0) (labelLimit e + 4) (y .1) in
     let z = length-at s at in
     (record { least = omega arith; room = omega arith }, omega arith)
 
@@ -200,27 +159,3 @@ pub name-apart : (e : Edition) (groups : ℕ) (ns : List NameRecord) (b : List �
     ≡ cond (eqb (refusal (nameTests e groups [] b)) 0) (cond (used ns (nameOf b .label)) 6 0) (refusal (nameTests e groups [] b))
 unfolding nameTests used
 name-apart e groups ns b = last-apart _ _ _ _ _ (used ns (nameOf b .label))
-
--- the records that the answers carry are those of the format
-pub group-same : (s : List ℕ) (at : ℕ) (g : Group) → grouped g ≡ groupAt s at →
-    record { parent = g .parent; lo = g .lo; hi = g .hi; mode = g .mode } ≡ groupOf (drop at s)
-unfolding groupAt groupOf
-group-same s at g e =
-    let z : g ≡ record {
-      parent = u16At s (at + 4);
-      lo = u16At s (at + 6);
-      hi = u16At s (at + 8);
-      mode = u16At s (at + 10);
-    } = cc in
-    rw z (simp field-at)
-
-pub name-same : (s : List ℕ) (at : ℕ) (n : Name) → nameAt s at ≡ named n →
-    (n .group ≡ nameOf (drop at s) .group) × (n .len ≡ u16At s at)
-unfolding nameAt nameOf
-name-same s at n e =
-    let z : n ≡ record { group = u16At s (at + 4); at = at; len = u16At s at } = cc in
-    (ap (λ x. x .group) z ∙ sym (field-at s at 4), ap (λ x. x .len) z)
-
-pub claim-same : (s : List ℕ) (at : ℕ) (n : Claim) → claimAt s at ≡ claimed n → n .len ≡ u16At s at
-unfolding claimAt
-claim-same s at n e = let z : n ≡ record { at = at; len = u16At s at } = cc in ap (λ x. x .len) z

@@ -1,6 +1,6 @@
 -- Laws of reading many records of one sort: what is left from a place on, and what the tables hold after one more.
 use Prim.Native.Nat.{ℕ, zero, suc, _+_, _-_, _*_, _≤_, _<_}
-use mathlib.Core.Path.{_≡_, refl, sym, _∙_}
+use mathlib.Core.Path.{_≡_, refl, sym, ap, _∙_}
 use mathlib.Core.Bool.{true, false}
 use mathlib.Core.List.{List, [], _∷_, _++_}
 use mathlib.Core.Logic.{⊎-elim}
@@ -11,17 +11,29 @@ use borrow.Author.Tests.{ne-eqb}
 use lib.ListN.{length, getD, drop, set, length-set}
 use lib.Seq.{drop-drop, sets, getD-set-same, getD-set-other}
 use Rattle.wire.specs.Bytes.{u16At}
-use Rattle.wire.specs.Record.{after, Test, refusal, Reading, onward}
 use Rattle.wire.specs.Edition.{Edition}
+use Rattle.wire.specs.Record.{after, Test, refusal, Reading, read, refused, onward}
 use Rattle.wire.specs.SheetFormat.{GroupRecord, NameRecord, Records, groupOf, groupTests, nameOf}
 use Rattle.wire.specs.SheetFormat.{nameTests, used, claimOf, claimTests, readMany}
-use Rattle.reading.specs.Tables.{groupsIn, groupIn}
-use Rattle.reading.specs.Answers.{groupAt}
-use Rattle.reading.specs.Loaded.{recordsIn, AllGrouped, Goes}
+use Rattle.wire.specs.Encoding.{encodeClaim}
+use Rattle.reading.specs.Tables.{tabulate, tabulate-same, groupIn, groupsIn}
+use Rattle.reading.specs.ClaimHeld.{claimRecord, ClaimHeld}
+use Rattle.reading.specs.ClaimTable.{claimNumbers, claimPlace, claimIn, claimsIn, ClaimRoom, ClaimPut}
+use Rattle.reading.specs.Answers.{group, name, claim, WholeName}
+use Rattle.reading.specs.Loaded.{goesOn, passedAs, recordsIn, AllPass, AllGrouped, AllHeld, Goes}
 use Rattle.reading.specs.declared.load.Passed.the-variants.{To, Refused}
+use Rattle.reading.specs.declared.claim.Claim.{Claim}
+use Rattle.reading.specs.declared.claim.Claim.the-variants as claim-of
 use Rattle.reading.specs.declared.records.Group.{Group}
-use Rattle.reading.specs.declared.records.Record.the-variants.{Group as grouped}
-use Rattle.reading.proofs.Fields.{length-at, group-whole, group-same, name-apart}
+use Rattle.reading.specs.declared.records.Name.{Name}
+use Rattle.reading.specs.declared.records.Record.{Record}
+use Rattle.reading.specs.declared.records.Record.the-variants as record-of
+use Rattle.reading.proofs.Fields.{length-at, group-whole, name-apart}
+use Rattle.reading.proofs.Carried.{Handed, group-same, name-same, claim-same, claim-bytes}
+
+-- a refusal is no value
+pub never-read : {A C : Type 0} {n r : ℕ} {a : A} → refused n r ≡ read a → C
+never-read e = let z : _≡_ {A = ℕ} 0 1 = cc in absurd (omega arith)
 
 -- i of the records are the list xs, and reading what is left from the place `at` on is reading the whole
 pub record Left {A : Type 0} (tests : List A → List ℕ → List Test) (value : List ℕ → A) (s : List ℕ) (from count first i at : ℕ)
@@ -57,62 +69,59 @@ module _ {A : Type 0} (tests : List A → List ℕ → List Test) (value : List 
 
     pub left-stop : (n : ℕ) (ys : List A) → refusal (tests xs (drop at s)) ≡ n → (n ≡ 0 → ⊥) →
         Goes tests value s from count first (Refused n (first + i)) ys
-    unfolding onward
-    left-stop n ys e z = record { goes = λ rest. (rw (e, ne-eqb n 0 z) at (sym (one rest))) ∙ left .same rest; room = tt }
+    unfolding onward goesOn passedAs
+    left-stop n ys e z = record {
+      goes = λ rest. (rw (e, ne-eqb n 0 z) at (sym (one rest))) ∙ left .same rest;
+      room = λ a f. never-read f;
+    }
 
   pub left-done : (i at : ℕ) (xs : List A) → Left tests value s from count first i at xs → i ≡ count → at ≤ length s →
       Goes tests value s from count first (To at) xs
-  unfolding readMany
+  unfolding readMany goesOn passedAs
   left-done i at xs left e l = record {
     goes = λ rest. (let z : count - i ≡ 0 = omega arith in rw (z, e) at (left .same rest));
-    room = l;
+    room = λ a f. let z : at ≡ a = cc in omega arith;
   }
 
--- the records whose places are in a table
-module _ {A : Type 0} (value : List ℕ → A) (s places : List ℕ) where
-  records-kept : (n m x : ℕ) → m ≤ n → recordsIn value s (set places n x) m ≡ recordsIn value s places m
-  unfolding recordsIn
-  records-kept n zero x h = refl
-  records-kept n (suc m) x h =
-      rw (records-kept n m x (omega arith), getD-set-other places n m x 0 (omega arith))
+-- one more entry of a table
+tabulate-more : {A : Type 0} (f g : ℕ → A) (n : ℕ) (x : A) → ((i : ℕ) → i < n → f i ≡ g i) → f n ≡ x →
+    tabulate f (n + 1) ≡ tabulate g n ++ (x ∷ [])
+tabulate-more f g n x h e = rw (add-one, tabulate-same f g n h, e)
 
-  pub records-more : (n x : ℕ) → n < length places →
-      recordsIn value s (set places n x) (n + 1) ≡ recordsIn value s places n ++ (value (drop x s) ∷ [])
-  unfolding recordsIn
-  records-more n x h = rw (add-one, records-kept n n x (omega arith), getD-set-same places n x 0 h)
-
--- what holds of each number of a table holds of one more
-pub each-more : (P : ℕ → Type 0) (l : List ℕ) (n x : ℕ) → n < length l → ((i : ℕ) → i < n → P (getD l i 0)) → P x →
-    (i : ℕ) → i < n + 1 → P (getD (set l n x) i 0)
-each-more P l n x h before here i k =
-    ⊎-elim
-    (λ (e : suc i ≡ n + 1). let same : i ≡ n = omega arith in rw (same, getD-set-same l n x 0 h) here)
-    (λ (m : suc i < n + 1). rw (getD-set-other l n i x 0 (omega arith)) (before i (omega arith)))
+-- what holds of each of the first n entries holds of one more
+pub each-more : (P Q : ℕ → Type 0) (n : ℕ) → ((i : ℕ) → i < n → P i) → ((i : ℕ) → i < n → P i → Q i) → Q n →
+    (i : ℕ) → i < n + 1 → Q i
+each-more P Q n before kept here i k =
+    ⊎-elim (λ (e : suc i ≡ n + 1). let same : i ≡ n = omega arith in rw same here)
+    (λ (m : suc i < n + 1). kept i (omega arith) (before i (omega arith)))
     (eq-or-lt-of-le k)
 
-pub grouped-more : (s names places : List ℕ) (n x at : ℕ) → n < length names → n < length places →
-    AllGrouped s names places n → x ≡ nameOf (drop at s) .group → AllGrouped s (set names n x) (set places n at) (n + 1)
-grouped-more s names places n x at h k before here i l =
-    ⊎-elim
-    (λ (e : suc i ≡ n + 1). let same : i ≡ n = omega arith in
-    rw (same, getD-set-same names n x 0 h, getD-set-same places n at 0 k) here)
-    (λ (m : suc i < n + 1). rw (getD-set-other names n i x 0 (omega arith), getD-set-other places n i at 0 (omega arith))
-    (before i (omega arith)))
-    (eq-or-lt-of-le l)
+-- the records whose places are in a table
+module _ (s places : List ℕ) (n x : ℕ) (h : n < length places) where
+  place-kept : (i : ℕ) → i < n → getD (set places n x) i 0 ≡ getD places i 0
+  place-kept i l = getD-set-other places n i x 0 (omega arith)
 
--- the groups of a table depend on its first numbers alone
-groups-kept : (t u : List ℕ) (n : ℕ) → ((i : ℕ) → i < 4 * n → getD t i 0 ≡ getD u i 0) → groupsIn t n ≡ groupsIn u n
-unfolding groupsIn
-groups-kept t u zero h = refl
-groups-kept t u (suc n) h =
-    rw (
-      groups-kept t u n (λ i k. h i (omega arith)),
-      h (4 * n) (omega arith),
-      h (4 * n + 1) (omega arith),
-      h (4 * n + 2) (omega arith),
-      h (4 * n + 3) (omega arith),
-    )
+  place-put : getD (set places n x) n 0 ≡ x
+  place-put = getD-set-same places n x 0 h
 
+  pub records-more : {A : Type 0} (value : List ℕ → A) →
+      recordsIn value s (set places n x) (n + 1) ≡ recordsIn value s places n ++ (value (drop x s) ∷ [])
+  unfolding recordsIn
+  records-more value =
+      tabulate-more _ _ n _ (λ i l. ap (λ p. value (drop p s)) (place-kept i l)) (ap (λ p. value (drop p s)) place-put)
+
+  pub pass-more : (tests : List ℕ → List Test) → AllPass tests s places n → refusal (tests (drop x s)) ≡ 0 →
+      AllPass tests s (set places n x) (n + 1)
+  pass-more tests before here =
+      each-more _ _ n before (λ i l e. rw (place-kept i l) e) (rw place-put here)
+
+  pub grouped-more : (names : List ℕ) (g : ℕ) → n < length names → AllGrouped s names places n → g ≡ nameOf (drop x s) .group →
+      AllGrouped s (set names n g) (set places n x) (n + 1)
+  grouped-more names g k before here =
+      each-more _ _ n before (λ i l e. rw (place-kept i l, getD-set-other names n i g 0 (omega arith)) e)
+      (rw (place-put, getD-set-same names n g 0 k) here)
+
+-- a run of stores in a table
 sets-below : (vs t : List ℕ) (k i : ℕ) → i < k → getD (sets t k vs) i 0 ≡ getD t i 0
 sets-below [] t k i h = refl
 sets-below (v ∷ vs) t k i h = sets-below vs (set t k v) (suc k) i (omega arith) ∙ getD-set-other t k i v 0 (omega arith)
@@ -125,65 +134,122 @@ sets-at (v ∷ vs) t k (suc j) h l =
     let e : k + suc j ≡ suc k + j = omega arith in
     rw e (sets-at vs (set t k v) (suc k) j (simp length-set (omega arith)) (omega arith))
 
-module _ (t : List ℕ) (n : ℕ) (g : GroupRecord) (h : 4 * n + 3 < length t) where
-  put : List ℕ
-  put = sets t (4 * n) (g .parent ∷ g .lo ∷ g .hi ∷ g .mode ∷ [])
+-- four numbers of a table's entry
+record Four (t : List ℕ) (i a b c d : ℕ) : Type 0 where
+  pub first : getD t (4 * i) 0 ≡ a
+  pub second : getD t (4 * i + 1) 0 ≡ b
+  pub third : getD t (4 * i + 2) 0 ≡ c
+  pub fourth : getD t (4 * i + 3) 0 ≡ d
 
-  put-at : (j : ℕ) → j < 4 → getD put (4 * n + j) 0 ≡ getD (g .parent ∷ g .lo ∷ g .hi ∷ g .mode ∷ []) j 0
-  unfolding put
-  put-at j l = sets-at (g .parent ∷ g .lo ∷ g .hi ∷ g .mode ∷ []) t (4 * n) j (omega arith) l
+four-put : (t : List ℕ) (n a b c d : ℕ) → 4 * n + 3 < length t → Four (sets t (4 * n) (a ∷ b ∷ c ∷ d ∷ [])) n a b c d
+four-put t n a b c d h = record {
+  first = rw add-zero at (sets-at (a ∷ b ∷ c ∷ d ∷ []) t (4 * n) 0 (omega arith) (omega arith));
+  second = sets-at (a ∷ b ∷ c ∷ d ∷ []) t (4 * n) 1 (omega arith) (omega arith);
+  third = sets-at (a ∷ b ∷ c ∷ d ∷ []) t (4 * n) 2 (omega arith) (omega arith);
+  fourth = sets-at (a ∷ b ∷ c ∷ d ∷ []) t (4 * n) 3 (omega arith) (omega arith);
+}
 
-  group-put : groupIn put n ≡ g
-  group-put =
-      let z : getD put (4 * n) 0 ≡ g .parent = rw add-zero at (put-at 0 (omega arith)) in
-      rw (z, put-at 1 (omega arith), put-at 2 (omega arith), put-at 3 (omega arith))
+four-kept : (t vs : List ℕ) (n i : ℕ) → i < n →
+    Four (sets t (4 * n) vs) i (getD t (4 * i) 0) (getD t (4 * i + 1) 0) (getD t (4 * i + 2) 0) (getD t (4 * i + 3) 0)
+four-kept t vs n i l = record {
+  first = sets-below vs t (4 * n) (4 * i) (omega arith);
+  second = sets-below vs t (4 * n) (4 * i + 1) (omega arith);
+  third = sets-below vs t (4 * n) (4 * i + 2) (omega arith);
+  fourth = sets-below vs t (4 * n) (4 * i + 3) (omega arith);
+}
 
-  pub groups-more : groupsIn (sets t (4 * n) (g .parent ∷ g .lo ∷ g .hi ∷ g .mode ∷ [])) (n + 1) ≡ groupsIn t n ++ (g ∷ [])
-  unfolding groupsIn put
-  groups-more =
-      rw (add-one, groups-kept put t n (λ i k. sets-below (g .parent ∷ g .lo ∷ g .hi ∷ g .mode ∷ []) t (4 * n) i k), group-put)
+-- the groups
+groups-more : (t : List ℕ) (n : ℕ) (g : GroupRecord) → 4 * n + 3 < length t →
+    groupsIn (sets t (4 * n) (g .parent ∷ g .lo ∷ g .hi ∷ g .mode ∷ [])) (n + 1) ≡ groupsIn t n ++ (g ∷ [])
+unfolding groupsIn
+groups-more t n g h =
+    tabulate-more _ _ n g
+    (λ i l. let f = four-kept t (g .parent ∷ g .lo ∷ g .hi ∷ g .mode ∷ []) n i l in rw (f .first, f .second, f .third, f .fourth))
+    (let f = four-put t n (g .parent) (g .lo) (g .hi) (g .mode) h in rw (f .first, f .second, f .third, f .fourth))
+
+-- the claims
+claim-put : (claims places : List ℕ) (n : ℕ) (c : Claim) → ClaimRoom claims places n →
+    claimIn (sets claims (4 * n) (claimNumbers c)) (set places n (claimPlace c)) n ≡ c
+unfolding claimIn
+claim-put claims places n (claim-of.Count c) h =
+    let f = four-put claims n 4 (c .name .0) (c .lo) (c .hi) (h .numbers) in rw (f .first, f .second, f .third, f .fourth)
+claim-put claims places n (claim-of.Inside l) h =
+    let f = four-put claims n 5 (l .m) (l .n) 0 (h .numbers) in
+    rw (f .first, f .second, f .third, getD-set-same places n (l .at) 0 (h .place))
+claim-put claims places n (claim-of.Apart l) h =
+    let f = four-put claims n 6 (l .m) (l .n) 0 (h .numbers) in
+    rw (f .first, f .second, f .third, getD-set-same places n (l .at) 0 (h .place))
+
+module _ {claims places claims-put places-put : List ℕ} {n : ℕ} {c : Claim} (h : ClaimRoom claims places n)
+    (w : ClaimPut claims places n c claims-put places-put) where
+  claim-kept : (i : ℕ) → i < n → claimIn claims-put places-put i ≡ claimIn claims places i
+  unfolding claimIn
+  claim-kept i l =
+      let f = four-kept claims (claimNumbers c) n i l in
+      rw (
+        w .numbers,
+        w .place,
+        f .first,
+        f .second,
+        f .third,
+        f .fourth,
+        getD-set-other places n i (claimPlace c) 0 (omega arith),
+      )
+
+  claim-here : claimIn claims-put places-put n ≡ c
+  claim-here = rw (w .numbers, w .place) (claim-put claims places n c h)
+
+  pub claims-more : (s : List ℕ) → claimsIn s claims-put places-put (n + 1) ≡ claimsIn s claims places n ++ (claimRecord s c ∷ [])
+  unfolding claimsIn
+  claims-more s = tabulate-more _ _ n _ (λ i l. ap (claimRecord s) (claim-kept i l)) (ap (claimRecord s) claim-here)
+
+  pub held-more : (s : List ℕ) (names : ℕ) → AllHeld s names claims places n → ClaimHeld s names c →
+      AllHeld s names claims-put places-put (n + 1)
+  held-more s names before here = each-more _ _ n before (λ i l e. rw (claim-kept i l) e) (rw claim-here here)
 
 -- a name's tests, its label's use set apart
-pub name-alone : (e : Edition) (groups n : ℕ) (ns : List NameRecord) (b : List ℕ) → refusal (nameTests e groups [] b) ≡ n → (n ≡ 0 → ⊥) →
-    refusal (nameTests e groups ns b) ≡ n
-name-alone e groups n ns b p h = rw (name-apart e groups ns b, p, ne-eqb n 0 h)
+pub name-alone : (v : Edition) (groups n : ℕ) (ns : List NameRecord) (b : List ℕ) → refusal (nameTests v groups [] b) ≡ n → (n ≡ 0 → ⊥) →
+    refusal (nameTests v groups ns b) ≡ n
+name-alone v groups n ns b e h = rw (name-apart v groups ns b, e, ne-eqb n 0 h)
 
-pub name-used : (e : Edition) (groups : ℕ) (ns : List NameRecord) (b : List ℕ) → refusal (nameTests e groups [] b) ≡ 0 →
-    used ns (nameOf b .label) ≡ true → refusal (nameTests e groups ns b) ≡ 6
-name-used e groups ns b p f = rw (name-apart e groups ns b, p, f)
+pub name-used : (v : Edition) (groups : ℕ) (ns : List NameRecord) (b : List ℕ) → refusal (nameTests v groups [] b) ≡ 0 →
+    used ns (nameOf b .label) ≡ true → refusal (nameTests v groups ns b) ≡ 6
+name-used v groups ns b e f = rw (name-apart v groups ns b, e, f)
 
 -- one more group, name or claim, as the loops store it
-pub group-again : (s t u : List ℕ) (from count i at : ℕ) (g : Group) →
-    Left groupTests groupOf s from count 2 i at (groupsIn t i) →
-    i < count → 4 * i + 3 < length t → refusal (groupTests (groupsIn t i) (drop at s)) ≡ 0 → groupAt s at ≡ grouped g →
-    u ≡ sets t (4 * i) (g .parent ∷ g .lo ∷ g .hi ∷ g .mode ∷ []) →
+pub group-again : {s : List ℕ} (t : List ℕ) {u : List ℕ} {from count i at : ℕ} {x : Record} {g : Group} →
+    Left groupTests groupOf s from count 2 i at (groupsIn t i) → i < count → 4 * i + 3 < length t →
+    Handed (groupTests (groupsIn t i)) (λ b. group (groupOf b)) s at x → x ≡ record-of.Group g →
+    u ≡ sets t (4 * i) (g .parent .0 ∷ g .lo ∷ g .hi ∷ g .mode ∷ []) →
     Left groupTests groupOf s from count 2 (i + 1) (at + 12) (groupsIn u (i + 1))
-group-again s t u from count i at g left h room e f put =
-    let w = group-whole s at (groupsIn t i) e in
-    let r : GroupRecord = record { parent = g .parent; lo = g .lo; hi = g .hi; mode = g .mode } in
-    let same : r ≡ groupOf (drop at s) = group-same s at g (sym f) in
-    rw (put, groups-more t i r room, same) (left-more groupTests groupOf s from count 2 i at (groupsIn t i) left h 12 e
+group-again {s} t {u} {from} {count} {i} {at} {x} {g} left h room w e put =
+    let l = group-whole s at (groupsIn t i) (w .pass) in
+    let r : GroupRecord = record { parent = g .parent .0; lo = g .lo; hi = g .hi; mode = g .mode } in
+    rw (put, groups-more t i r room, group-same w e)
+    (left-more groupTests groupOf s from count 2 i at (groupsIn t i) left h 12 (w .pass) (omega arith))
+
+pub name-again : {s : List ℕ} (places : List ℕ) (v : Edition) (groups : ℕ) {from count i at : ℕ} {x : Record} {n : Name} →
+    Left (nameTests v groups) nameOf s from count (2 + groups) i at (recordsIn nameOf s places i) → i < count → i < length places →
+    Handed (nameTests v groups []) (λ b. name (nameOf b)) s at x → x ≡ record-of.Name n → WholeName s at →
+    used (recordsIn nameOf s places i) (nameOf (drop at s) .label) ≡ false →
+    Left (nameTests v groups) nameOf s from count (2 + groups) (i + 1) (at + 6 + n .bytes) (recordsIn nameOf s (set places i at) (i + 1))
+name-again {s} places v groups {from} {count} {i} {at} {x} {n} left h room w e k f =
+    let z : refusal (nameTests v groups (recordsIn nameOf s places i) (drop at s)) ≡ 0 =
+    rw (name-apart v groups (recordsIn nameOf s places i) (drop at s), w .pass, f) in
+    let y = name-same w e k .1 in
+    let p : at + 6 + n .bytes ≡ at + (6 + n .bytes) = omega arith in
+    rw (p, records-more s places i at room nameOf)
+    (left-more (nameTests v groups) nameOf s from count (2 + groups) i at (recordsIn nameOf s places i) left h (6 + n .bytes) z
     (omega arith))
 
-pub name-again : (e : Edition) (s names places : List ℕ) (from count groups i at len : ℕ) →
-    Left (nameTests e groups) nameOf s from count (2 + groups) i at (recordsIn nameOf s places i) →
-    i < count → i < length places → refusal (nameTests e groups [] (drop at s)) ≡ 0 →
-    used (recordsIn nameOf s places i) (nameOf (drop at s) .label) ≡ false → len ≡ u16At s at →
-    Left (nameTests e groups) nameOf s from count (2 + groups) (i + 1) (at + len + 2) (recordsIn nameOf s (set places i at) (i + 1))
-name-again e s names places from count groups i at len left h room p f l =
-    let z : refusal (nameTests e groups (recordsIn nameOf s places i) (drop at s))
-    ≡ 0 = rw (name-apart e groups (recordsIn nameOf s places i) (drop at s), p, f) in
-    let q : at + len + 2 ≡ at + (len + 2) = omega arith in
-    rw (q, records-more nameOf s places i at room)
-    (left-more (nameTests e groups) nameOf s from count (2 + groups) i at (recordsIn nameOf s places i) left h (len + 2) z
-    (omega arith))
-
-pub claim-again : (s places : List ℕ) (from count names first i at len : ℕ) →
-    Left (claimTests names) claimOf s from count first i at (recordsIn claimOf s places i) →
-    i < count → i < length places → refusal (claimTests names [] (drop at s)) ≡ 0 → len ≡ u16At s at →
-    Left (claimTests names) claimOf s from count first (i + 1) (at + len + 2) (recordsIn claimOf s (set places i at) (i + 1))
+pub claim-again : (names : ℕ) {s claims places claims-put places-put : List ℕ} {from count first i at bytes : ℕ} {x : Record}
+    {c : Claim} →
+    Left (claimTests names) claimOf s from count first i at (claimsIn s claims places i) → i < count → ClaimRoom claims places i →
+    Handed (claimTests names []) (λ b. claim (claimOf b)) s at x → x ≡ record-of.Claim c →
+    ClaimPut claims places i c claims-put places-put → bytes ≡ length (encodeClaim (claimRecord s c)) →
+    Left (claimTests names) claimOf s from count first (i + 1) (at + bytes) (claimsIn s claims-put places-put (i + 1))
 unfolding claimTests
-claim-again s places from count names first i at len left h room e l =
-    let p : at + len + 2 ≡ at + (len + 2) = omega arith in
-    rw (p, records-more claimOf s places i at room)
-    (left-more (claimTests names) claimOf s from count first i at (recordsIn claimOf s places i) left h (len + 2) e (omega arith))
+claim-again names {s} {claims} {places} {from = from} {count} {first} {i} {at} {bytes} left h room w e put b =
+    rw (claims-more room put s, claim-same w e)
+    (left-more (claimTests names) claimOf s from count first i at (claimsIn s claims places i) left h bytes (w .pass)
+    (sym (claim-bytes names w e b)))

@@ -3,42 +3,56 @@ use Prim.Native.Nat.{ℕ, _+_, _-_, _≤_}
 use mathlib.Core.Path.{_≡_}
 use mathlib.Core.Bool.{cond}
 use mathlib.Core.List.{List, [], _∷_}
-use lib.ListN.{length, drop}
-use lib.Dec.{eqb}
+use lib.ListN.{length, getD, drop}
 use Rattle.wire.specs.Bytes.{u16At}
-use Rattle.wire.specs.Record.{lengthOf, framed, Test, test}
-use Rattle.wire.specs.SheetFormat.{claimLength, claimFields, claimNames}
+use Rattle.wire.specs.Edition.{editionOf}
+use Rattle.wire.specs.Record.{lengthOf, kindOf, framed, Test, test, refusal, Reading, read, refused, onward}
+use Rattle.wire.specs.SheetFormat.{HeadRecord, GroupRecord, NameRecord, ClaimRecord}
+use Rattle.wire.specs.SheetFormat.{claimLength, claimFields, claimNames, claimTests, claimOf}
+use Rattle.reading.specs.Tables.{tabulate}
+use Rattle.reading.specs.Meant.{meantNumber}
+use Rattle.reading.specs.ClaimHeld.{claimKind, claimRecord, ClaimHeld}
+use Rattle.reading.specs.declared.claim.Claim.{Claim}
+use Rattle.reading.specs.declared.records.Head.{Head}
 use Rattle.reading.specs.declared.records.Record.{Record}
-use Rattle.reading.specs.declared.records.Record.the-variants.{Head, Group, Name, Claim}
+use Rattle.reading.specs.declared.records.Record.the-variants as record-of
 use Rattle.reading.specs.declared.records.Answer.{Answer}
-use Rattle.reading.specs.declared.records.Answer.the-variants.{Record as carried, Refused}
+use Rattle.reading.specs.declared.records.Answer.the-variants as answer
 
--- a refusal's number, 0 for a record
-abbrev pub refusalOf : Answer → ℕ
-refusalOf (carried x) = 0
-refusalOf (Refused n) = n
+-- what a record carries: document 01, "Records of a sheet"
+pub data Value : Type 0 where
+  head : HeadRecord → Value
+  group : GroupRecord → Value
+  name : NameRecord → Value
+  claim : ClaimRecord → Value
 
--- the record where no test failed, else the refusal
-unfoldable pub answered : ℕ → Record → Answer
-answered n x = cond (eqb n 0) (carried x) (Refused n)
+abbrev pub headRecord : Head → HeadRecord
+headRecord h = record { edition = editionOf (h .edition); groups = h .groups; names = h .names; claims = h .claims }
 
--- the records at a place, a name and a claim with their place and length
-unfoldable pub headAt : List ℕ → ℕ → Record
-headAt s at = Head (record { edition = u16At s (at + 4); groups = u16At s (at + 6); names = u16At s (at + 8); claims = u16At s (at + 10) })
+-- the n bytes from a place on
+unfoldable pub bytesFrom : List ℕ → ℕ → ℕ → List ℕ
+bytesFrom s at n = tabulate (λ i. getD s (at + i) 0) n
 
-unfoldable pub groupAt : List ℕ → ℕ → Record
-groupAt s at = Group (record {
-  parent = u16At s (at + 4);
-  lo = u16At s (at + 6);
-  hi = u16At s (at + 8);
-  mode = u16At s (at + 10);
-})
+-- the kind of a record and what it carries; it stands at a place of the bytes s, and there is the label of a name
+unfoldable pub recordAs : List ℕ → ℕ → Record → ℕ × Value
+recordAs s at (record-of.Head h) = (1, head (headRecord h))
+recordAs s at (record-of.Group g) = (2, group (record { parent = g .parent .0; lo = g .lo; hi = g .hi; mode = g .mode }))
+recordAs s at (record-of.Name n) = (3, name (record { group = meantNumber (n .means); label = bytesFrom s (at + 6) (n .bytes) }))
+recordAs s at (record-of.Claim c) = (claimKind c, claim (claimRecord s c))
 
-unfoldable pub nameAt : List ℕ → ℕ → Record
-nameAt s at = Name (record { group = u16At s (at + 4); at = at; len = u16At s at })
+-- the answer on the record numbered k: the record, or the number of its refusal with k
+unfoldable pub answerAs : List ℕ → ℕ → ℕ → Answer → Reading (ℕ × Value)
+answerAs s at k (answer.Record x) = read (recordAs s at x)
+answerAs s at k (answer.Refused n) = refused n k
 
-unfoldable pub claimAt : List ℕ → ℕ → Record
-claimAt s at = Claim (record { at = at; len = u16At s at })
+-- the number of a refusal, 0 where something was read
+unfoldable pub refusalIn : {A : Type 0} → Reading A → ℕ
+refusalIn (read x) = 0
+refusalIn (refused n r) = n
+
+-- r is what these tests give of the record at a place: the first that fails, or the kind that stands there with the value
+pub record Answered (tests : List ℕ → List Test) (value : List ℕ → Value) (s : List ℕ) (at : ℕ) (r : Answer) : Type 0 where
+  pub says : (k : ℕ) → answerAs s at k r ≡ onward (refusal (tests (drop at s))) k (read (kindOf (drop at s), value (drop at s)))
 
 -- len is the length of the record at a place, 0 where there is none; the record ends within the bytes
 pub record Framed (s : List ℕ) (at len : ℕ) : Type 0 where
@@ -59,3 +73,13 @@ pub record WholeName (s : List ℕ) (at : ℕ) : Type 0 where
 -- the tests of a claim after its frame and kind
 unfoldable pub claimBody : ℕ → List ℕ → List Test
 claimBody names b = test 3 (claimLength b) ∷ test 4 (claimFields b) ∷ test 5 (claimNames names b) ∷ []
+
+-- c is the claim of the record at a place
+pub record ClaimTaken (s : List ℕ) (at : ℕ) (c : Claim) : Type 0 where
+  pub says : recordAs s at (record-of.Claim c) ≡ (kindOf (drop at s), claim (claimOf (drop at s)))
+  pub held : (names : ℕ) → refusal (claimTests names [] (drop at s)) ≡ 0 → ClaimHeld s names c
+
+-- r answers on the claim at a place, in a sheet of `names` names
+pub record ClaimAnswered (names : ℕ) (s : List ℕ) (at : ℕ) (r : Answer) : Type 0 where
+  pub answers : Answered (claimTests names []) (λ b. claim (claimOf b)) s at r
+  pub held : (c : Claim) → r ≡ answer.Record (record-of.Claim c) → ClaimHeld s names c

@@ -2,5 +2,6 @@ pub mod Tables
 pub mod SheetIn
 pub mod Meant
 pub mod ClaimHeld
+pub mod ClaimTable
 pub mod Answers
 pub mod Loaded

@@ -1,23 +1,54 @@
 -- What loading a sheet gives: the written reading of its bytes, as the tables hold it, or the refusal.
-use Prim.Native.Nat.{ℕ, zero, suc, _+_, _*_, _≤_, _<_}
-use mathlib.Core.Path.{_≡_}
-use mathlib.Core.List.{List, [], _∷_, _++_}
+use Prim.Native.Nat.{ℕ, _+_, _-_, _*_, _≤_, _<_}
+use mathlib.Core.Path.{_≡_, sym}
+use mathlib.Core.List.{List, []}
 use lib.ListN.{length, getD, drop}
 use Rattle.wire.specs.Limits.{groupCapacity, nameLimit, claimLimit}
-use Rattle.wire.specs.Edition.{Edition, editionOf}
+use Rattle.wire.specs.Edition.{Edition}
 use Rattle.wire.specs.Record.{Test, refusal, Reading, read, refused}
 use Rattle.wire.specs.SheetFormat.{HeadRecord, Records, nameOf, nameTests, claimOf, claimTests, readMany}
-use Rattle.reading.specs.Tables.{groupFields, groupsIn}
+use Rattle.meaning.specs.OfRecords.{nameGroup}
+use Rattle.reading.specs.Tables.{tabulate, length-tabulate, getD-tabulate, groupFields, groupsIn}
+use Rattle.reading.specs.ClaimHeld.{ClaimHeld}
+use Rattle.reading.specs.ClaimTable.{claimSlots, claimIn, claimsIn}
+use Rattle.reading.specs.Answers.{headRecord}
 use Rattle.reading.specs.declared.records.Head.{Head}
 use Rattle.reading.specs.declared.load.Passed.{Passed}
-use Rattle.reading.specs.declared.load.Passed.the-variants.{To, Refused as turned}
+use Rattle.reading.specs.declared.load.Passed.the-variants as passed
 use Rattle.reading.specs.declared.load.Loaded.{Loaded}
-use Rattle.reading.specs.declared.load.Loaded.the-variants.{Sheet, Refused}
+use Rattle.reading.specs.declared.load.Loaded.the-variants as loaded
 
 -- the first n records of one sort, which stand at these places of the bytes s
 unfoldable pub recordsIn : {A : Type 0} → (List ℕ → A) → List ℕ → List ℕ → ℕ → List A
-recordsIn value s places zero = []
-recordsIn value s places (suc n) = recordsIn value s places n ++ (value (drop (getD places n 0) s) ∷ [])
+recordsIn value s places n = tabulate (λ i. value (drop (getD places i 0) s)) n
+
+module _ {A : Type 0} (value : List ℕ → A) (s places : List ℕ) (n : ℕ) where
+  pub length-recordsIn : length (recordsIn value s places n) ≡ n
+  unfolding recordsIn
+  length-recordsIn = length-tabulate (λ i. value (drop (getD places i 0) s)) n
+
+  pub getD-recordsIn : (i : ℕ) (d : A) → i < n → getD (recordsIn value s places n) i d ≡ value (drop (getD places i 0) s)
+  unfolding recordsIn
+  getD-recordsIn i d l = getD-tabulate (λ i. value (drop (getD places i 0) s)) n i d l
+
+-- reading goes on with the value, or stops at the refusal
+unfoldable pub goesOn : {A B : Type 0} → Reading A → (A → Reading B) → Reading B
+goesOn (read a) next = next a
+goesOn (refused n r) next = refused n r
+
+-- what holds of the value, where there is one
+abbrev pub Then : {A : Type 0} → Reading A → (A → Type 0) → Type 0
+Then {A} x P = (a : A) → x ≡ read a → P a
+
+-- the place after some records, or a refusal's number with the record's number
+unfoldable pub passedAs : Passed → Reading ℕ
+passedAs (passed.To at) = read at
+passedAs (passed.Refused n r) = refused n r
+
+-- the head of a sheet that is in the tables, or a refusal's number with the record's number
+unfoldable pub loadedAs : Loaded → Reading HeadRecord
+loadedAs (loaded.Sheet h) = read (headRecord h)
+loadedAs (loaded.Refused n r) = refused n r
 
 -- none of the first n records at these places meets a refusal
 abbrev pub AllPass : (List ℕ → List Test) → List ℕ → List ℕ → ℕ → Type 0
@@ -27,79 +58,73 @@ AllPass tests s places n = (i : ℕ) → i < n → refusal (tests (drop (getD pl
 abbrev pub AllGrouped : List ℕ → List ℕ → List ℕ → ℕ → Type 0
 AllGrouped s names places n = (i : ℕ) → i < n → getD names i 0 ≡ nameOf (drop (getD places i 0) s) .group
 
--- reading goes on from a place, or stops with a refusal
-abbrev pub passed : Passed → (ℕ → Reading Records) → Reading Records
-passed (To at) next = next at
-passed (turned n r) next = refused n r
-
--- what holds where reading goes on
-abbrev pub Then : Passed → (ℕ → Type 0) → Type 0
-Then (To at) P = P at
-Then (turned n r) P = Unit {0}
+-- what holds of each of the first n claims of a sheet of `names` names
+abbrev pub AllHeld : List ℕ → ℕ → List ℕ → List ℕ → ℕ → Type 0
+AllHeld s names claims places n = (k : ℕ) → k < n → ClaimHeld s names (claimIn claims places k)
 
 -- `count` records of one sort from the place `from` on, the first of them numbered `first`, are the list xs, and reading
 -- goes on after them; or one is refused
 pub record Goes {A : Type 0} (tests : List A → List ℕ → List Test) (value : List ℕ → A) (s : List ℕ) (from count first : ℕ)
     (r : Passed) (xs : List A) : Type 0 where
   pub goes : (rest : ℕ → List A → List ℕ → Reading Records) →
-      passed r (λ at. rest (first + count) xs (drop at s)) ≡ readMany tests value rest count first [] (drop from s)
-  pub room : Then r (λ at. at ≤ length s)
+      goesOn (passedAs r) (λ at. rest (first + count) xs (drop at s)) ≡ readMany tests value rest count first [] (drop from s)
+  pub room : Then (passedAs r) (λ at. at ≤ length s)
 
 -- the names: their groups and places are in the tables
 pub record NamesGo (e : Edition) (groups : ℕ) (s : List ℕ) (from count : ℕ) (r : Passed) (names labels : List ℕ) : Type 0 where
   pub reads : Goes (nameTests e groups) nameOf s from count (2 + groups) r (recordsIn nameOf s labels count)
-  pub grouped : Then r (λ at. AllGrouped s names labels count)
-  pub pass : Then r (λ at. AllPass (nameTests e groups []) s labels count)
+  pub grouped : Then (passedAs r) (λ at. AllGrouped s names labels count)
 
--- the claims: their places are in the table
-pub record ClaimsGo (names first : ℕ) (s : List ℕ) (from count : ℕ) (r : Passed) (claims : List ℕ) : Type 0 where
-  pub reads : Goes (claimTests names) claimOf s from count first r (recordsIn claimOf s claims count)
-  pub pass : Then r (λ at. AllPass (claimTests names []) s claims count)
-
--- a refusal while the records are read is one of the sheet
-abbrev pub turnedBack : Passed → Loaded
-turnedBack (To at) = Refused 0 0
-turnedBack (turned n r) = Refused n r
-
--- what loading gives, as a reading
-abbrev pub loadedAs : Loaded → List ℕ → List ℕ → List ℕ → List ℕ → Reading Records
-loadedAs (Sheet h) s groups labels claims = read (record {
-  edition = editionOf (h .edition);
-  groups = groupsIn groups (h .groups);
-  names = recordsIn nameOf s labels (h .names);
-  claims = recordsIn claimOf s claims (h .claims);
-})
-loadedAs (Refused n r) s groups labels claims = refused n r
+-- the claims: they are in the tables
+pub record ClaimsGo (names first : ℕ) (s : List ℕ) (from count : ℕ) (r : Passed) (claims places : List ℕ) : Type 0 where
+  pub reads : Goes (claimTests names) claimOf s from count first r (claimsIn s claims places count)
+  pub held : Then (passedAs r) (λ at. AllHeld s names claims places count)
 
 -- the tables have room for the largest sheet
-pub record Capacity (groups names labels claims : List ℕ) : Type 0 where
+pub record Capacity (groups names labels claims places : List ℕ) : Type 0 where
   pub groupRoom : groupFields * groupCapacity ≤ length groups
   pub nameRoom : nameLimit ≤ length names
   pub labelRoom : nameLimit ≤ length labels
-  pub claimRoom : claimLimit ≤ length claims
+  pub claimRoom : claimSlots * claimLimit ≤ length claims
+  pub placeRoom : claimLimit ≤ length places
 
 -- the counts of a head are those of a sheet
-pub record WithinLimits (h : Head) : Type 0 where
+pub record HeadLimits (h : HeadRecord) : Type 0 where
   pub someGroup : 1 ≤ h .groups
   pub fewGroups : h .groups ≤ groupCapacity
   pub fewNames : h .names ≤ nameLimit
   pub fewClaims : h .claims ≤ claimLimit
 
-abbrev pub headRecord : Head → HeadRecord
-headRecord h = record { edition = editionOf (h .edition); groups = h .groups; names = h .names; claims = h .claims }
+-- the records that the tables hold, as many as the head says
+abbrev pub recordsOf : HeadRecord → List ℕ → List ℕ → List ℕ → List ℕ → List ℕ → Records
+recordsOf h s groups labels claims places = record {
+  edition = h .edition;
+  groups = groupsIn groups (h .groups);
+  names = recordsIn nameOf s labels (h .names);
+  claims = claimsIn s claims places (h .claims);
+}
 
--- what holds of the tables of a sheet that was read
-pub record Held (h : Head) (s names labels claims : List ℕ) : Type 0 where
-  pub limits : WithinLimits h
-  pub grouped : AllGrouped s names labels (h .names)
-  pub namesPass : AllPass (nameTests (editionOf (h .edition)) (h .groups) []) s labels (h .names)
-  pub claimsPass : AllPass (claimTests (h .names) []) s claims (h .claims)
-
-abbrev pub HeldBy : Loaded → List ℕ → List ℕ → List ℕ → List ℕ → Type 0
-HeldBy (Sheet h) s names labels claims = Held h s names labels claims
-HeldBy (Refused n r) s names labels claims = Unit {0}
+-- what holds of the tables of a sheet that was read: the table of names has the group of each name, 0 for the empty set
+pub record Held (h : HeadRecord) (s names labels claims places : List ℕ) : Type 0 where
+  pub limits : HeadLimits h
+  pub named : (n : ℕ) → 1 ≤ n → n ≤ h .names → getD names (n - 1) 0 ≡ nameGroup (recordsIn nameOf s labels (h .names)) n
+  pub claimed : AllHeld s (h .names) claims places (h .claims)
 
 -- the contract of loading: what the tables hold is the reading `whole`
-pub record Loads (r : Loaded) (whole : Reading Records) (s groups names labels claims : List ℕ) : Type 0 where
-  pub reads : loadedAs r s groups labels claims ≡ whole
-  pub held : HeldBy r s names labels claims
+pub record Loads (r : Loaded) (whole : Reading Records) (s groups names labels claims places : List ℕ) : Type 0 where
+  pub reads : goesOn (loadedAs r) (λ h. read (recordsOf h s groups labels claims places)) ≡ whole
+  pub held : Then (loadedAs r) (λ h. Held h s names labels claims places)
+
+module _ {r : Loaded} {whole : Reading Records} {s groups names labels claims places : List ℕ}
+    (w : Loads r whole s groups names labels claims places) where
+  pub loaded-sheet : (h : Head) → r ≡ loaded.Sheet h → whole ≡ read (recordsOf (headRecord h) s groups labels claims places)
+  unfolding goesOn loadedAs
+  loaded-sheet h e = sym (rw e at (w .reads))
+
+  pub loaded-held : (h : Head) → r ≡ loaded.Sheet h → Held (headRecord h) s names labels claims places
+  unfolding loadedAs
+  loaded-held h e = w .held _ (rw e)
+
+  pub loaded-refused : (n k : ℕ) → r ≡ loaded.Refused n k → whole ≡ refused n k
+  unfolding goesOn loadedAs
+  loaded-refused n k e = sym (rw e at (w .reads))

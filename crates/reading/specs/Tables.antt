@@ -1,4 +1,4 @@
--- What the tables hold that reading a sheet fills: four numbers for each group (parent, lo, hi, mode).
+-- What the table of groups holds that reading a sheet fills: four numbers for each group (parent, lo, hi, mode).
 use Prim.Native.Nat.{ℕ, zero, suc, _+_, _-_, _*_, _≤_, _<_}
 use mathlib.Core.Path.{_≡_, refl, ap, _∙_}
 use mathlib.Core.List.{List, [], _∷_, _++_}
@@ -9,6 +9,29 @@ use lib.ListN.{length, getD, length-append, List·getD-append}
 use lib.Seq.{getD-at}
 use Rattle.wire.specs.SheetFormat.{GroupRecord}
 use Rattle.meaning.specs.OfRecords.{groupAt}
+
+-- f 0, f 1 and so on, n of them
+abbrev pub tabulate : {A : Type 0} → (ℕ → A) → ℕ → List A
+tabulate f zero = []
+tabulate f (suc n) = tabulate f n ++ (f n ∷ [])
+
+module _ {A : Type 0} (f : ℕ → A) where
+  pub length-tabulate : (n : ℕ) → length (tabulate f n) ≡ n
+  length-tabulate zero = refl
+  length-tabulate (suc n) = simp (length-append, length-tabulate n) (omega arith)
+
+  pub getD-tabulate : (n i : ℕ) (d : A) → i < n → getD (tabulate f n) i d ≡ f i
+  getD-tabulate zero i d l = absurd (omega arith)
+  getD-tabulate (suc n) i d l =
+      ⊎-elim
+      (λ (e : suc i ≡ suc n). let same : i ≡ n = omega arith in rw same (getD-at (tabulate f n) (f n) [] d n (length-tabulate n)))
+      (λ (k : suc i < suc n). List·getD-append (tabulate f n) (f n ∷ []) d i
+      (let z : i < n = omega arith in rw (length-tabulate n) z) ∙ getD-tabulate n i d (omega arith))
+      (eq-or-lt-of-le l)
+
+  pub tabulate-same : (g : ℕ → A) (n : ℕ) → ((i : ℕ) → i < n → f i ≡ g i) → tabulate f n ≡ tabulate g n
+  tabulate-same g zero h = refl
+  tabulate-same g (suc n) h = rw (tabulate-same g n (λ i k. h i (omega arith)), h n (omega arith))
 
 -- fields a group
 abbrev pub groupFields : ℕ
@@ -25,24 +48,15 @@ groupIn t g = record {
 
 -- the records of the first n groups
 unfoldable pub groupsIn : List ℕ → ℕ → List GroupRecord
-groupsIn t zero = []
-groupsIn t (suc n) = groupsIn t n ++ (groupIn t n ∷ [])
+groupsIn t n = tabulate (groupIn t) n
 
 pub length-groupsIn : (t : List ℕ) (n : ℕ) → length (groupsIn t n) ≡ n
 unfolding groupsIn
-length-groupsIn t zero = refl
-length-groupsIn t (suc n) = simp (length-append, length-groupsIn t n) (omega arith)
+length-groupsIn t n = length-tabulate (groupIn t) n
 
 pub getD-groupsIn : (t : List ℕ) (n g : ℕ) (d : GroupRecord) → g < n → getD (groupsIn t n) g d ≡ groupIn t g
 unfolding groupsIn
-getD-groupsIn t zero g d l = absurd (omega arith)
-getD-groupsIn t (suc n) g d l =
-    ⊎-elim
-    (λ (e : suc g ≡ suc n). let same : g ≡ n = omega arith in
-    rw same (getD-at (groupsIn t n) (groupIn t n) [] d n (length-groupsIn t n)))
-    (λ (k : suc g < suc n). List·getD-append (groupsIn t n) (groupIn t n ∷ []) d g
-    (let z : g < n = omega arith in rw (length-groupsIn t n) z) ∙ getD-groupsIn t n g d (omega arith))
-    (eq-or-lt-of-le l)
+getD-groupsIn t n g d l = getD-tabulate (groupIn t) n g d l
 
 -- group g of the table's groups is the one at its place
 pub groupAt-groupsIn : (t : List ℕ) (n g : ℕ) → 1 ≤ g → g ≤ n → groupAt (groupsIn t n) g ≡ groupIn t (g - 1)

@@ -1,4 +1,10 @@
-// What a claim's record holds after its kind, tested in order: its length, its fields, its names.
+// What a claim's record holds after its kind, tested in order, its length, its fields, its names; and the claim that it carries.
+use crate::claim::Claim;
+use crate::claim::Count;
+use crate::claim::Lists;
+use crate::tables::BOUND;
+use crate::tables::NameNo;
+use crate::tables::SIDE;
 use wire::bytes;
 ghost use mathlib.Core.Path.{_≡_};
 ghost use mathlib.Core.Bool.{_&&_};
@@ -9,10 +15,7 @@ ghost use Rattle.wire.specs.Bytes.{u16At};
 ghost use Rattle.wire.specs.Limits.{sideLimit};
 ghost use Rattle.wire.specs.Record.{refusal};
 ghost use Rattle.wire.specs.SheetFormat.{allWithin, u16s};
-ghost use Rattle.reading.specs.Answers.{Whole, claimBody};
-
-// most names on one side
-pub const SIDE: u16 = 8;
+ghost use Rattle.reading.specs.Answers.{Whole, claimBody, ClaimTaken};
 
 // whether the n numbers at a place are all from 1 to `names`
 fn names_allowed(s: &[u8], at: usize, n: u16, names: u16) -> bool
@@ -20,11 +23,11 @@ fn names_allowed(s: &[u8], at: usize, n: u16, names: u16) -> bool
     ensures { λ r. ⌜ r ≡ allWithin names (u16s (now (s .entry)) at n) ⌝ }
 {
     for i in 0..n {
-        let x = bytes::word(s, at + 2 * (i as usize));
-        if x < 1 {
+        let x = NameNo(bytes::word(s, at + 2 * (i as usize)));
+        if x.0 < 1 {
             return false;
         }
-        if names < x {
+        if names < x.0 {
             return false;
         }
     }
@@ -38,7 +41,7 @@ fn count_refusal(s: &[u8], at: usize, len: u16, names: u16) -> u32
     if len != 8 {
         return 3;
     }
-    if 65534 < bytes::word(s, at + 6) {
+    if BOUND < bytes::word(s, at + 6) {
         return 4;
     }
     if !names_allowed(s, at + 4, 1, names) {
@@ -101,4 +104,29 @@ pub fn body_refusal(s: &[u8], at: usize, len: u16, kind: u16, names: u16) -> u32
         return count_refusal(s, at, len, names);
     }
     sides_refusal(s, at, len, names)
+}
+
+// the claim of this kind whose record stands at a place
+pub fn take_claim(s: &[u8], at: usize, kind: u16) -> Claim
+    requires { ⌜ (at + 10 ≤ length (now s)) × ((4 ≤ kind) × ((kind ≤ 6) × (u16At (now s) (at + 2) ≡ kind))) ⌝ }
+    ensures { λ r. ⌜ ClaimTaken (now (s .entry)) at r ⌝ }
+{
+    let a = bytes::word(s, at + 4);
+    let b = bytes::word(s, at + 6);
+    if kind == 4 {
+        return Claim::Count(Count {
+            name: NameNo(a),
+            lo: b,
+            hi: bytes::word(s, at + 8),
+        });
+    }
+    let l = Lists {
+        m: a,
+        n: b,
+        at: at + 8,
+    };
+    if kind == 5 {
+        return Claim::Inside(l);
+    }
+    Claim::Apart(l)
 }

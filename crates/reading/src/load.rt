@@ -1,7 +1,8 @@
 // A sheet into lent tables: its groups, names and claims one after another, to the end or to the first refusal.
+use crate::claim::claim_bytes;
+use crate::claim::put_claim;
 use crate::labels;
 use crate::records::Answer;
-use crate::records::Group;
 use crate::records::Head;
 use crate::records::Record;
 use crate::records::read_claim;
@@ -9,16 +10,21 @@ use crate::records::read_group;
 use crate::records::read_head;
 use crate::records::read_name;
 use crate::records::refusal_of;
+use crate::tables::GROUP_FIELDS;
+use crate::tables::GroupNo;
+use crate::tables::number_meant;
+use crate::tables::put_four;
 ghost use mathlib.Core.Path.{_≡_};
-ghost use mathlib.Core.List.{[], _∷_};
-ghost use Prim.Native.Nat.{_+_, _*_, _≤_, _<_};
+ghost use Prim.Native.Nat.{_+_, _*_, _≤_};
 ghost use lib.ListN.{length, drop};
-ghost use lib.Seq.{sets};
+ghost use Rattle.wire.specs.Record.{refused};
 ghost use Rattle.wire.specs.Limits.{groupCapacity, nameLimit, claimLimit};
 ghost use Rattle.wire.specs.Edition.{editionOf};
 ghost use Rattle.wire.specs.SheetFormat.{groupOf, groupTests, readGroups, readSheet};
-ghost use Rattle.reading.specs.Tables.{groupsIn};
-ghost use Rattle.reading.specs.Loaded.{turnedBack, headRecord, Goes, NamesGo, ClaimsGo, Loads, Capacity, WithinLimits};
+ghost use Rattle.reading.specs.Tables.{groupFields, groupsIn};
+ghost use Rattle.reading.specs.ClaimTable.{claimSlots};
+ghost use Rattle.reading.specs.Answers.{headRecord};
+ghost use Rattle.reading.specs.Loaded.{goesOn, passedAs, loadedAs, Goes, NamesGo, ClaimsGo, Loads, Capacity, HeadLimits};
 
 // The place after the last of some records, or a refusal's number with the record's number.
 pub enum Passed {
@@ -32,8 +38,9 @@ pub enum Loaded {
     Refused(u32, u32),
 }
 
+// a refusal while the records are read is one of the sheet
 fn turned_back(p: Passed) -> Loaded
-    ensures { λ r. ⌜ r ≡ turnedBack p ⌝ }
+    ensures { λ r. ⌜ loadedAs r ≡ goesOn (passedAs p) (λ at. refused 0 0) ⌝ }
 {
     match p {
         Passed::To(_) => Loaded::Refused(0, 0),
@@ -41,32 +48,22 @@ fn turned_back(p: Passed) -> Loaded
     }
 }
 
-// the numbers of the group whose table place is i
-fn put_group(groups: &mut [u16], i: usize, g: Group)
-    requires { ⌜ 4 * i + 3 < length (now groups) ⌝ }
-    ensures { λ _. ⌜ now (groups .exit) ≡ sets (now (groups .entry)) (4 * i) (g .parent ∷ g .lo ∷ g .hi ∷ g .mode ∷ []) ⌝ }
-{
-    let k = 4 * i;
-    groups[k] = g.parent;
-    groups[k + 1] = g.lo;
-    groups[k + 2] = g.hi;
-    groups[k + 3] = g.mode;
-}
-
 fn load_groups(s: &[u8], from: usize, count: u16, groups: &mut [u16]) -> Passed
-    requires { ⌜ (from ≤ length (now s)) × ((count ≤ groupCapacity) × (4 * groupCapacity ≤ length (now groups))) ⌝ }
+    requires { ⌜ (from ≤ length (now s)) × ((count ≤ groupCapacity) × (groupFields * groupCapacity ≤ length (now groups))) ⌝ }
     ensures { λ r. ⌜ Goes groupTests groupOf (now (s .entry)) from count 2 r (groupsIn (now (groups .exit)) count) ⌝ }
 {
     let mut at = from;
     for i in 0..count {
-        let answer = read_group(s, at, i + 1);
+        let number = 2 + i as u32;
+        let answer = read_group(s, at, GroupNo(i + 1));
         let Answer::Record(rec) = answer else {
-            return Passed::Refused(refusal_of(answer), 2 + i as u32);
+            return Passed::Refused(refusal_of(answer), number);
         };
         let Record::Group(g) = rec else {
-            return Passed::Refused(2, 2 + i as u32);
+            return Passed::Refused(2, number);
         };
-        put_group(groups, i as usize, g);
+        let k = GROUP_FIELDS * i as usize;
+        put_four(groups, k, g.parent.0, g.lo, g.hi, g.mode);
         at = at + 12;
     }
     Passed::To(at)
@@ -99,9 +96,10 @@ fn load_names(
         if labels::used_before(s, labels, k, at) {
             return Passed::Refused(6, number);
         }
-        names[k] = n.group;
+        let means = n.means;
+        names[k] = number_meant(means);
         labels[k] = at;
-        at = at + n.len as usize + 2;
+        at = at + 6 + n.bytes as usize;
     }
     Passed::To(at)
 }
@@ -112,16 +110,16 @@ fn load_claims(
     count: u16,
     names: u16,
     first: u32,
-    claims: &mut [usize],
+    claims: &mut [u16],
+    places: &mut [usize],
 ) -> Passed
     requires { ⌜ (from ≤ length (now s)) × ((count ≤ claimLimit) × ((first ≤ 2 + groupCapacity + nameLimit) ×
-        (claimLimit ≤ length (now claims)))) ⌝ }
-    ensures { λ r. ⌜ ClaimsGo names first (now (s .entry)) from count r (now (claims .exit)) ⌝ }
+        ((claimSlots * claimLimit ≤ length (now claims)) × (claimLimit ≤ length (now places))))) ⌝ }
+    ensures { λ r. ⌜ ClaimsGo names first (now (s .entry)) from count r (now (claims .exit)) (now (places .exit)) ⌝ }
 {
     let mut at = from;
     for i in 0..count {
         let number = first + i as u32;
-        let k = i as usize;
         let answer = read_claim(s, at, names);
         let Answer::Record(rec) = answer else {
             return Passed::Refused(refusal_of(answer), number);
@@ -129,8 +127,8 @@ fn load_claims(
         let Record::Claim(c) = rec else {
             return Passed::Refused(2, number);
         };
-        claims[k] = at;
-        at = at + c.len as usize + 2;
+        put_claim(claims, places, i as usize, c);
+        at = at + claim_bytes(c);
     }
     Passed::To(at)
 }
@@ -142,11 +140,13 @@ fn load_records(
     groups: &mut [u16],
     names: &mut [u16],
     labels: &mut [usize],
-    claims: &mut [usize],
+    claims: &mut [u16],
+    places: &mut [usize],
 ) -> Loaded
-    requires { ⌜ (12 ≤ length (now s)) × (WithinLimits h × Capacity (now groups) (now names) (now labels) (now claims)) ⌝ }
+    requires { ⌜ (12 ≤ length (now s)) × (HeadLimits (headRecord h) × Capacity (now groups) (now names) (now labels) (now claims)
+        (now places)) ⌝ }
     ensures { λ r. ⌜ Loads r (readGroups (headRecord h) (drop 12 (now (s .entry)))) (now (s .entry)) (now (groups .exit))
-        (now (names .exit)) (now (labels .exit)) (now (claims .exit)) ⌝ }
+        (now (names .exit)) (now (labels .exit)) (now (claims .exit)) (now (places .exit)) ⌝ }
 {
     let g = load_groups(s, 12, h.groups, groups);
     let Passed::To(at_names) = g else {
@@ -157,7 +157,7 @@ fn load_records(
         return turned_back(n);
     };
     let first = 2 + h.groups as u32 + h.names as u32;
-    let c = load_claims(s, at_claims, h.claims, h.names, first, claims);
+    let c = load_claims(s, at_claims, h.claims, h.names, first, claims, places);
     let Passed::To(end) = c else {
         return turned_back(c);
     };
@@ -172,11 +172,12 @@ pub fn load_sheet(
     groups: &mut [u16],
     names: &mut [u16],
     labels: &mut [usize],
-    claims: &mut [usize],
+    claims: &mut [u16],
+    places: &mut [usize],
 ) -> Loaded
-    requires { ⌜ Capacity (now groups) (now names) (now labels) (now claims) ⌝ }
+    requires { ⌜ Capacity (now groups) (now names) (now labels) (now claims) (now places) ⌝ }
     ensures { λ r. ⌜ Loads r (readSheet (now (sheet .entry))) (now (sheet .entry)) (now (groups .exit))
-        (now (names .exit)) (now (labels .exit)) (now (claims .exit)) ⌝ }
+        (now (names .exit)) (now (labels .exit)) (now (claims .exit)) (now (places .exit)) ⌝ }
 {
     let answer = read_head(sheet, 0);
     let Answer::Record(rec) = answer else {
@@ -185,5 +186,5 @@ pub fn load_sheet(
     let Record::Head(h) = rec else {
         return Loaded::Refused(2, 1);
     };
-    load_records(sheet, h, groups, names, labels, claims)
+    load_records(sheet, h, groups, names, labels, claims, places)
 }

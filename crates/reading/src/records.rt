@@ -1,22 +1,29 @@
 // The records of a sheet, one at a time: the record that stands at a place, or the number of the refusal that it meets.
-// A name and a claim carry where their record stands and its length, so no record holds an array.
+// A label stays in the sheet's bytes, so no record holds an array.
+use crate::claim::Claim;
 use crate::claims;
 use crate::labels;
+use crate::tables::BOUND;
 use crate::tables::CLAIMS;
+use crate::tables::EDITION;
 use crate::tables::GROUPS;
+use crate::tables::GroupNo;
+use crate::tables::LABEL;
+use crate::tables::MODE;
+use crate::tables::Meant;
 use crate::tables::NAMES;
+use crate::tables::meaning_of;
 use wire::bytes;
 ghost use mathlib.Core.Path.{_≡_};
 ghost use mathlib.Core.Bool.{_&&_};
 ghost use mathlib.Core.List.{List, []};
-ghost use Prim.Native.Nat.{_+_, _≤_};
+ghost use Prim.Native.Nat.{ℕ, _+_, _≤_};
 ghost use lib.ListN.{length, drop};
 ghost use lib.Dec.{leb, eqb};
-ghost use Rattle.wire.specs.Record.{refusal};
 ghost use Rattle.wire.specs.Limits.{nameLimit, claimLimit};
 ghost use Rattle.wire.specs.Edition.{editionNumber, editionOf, groupLimit, labelLimit};
-ghost use Rattle.wire.specs.SheetFormat.{GroupRecord, headTests, parentAllowed, groupTests, nameTests, claimTests};
-ghost use Rattle.reading.specs.Answers.{Framed, refusalOf, answered, headAt, groupAt, nameAt, claimAt};
+ghost use Rattle.wire.specs.SheetFormat.{GroupRecord, headTests, headOf, parentAllowed, groupTests, groupOf, nameTests, nameOf};
+ghost use Rattle.reading.specs.Answers.{head, group, name, answerAs, refusalIn, Framed, Answered, ClaimAnswered};
 
 // `edition` is the number of an edition
 pub struct Head {
@@ -27,22 +34,16 @@ pub struct Head {
 }
 
 pub struct Group {
-    pub parent: u16,
+    pub parent: GroupNo,
     pub lo: u16,
     pub hi: u16,
     pub mode: u16,
 }
 
-// `at` is the place of the record, `len` its length
+// what it means, and how many bytes its label has
 pub struct Name {
-    pub group: u16,
-    pub at: usize,
-    pub len: u16,
-}
-
-pub struct Claim {
-    pub at: usize,
-    pub len: u16,
+    pub means: Meant,
+    pub bytes: u16,
 }
 
 pub enum Record {
@@ -59,7 +60,7 @@ pub enum Answer {
 
 // the number of a refusal, 0 for a record
 pub fn refusal_of(a: Answer) -> u32
-    ensures { λ r. ⌜ r ≡ refusalOf a ⌝ }
+    ensures { λ r. ⌜ ((s : List ℕ) (at k : ℕ) → r ≡ refusalIn (answerAs s at k a)) ⌝ }
 {
     match a {
         Answer::Record(_) => 0,
@@ -90,7 +91,7 @@ fn head_allowed(edition: u16, groups: u16, names: u16, claims: u16) -> bool
     ensures { λ r. ⌜ r ≡ (eqb edition (editionNumber (editionOf edition)) && leb 1 groups
         && leb groups (groupLimit (editionOf edition)) && leb names nameLimit && leb claims claimLimit) ⌝ }
 {
-    if edition != 1 {
+    if edition != EDITION {
         return false;
     }
     if groups < 1 {
@@ -110,7 +111,7 @@ fn head_allowed(edition: u16, groups: u16, names: u16, claims: u16) -> bool
 
 pub fn read_head(s: &[u8], at: usize) -> Answer
     requires { ⌜ at ≤ length (now s) ⌝ }
-    ensures { λ r. ⌜ r ≡ answered (refusal (headTests (drop at (now (s .entry))))) (headAt (now (s .entry)) at) ⌝ }
+    ensures { λ r. ⌜ Answered headTests (λ b. head (headOf b)) (now (s .entry)) at r ⌝ }
 {
     let len = frame(s, at);
     if len < 2 {
@@ -137,22 +138,22 @@ pub fn read_head(s: &[u8], at: usize) -> Answer
     Answer::Refused(4)
 }
 
-fn parent_allowed(number: u16, parent: u16) -> bool
-    ensures { λ r. ⌜ r ≡ parentAllowed number parent ⌝ }
+fn parent_allowed(number: GroupNo, parent: GroupNo) -> bool
+    ensures { λ r. ⌜ r ≡ parentAllowed (number .0) (parent .0) ⌝ }
 {
-    if number == 1 {
-        return parent == 0;
+    if number.0 == 1 {
+        return parent.0 == 0;
     }
-    if parent < 1 {
+    if parent.0 < 1 {
         return false;
     }
-    parent < number
+    parent.0 < number.0
 }
 
-pub fn read_group(s: &[u8], at: usize, number: u16) -> Answer
+pub fn read_group(s: &[u8], at: usize, number: GroupNo) -> Answer
     requires { ⌜ at ≤ length (now s) ⌝ }
-    ensures { λ r. ⌜ ((gs : List GroupRecord) → length gs + 1 ≡ number →
-        r ≡ answered (refusal (groupTests gs (drop at (now (s .entry))))) (groupAt (now (s .entry)) at)) ⌝ }
+    ensures { λ r. ⌜ ((gs : List GroupRecord) → length gs + 1 ≡ number .0 →
+        Answered (groupTests gs) (λ b. group (groupOf b)) (now (s .entry)) at r) ⌝ }
 {
     let len = frame(s, at);
     if len < 2 {
@@ -164,14 +165,14 @@ pub fn read_group(s: &[u8], at: usize, number: u16) -> Answer
     if len != 10 {
         return Answer::Refused(3);
     }
-    let parent = bytes::word(s, at + 4);
+    let parent = GroupNo(bytes::word(s, at + 4));
     let lo = bytes::word(s, at + 6);
     let hi = bytes::word(s, at + 8);
     let mode = bytes::word(s, at + 10);
-    if 65534 < lo {
+    if BOUND < lo {
         return Answer::Refused(4);
     }
-    if 7 < mode {
+    if MODE < mode {
         return Answer::Refused(4);
     }
     if parent_allowed(number, parent) {
@@ -189,14 +190,13 @@ pub fn read_group(s: &[u8], at: usize, number: u16) -> Answer
 fn label_limit(edition: u16) -> u16
     ensures { λ r. ⌜ r ≡ labelLimit (editionOf edition) ⌝ }
 {
-    16
+    LABEL
 }
 
 // The tests of a name but for the use of its label before, which the caller knows.
 pub fn read_name(s: &[u8], at: usize, edition: u16, groups: u16) -> Answer
     requires { ⌜ at ≤ length (now s) ⌝ }
-    ensures { λ r. ⌜ r ≡ answered (refusal (nameTests (editionOf edition) groups [] (drop at (now (s .entry)))))
-        (nameAt (now (s .entry)) at) ⌝ }
+    ensures { λ r. ⌜ Answered (nameTests (editionOf edition) groups []) (λ b. name (nameOf b)) (now (s .entry)) at r ⌝ }
 {
     let len = frame(s, at);
     if len < 2 {
@@ -211,7 +211,8 @@ pub fn read_name(s: &[u8], at: usize, edition: u16, groups: u16) -> Answer
     if label_limit(edition) < len - 4 {
         return Answer::Refused(3);
     }
-    if !labels::label_allowed(s, at + 6, len - 4) {
+    let label = len - 4;
+    if !labels::label_allowed(s, at + 6, label) {
         return Answer::Refused(4);
     }
     let group = bytes::word(s, at + 4);
@@ -219,15 +220,14 @@ pub fn read_name(s: &[u8], at: usize, edition: u16, groups: u16) -> Answer
         return Answer::Refused(5);
     }
     Answer::Record(Record::Name(Name {
-        group: group,
-        at: at,
-        len: len,
+        means: meaning_of(group),
+        bytes: label,
     }))
 }
 
 pub fn read_claim(s: &[u8], at: usize, names: u16) -> Answer
     requires { ⌜ at ≤ length (now s) ⌝ }
-    ensures { λ r. ⌜ r ≡ answered (refusal (claimTests names [] (drop at (now (s .entry))))) (claimAt (now (s .entry)) at) ⌝ }
+    ensures { λ r. ⌜ ClaimAnswered names (now (s .entry)) at r ⌝ }
 {
     let len = frame(s, at);
     if len < 2 {
@@ -244,5 +244,5 @@ pub fn read_claim(s: &[u8], at: usize, names: u16) -> Answer
     if n != 0 {
         return Answer::Refused(n);
     }
-    Answer::Record(Record::Claim(Claim { at: at, len: len }))
+    Answer::Record(Record::Claim(claims::take_claim(s, at, kind)))
 }

@@ -1,34 +1,51 @@
-// The tables of a sheet, reached by a group's number or a name's number: four numbers for each group (parent, lo, hi, mode),
-// one for each name (its group).
+// The limits of a sheet and its tables, reached by a group's number or a name's number: four numbers for each group (parent,
+// lo, hi, mode), one for each name (its group).
 ghost use mathlib.Core.Path.{_≡_};
-ghost use Prim.Native.Nat.{_+_, _-_, _*_, _≤_};
+ghost use mathlib.Core.List.{[], _∷_};
+ghost use Prim.Native.Nat.{_+_, _-_, _*_, _≤_, _<_};
 ghost use lib.ListN.{length, getD, set};
+ghost use lib.Seq.{sets};
 ghost use Rattle.reading.specs.Meant.{meantNumber, Means};
 
-// Most groups, names and claims of a sheet.
+// The limits of the format: the edition, most groups, names and claims of a sheet, most names on one side of a claim, most bytes
+// of a label, the greatest lo and the greatest mode.
+pub const EDITION: u16 = 1;
+
 pub const GROUPS: u16 = 128;
 
 pub const NAMES: u16 = 128;
 
 pub const CLAIMS: u16 = 64;
 
+pub const SIDE: u16 = 8;
+
+pub const LABEL: u16 = 16;
+
+pub const BOUND: u16 = 65534;
+
+pub const MODE: u16 = 7;
+
+// The bound that stands for no upper end.
+pub const NO_END: u16 = 65535;
+
 // The groups that tables hold: a table of one number for each group has this length.
 pub const GROUP_CAPACITY: usize = 128;
 
-// Fields of a group.
+// How many numbers the tables have for each group and for each claim.
 pub const GROUP_FIELDS: usize = 4;
 
-// The lengths of the tables that hold any sheet: groups, names, labels' places, claims' places.
+pub const CLAIM_SLOTS: usize = 4;
+
+// The lengths of the tables that hold any sheet: groups, names, places of labels, claims, places of claims' names.
 pub const GROUP_TABLE: usize = GROUP_FIELDS * GROUP_CAPACITY;
 
 pub const NAME_TABLE: usize = 128;
 
 pub const LABEL_TABLE: usize = 128;
 
-pub const CLAIM_TABLE: usize = 64;
+pub const CLAIM_TABLE: usize = CLAIM_SLOTS * PLACE_TABLE;
 
-// The bound that stands for no upper end.
-pub const NO_END: u16 = 65535;
+pub const PLACE_TABLE: usize = 64;
 
 // A group's number and a name's number, each from 1 on, are two families. Where a group has no parent (the root) or no link
 // to another group, `GroupNo(0)` stands for 'none'.
@@ -62,12 +79,23 @@ pub fn number_meant(m: Meant) -> u16
     }
 }
 
+// four numbers of a table from a place on
+pub fn put_four(table: &mut [u16], at: usize, a: u16, b: u16, c: u16, d: u16)
+    requires { ⌜ at + 3 < length (now table) ⌝ }
+    ensures { λ _. ⌜ now (table .exit) ≡ sets (now (table .entry)) at (a ∷ b ∷ c ∷ d ∷ []) ⌝ }
+{
+    table[at] = a;
+    table[at + 1] = b;
+    table[at + 2] = c;
+    table[at + 3] = d;
+}
+
 pub fn parent_of(groups: &[u16], g: GroupNo) -> GroupNo
     requires { ⌜ (1 ≤ g .0) × (4 * (g .0) ≤ length (now groups)) ⌝ }
     ensures { λ r. ⌜ r .0 ≡ getD (now (groups .entry)) (4 * (g .0 - 1)) 0 ⌝ }
 {
     let i = g.0 as usize;
-    GroupNo(groups[4 * (i - 1)])
+    GroupNo(groups[GROUP_FIELDS * (i - 1)])
 }
 
 pub fn lo_of(groups: &[u16], g: GroupNo) -> u16
@@ -75,7 +103,7 @@ pub fn lo_of(groups: &[u16], g: GroupNo) -> u16
     ensures { λ r. ⌜ r ≡ getD (now (groups .entry)) (4 * (g .0 - 1) + 1) 0 ⌝ }
 {
     let i = g.0 as usize;
-    groups[4 * (i - 1) + 1]
+    groups[GROUP_FIELDS * (i - 1) + 1]
 }
 
 pub fn hi_of(groups: &[u16], g: GroupNo) -> u16
@@ -83,7 +111,7 @@ pub fn hi_of(groups: &[u16], g: GroupNo) -> u16
     ensures { λ r. ⌜ r ≡ getD (now (groups .entry)) (4 * (g .0 - 1) + 2) 0 ⌝ }
 {
     let i = g.0 as usize;
-    groups[4 * (i - 1) + 2]
+    groups[GROUP_FIELDS * (i - 1) + 2]
 }
 
 pub fn mode_of(groups: &[u16], g: GroupNo) -> u16
@@ -91,7 +119,7 @@ pub fn mode_of(groups: &[u16], g: GroupNo) -> u16
     ensures { λ r. ⌜ r ≡ getD (now (groups .entry)) (4 * (g .0 - 1) + 3) 0 ⌝ }
 {
     let i = g.0 as usize;
-    groups[4 * (i - 1) + 3]
+    groups[GROUP_FIELDS * (i - 1) + 3]
 }
 
 pub fn set_lo(groups: &mut [u16], g: GroupNo, x: u16)
@@ -99,7 +127,7 @@ pub fn set_lo(groups: &mut [u16], g: GroupNo, x: u16)
     ensures { λ _. ⌜ now (groups .exit) ≡ set (now (groups .entry)) (4 * (g .0 - 1) + 1) x ⌝ }
 {
     let i = g.0 as usize;
-    groups[4 * (i - 1) + 1] = x;
+    groups[GROUP_FIELDS * (i - 1) + 1] = x;
 }
 
 pub fn set_hi(groups: &mut [u16], g: GroupNo, x: u16)
@@ -107,7 +135,7 @@ pub fn set_hi(groups: &mut [u16], g: GroupNo, x: u16)
     ensures { λ _. ⌜ now (groups .exit) ≡ set (now (groups .entry)) (4 * (g .0 - 1) + 2) x ⌝ }
 {
     let i = g.0 as usize;
-    groups[4 * (i - 1) + 2] = x;
+    groups[GROUP_FIELDS * (i - 1) + 2] = x;
 }
 
 // what a name means

@@ -32,14 +32,14 @@ word-requires : tie.Need-word-requires Inv-loop μ-loop
 word-requires c κs = search needs
 
 returns : tie.Need-returns Inv-loop μ-loop
-returns c = let a = c .before .before .before .before .before .args in
-    sym (within-low (now (a .s)) (a .names) (a .at) (a .n) _ (omega arith) _ (c .before .word .ensures) (c .if1 .taken))
-    ∙ c .before .before .before .loop .inv .1
+returns c = let a = c .before .before .before .before .before .before .args in
+    sym (within-low (now (a .s)) (a .names) (a .at) (a .n) _ (omega arith) _ (c .before .before .word .ensures) (c .if1 .taken))
+    ∙ c .before .before .before .before .loop .inv .1
 
 returns-2 : tie.Need-returns-2 Inv-loop μ-loop
-returns-2 c = let a = c .before .before .before .before .before .before .args in
-    sym (within-high (now (a .s)) (a .names) (a .at) (a .n) _ (omega arith) _ (c .before .before .word .ensures)
-    (c .before .if1 .left) (c .if2 .taken)) ∙ c .before .before .before .before .loop .inv .1
+returns-2 c = let a = c .before .before .before .before .before .before .before .before .args in
+    sym (within-high (now (a .s)) (a .names) (a .at) (a .n) _ (omega arith) _ (c .before .before .before .before .word .ensures)
+    (c .before .before .if1 .left) (c .if2 .taken)) ∙ c .before .before .before .before .before .before .loop .inv .1
 
 add-i : tie.Need-add-i Inv-loop μ-loop
 add-i c = search needs
@@ -48,10 +48,10 @@ loop-less : tie.Need-loop-less Inv-loop μ-loop
 loop-less c = search needs
 
 loop-again : tie.Need-loop-again Inv-loop μ-loop
-loop-again c = let a = c .before .before .before .before .before .before .args in (
+loop-again c = let a = c .before .before .before .before .before .before .before .before .args in (
   search needs,
   sym (within-pass (now (a .s)) (a .names) (a .at) (a .n) _ (omega arith) _
-      (c .before .before .word .ensures) (c .before .if1 .left) (c .if2 .left)) ∙ c .before .before .before .before .loop .inv .1,
+      (c .before .before .before .before .word .ensures) (c .before .before .if1 .left) (c .if2 .left)) ∙ c .before .before .before .before .before .before .loop .inv .1,
 )
 
 returns-3 : tie.Need-returns-3 Inv-loop μ-loop

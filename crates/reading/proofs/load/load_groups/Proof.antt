@@ -1,18 +1,18 @@
 -- `load_groups` meets its contract. The invariant: to read what is left from here
 -- is to read all, and the table has the groups so far.
 use types.Run.{miss}
-use mathlib.Core.List.{List, [], _∷_}
-use Rattle.wire.specs.Record.{refusal}
-use Rattle.reading.specs.Answers.{answered, groupAt}
 use Prim.Native.Nat.{ℕ, _+_, _-_, _≤_}
-use mathlib.Core.Path.{_≡_, sym, ap, _∙_}
+use mathlib.Core.Path.{_≡_, ap, _∙_}
+use mathlib.Core.List.{List, [], _∷_}
 use borrow.Author.Needs.{needs}
 use native.Mathlib.Omega.{arith}
 use denote.Ref.{now}
-use lib.ListN.{length, drop}
+use lib.ListN.{length}
 use Rattle.wire.specs.SheetFormat.{groupTests, groupOf}
 use Rattle.reading.specs.Tables.{groupsIn, length-groupsIn}
-use Rattle.reading.proofs.Fields.{stopped, group-whole, answered-carried}
+use Rattle.reading.specs.Answers.{group, Answered}
+use Rattle.reading.proofs.Fields.{group-whole}
+use Rattle.reading.proofs.Carried.{Handed, answered-record, answered-refusal, tag-of}
 use Rattle.reading.proofs.Many.{Left, left-start, left-stop, left-done, group-again}
 use Rattle.reading.proofs.load.load_groups.Statement.{statement}
 use Rattle.reading.proofs.load.load_groups.Tie as tie
@@ -38,27 +38,31 @@ abbrev told : tie.After-slice-known2 Inv-loop μ-loop → tie.After-known-told I
 told c = c .before .before .before .before .before .before .before
 
 -- what the reader answers
-asked : (c : tie.After-read-group Inv-loop μ-loop) → let s = now (c .before .before .before .before .before .args .s) in
-    let at = c .before .before .loop .at in
-    c .read-group .result ≡ answered (refusal (groupTests
-    (groupsIn (c .before .before .loop .groups) (c .before .before .loop .i)) (drop at s))) (groupAt s at)
+asked : (c : tie.After-read-group Inv-loop μ-loop) → let l = c .before .before .loop in
+    Answered (groupTests (groupsIn (l .groups) (l .i))) (λ b. group (groupOf b)) (now (c .before .before .before .before .before .args .s))
+    (l .at) (c .read-group .result)
 asked c = c .read-group .ensures _ (ap (λ n. n + 1) (length-groupsIn _ _))
 
--- a record says that its tests passed
+-- a record was handed up
 taken : (c : tie.After-known-told Inv-loop μ-loop) → let l = head c .loop in
-    (refusal (groupTests (groupsIn (l .groups) (l .i)) (drop (l .at) (bytes c))) ≡ 0) ×
-    (groupAt (bytes c) (l .at) ≡ c .before .answer .given .0 .0)
-taken c = answered-carried _ _ _ (sym (asked (c .before .before .before)) ∙ c .before .answer .given .1)
+    Handed (groupTests (groupsIn (l .groups) (l .i))) (λ b. group (groupOf b)) (bytes c) (l .at) (c .before .answer .given .0 .0)
+taken c = answered-record (asked (c .before .before .before)) (c .before .answer .given .1)
 
 room : (c : tie.After-known-told Inv-loop μ-loop) → head c .loop .at + 12 ≤ length (bytes c)
-room c = let l = head c .loop in group-whole (bytes c) (l .at) (groupsIn (l .groups) (l .i)) (taken c .0) .1
+room c = let l = head c .loop in group-whole (bytes c) (l .at) (groupsIn (l .groups) (l .i)) (taken c .pass) .1
 
 loop-holds : tie.Need-loop-holds Inv-loop μ-loop
 unfolding groupsIn
 loop-holds c = (search needs, (search needs, (search needs, left-start _ _ _ _ _ _)))
 
-add-read-group : tie.Need-add-read-group Inv-loop μ-loop
-add-read-group c = search needs
+cast-number : tie.Need-cast-number Inv-loop μ-loop
+cast-number c = search needs
+
+add-number : tie.Need-add-number Inv-loop μ-loop
+add-number c = search needs
+
+add-t14 : tie.Need-add-t14 Inv-loop μ-loop
+add-t14 c = search needs
 
 read-group-requires : tie.Need-read-group-requires Inv-loop μ-loop
 read-group-requires c κs = search needs
@@ -72,42 +76,31 @@ enum-told c = search needs
 refusal-of-requires : tie.Need-refusal-of-requires Inv-loop μ-loop
 refusal-of-requires c κs = search needs
 
-cast-t13 : tie.Need-cast-t13 Inv-loop μ-loop
-cast-t13 c = search needs
-
-add-t14 : tie.Need-add-t14 Inv-loop μ-loop
-add-t14 c = search needs
-
 same-length : tie.Need-same-length Inv-loop μ-loop
 same-length c = search needs
 
 returns : tie.Need-returns Inv-loop μ-loop
-returns c = let q = stopped _ _ _ _ _ (asked (c .before .before .before)) (c .before .enum-told .given .1)
-    (c .refusal-of .ensures) in
+returns c = let q = answered-refusal (asked (c .before .before .before)) (c .before .enum-told .given .1) (c .refusal-of .ensures _ _ 0) in
     left-stop _ _ _ _ _ _ _ _ _ (c .before .before .before .before .before .loop .inv .1 .1 .1)
     (c .before .before .before .before .loop-test .taken) _ _ (q .0) (q .1)
 
 enum-known-rec : tie.Need-enum-known-rec Inv-loop μ-loop
 enum-known-rec c = search needs
 
-cast-t15 : tie.Need-cast-t15 Inv-loop μ-loop
-cast-t15 c = search needs
-
-add-t16 : tie.Need-add-t16 Inv-loop μ-loop
-add-t16 c = search needs
-
 same-length-2 : tie.Need-same-length-2 Inv-loop μ-loop
 same-length-2 c = search needs
 
 returns-2 : tie.Need-returns-2 Inv-loop μ-loop
-unfolding groupAt
-returns-2 c = absurd (miss (0 ∷ 2 ∷ 3 ∷ []) 1 tt (rw (← taken (c .before) .1) at (c .match2 .keys2)))
+returns-2 c = absurd (miss (0 ∷ 2 ∷ 3 ∷ []) 1 tt (rw (tag-of (taken (c .before))) at (c .match2 .keys2)))
 
-cast-put-group : tie.Need-cast-put-group Inv-loop μ-loop
-cast-put-group c = search needs
+cast-k : tie.Need-cast-k Inv-loop μ-loop
+cast-k c = search needs
 
-put-group-requires : tie.Need-put-group-requires Inv-loop μ-loop
-put-group-requires c κs = search needs
+mul-k : tie.Need-mul-k Inv-loop μ-loop
+mul-k c = search needs
+
+put-four-requires : tie.Need-put-four-requires Inv-loop μ-loop
+put-four-requires c κs = search needs
 
 add-at : tie.Need-add-at Inv-loop μ-loop
 add-at c = let w = room (told c) in omega arith
@@ -119,14 +112,14 @@ loop-less : tie.Need-loop-less Inv-loop μ-loop
 loop-less c = search needs
 
 loop-again : tie.Need-loop-again Inv-loop μ-loop
-loop-again c = let t = taken (told c) in (
+loop-again c = let l = head (told c) .loop in (
   search needs,
   (
     room (told c),
     (
-      c .before .before .put-group .kept .0 ∙ head (told c) .loop .inv .1 .1 .0,
-      group-again _ _ _ _ _ _ _ _ (head (told c) .loop .inv .1 .1 .1) (turn (told c) .loop-test .taken) (omega arith) (t .0)
-          (t .1 ∙ c .before .before .before .before .before .rec .given .1) (c .before .before .put-group .ensures),
+      c .before .before .put-four .kept .0 ∙ l .inv .1 .1 .0,
+      group-again (l .groups) (l .inv .1 .1 .1) (turn (told c) .loop-test .taken) (omega arith) (taken (told c))
+          (c .before .before .before .before .before .rec .given .1) (c .before .before .put-four .ensures),
     ),
   ),
 )
@@ -145,22 +138,21 @@ load-groups-spec =
     Inv-loop
     μ-loop
     loop-holds
-    add-read-group
+    cast-number
+    add-number
+    add-t14
     read-group-requires
     enum-known-answer
     enum-told
     refusal-of-requires
-    cast-t13
-    add-t14
     same-length
     returns
     enum-known-rec
-    cast-t15
-    add-t16
     same-length-2
     returns-2
-    cast-put-group
-    put-group-requires
+    cast-k
+    mul-k
+    put-four-requires
     add-at
     add-i
     loop-less

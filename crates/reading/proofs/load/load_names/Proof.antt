@@ -10,13 +10,14 @@ use denote.Ref.{now}
 use lib.ListN.{length, drop, length-set}
 use Rattle.wire.specs.Edition.{editionOf, labelLimit}
 use Rattle.wire.specs.Bytes.{u16At}
-use Rattle.wire.specs.Record.{refusal}
 use Rattle.wire.specs.SheetFormat.{nameTests, nameOf}
-use Rattle.reading.specs.Answers.{WholeName, answered, nameAt}
-use Rattle.reading.specs.Loaded.{recordsIn, AllGrouped, AllPass}
-use Rattle.reading.proofs.Fields.{stopped, name-whole, name-same, answered-carried}
-use Rattle.reading.proofs.Many.{Left, left-start, left-stop, left-done, name-alone}
-use Rattle.reading.proofs.Many.{name-used, name-again, each-more, grouped-more}
+use Rattle.reading.specs.Meant.{meantNumber}
+use Rattle.reading.specs.Answers.{name, Answered, WholeName}
+use Rattle.reading.specs.Loaded.{recordsIn, passedAs, AllGrouped, AllPass}
+use Rattle.reading.proofs.Fields.{name-whole}
+use Rattle.reading.proofs.Carried.{Handed, answered-record, answered-refusal, tag-of, name-same}
+use Rattle.reading.proofs.Many.{never-read, Left, left-start, left-stop, left-done, pass-more, grouped-more}
+use Rattle.reading.proofs.Many.{name-alone, name-used, name-again}
 use Rattle.reading.proofs.load.load_names.Statement.{statement}
 use Rattle.reading.proofs.load.load_names.Tie as tie
 
@@ -42,29 +43,27 @@ entry c = c .before .before .before .before .before .before .before .before .bef
 abbrev bytes : tie.After-known-told Inv-loop μ-loop → List ℕ
 bytes c = now (entry c .args .s)
 
-abbrev told : tie.After-struct-known Inv-loop μ-loop → tie.After-known-told Inv-loop μ-loop
+abbrev told : tie.After-number-meant Inv-loop μ-loop → tie.After-known-told Inv-loop μ-loop
 told c = c .before .before .before .before .before .before .before
 
 -- what the reader answers
 asked : (c : tie.After-read-name Inv-loop μ-loop) → let a = c .before .before .before .before .before .before .args in
-    let at = c .before .before .loop .at in
-    c .read-name .result ≡ answered (refusal (nameTests (editionOf (a .edition)) (a .groups) [] (drop at (now (a .s))))) (nameAt (now (a .s)) at)
+    Answered (nameTests (editionOf (a .edition)) (a .groups) []) (λ b. name (nameOf b)) (now (a .s)) (c .before .before .loop .at) (c .read-name .result)
 asked c = c .read-name .ensures
 
--- a record says that its tests passed
-taken : (c : tie.After-known-told Inv-loop μ-loop) → let at = head c .loop .at in
-    (refusal (nameTests (editionOf (entry c .args .edition)) (entry c .args .groups) [] (drop at (bytes c))) ≡ 0) ×
-    (nameAt (bytes c) at ≡ c .before .answer .given .0 .0)
-taken c = answered-carried _ _ _ (sym (asked (c .before .before .before)) ∙ c .before .answer .given .1)
+-- a record was handed up
+taken : (c : tie.After-known-told Inv-loop μ-loop) →
+    Handed (nameTests (editionOf (entry c .args .edition)) (entry c .args .groups) []) (λ b. name (nameOf b)) (bytes c) (head c .loop .at) (c .before .answer .given .0 .0)
+taken c = answered-record (asked (c .before .before .before)) (c .before .answer .given .1)
 
 room : (c : tie.After-known-told Inv-loop μ-loop) → let at = head c .loop .at in
     WholeName (bytes c) at × (u16At (bytes c) at ≤ labelLimit (editionOf (entry c .args .edition)) + 4)
-room c = name-whole (editionOf (entry c .args .edition)) (bytes c) (head c .loop .at) (entry c .args .groups) [] (taken c .0)
+room c = name-whole (editionOf (entry c .args .edition)) (bytes c) (head c .loop .at) (entry c .args .groups) [] (taken c .pass)
 
 -- what the record carries
 same : (c : tie.After-rec Inv-loop μ-loop) → let s = bytes (c .before .before) in let at = head (c .before .before) .loop .at in
-    (c .rec .given .0 .0 .group ≡ nameOf (drop at s) .group) × (c .rec .given .0 .0 .len ≡ u16At s at)
-same c = name-same _ _ _ (taken (c .before .before) .1 ∙ c .rec .given .1)
+    let n = c .rec .given .0 .0 in (meantNumber (n .means) ≡ nameOf (drop at s) .group) × (n .bytes ≡ u16At s at - 4)
+same c = name-same (taken (c .before .before)) (c .rec .given .1) (room (c .before .before) .0)
 
 loop-holds : tie.Need-loop-holds Inv-loop μ-loop
 unfolding recordsIn
@@ -110,13 +109,12 @@ same-length-2 : tie.Need-same-length-2 Inv-loop μ-loop
 same-length-2 c = search needs
 
 returns : tie.Need-returns Inv-loop μ-loop
-returns c = let q = stopped _ _ _ _ _ (asked (c .before .before .before)) (c .before .enum-told .given .1)
-    (c .refusal-of .ensures) in
+unfolding passedAs
+returns c = let q = answered-refusal (asked (c .before .before .before)) (c .before .enum-told .given .1) (c .refusal-of .ensures _ _ 0) in
     record {
       reads = left-stop _ _ _ _ _ _ _ _ _ (c .before .before .before .before .before .loop .inv .1 .1 .1 .0)
           (c .before .before .before .before .loop-test .taken) _ _ (name-alone _ _ _ _ _ (q .0) (q .1)) (q .1);
-      grouped = tt;
-      pass = tt;
+      grouped = λ at e. never-read e;
     }
 
 enum-known-rec : tie.Need-enum-known-rec Inv-loop μ-loop
@@ -129,8 +127,7 @@ same-length-4 : tie.Need-same-length-4 Inv-loop μ-loop
 same-length-4 c = search needs
 
 returns-2 : tie.Need-returns-2 Inv-loop μ-loop
-unfolding nameAt
-returns-2 c = absurd (miss (0 ∷ 1 ∷ 3 ∷ []) 2 tt (rw (← taken (c .before) .1) at (c .match2 .keys2)))
+returns-2 c = absurd (miss (0 ∷ 1 ∷ 3 ∷ []) 2 tt (rw (tag-of (taken (c .before))) at (c .match2 .keys2)))
 
 used-before-requires : tie.Need-used-before-requires Inv-loop μ-loop
 used-before-requires c κs = (
@@ -148,14 +145,17 @@ same-length-6 : tie.Need-same-length-6 Inv-loop μ-loop
 same-length-6 c = search needs
 
 returns-3 : tie.Need-returns-3 Inv-loop μ-loop
+unfolding passedAs
 returns-3 c = record {
   reads = left-stop _ _ _ _ _ _ _ _ _ (head (c .before .before .before .before .before .before) .loop .inv .1 .1 .1 .0)
       (turn (c .before .before .before .before .before .before) .loop-test .taken) _ _
-      (name-used _ _ _ _ (taken (c .before .before .before .before .before .before) .0)
+      (name-used _ _ _ _ (taken (c .before .before .before .before .before .before) .pass)
       (sym (c .before .used-before .ensures) ∙ c .if1 .taken)) (λ e. omega arith);
-  grouped = tt;
-  pass = tt;
+  grouped = λ at e. never-read e;
 }
+
+number-meant-requires : tie.Need-number-meant-requires Inv-loop μ-loop
+number-meant-requires c κs = search needs
 
 mul-names : tie.Need-mul-names Inv-loop μ-loop
 mul-names c = search needs
@@ -169,14 +169,14 @@ mul-labels c = search needs
 slice-write-labels : tie.Need-slice-write-labels Inv-loop μ-loop
 slice-write-labels c = search needs
 
-cast-at : tie.Need-cast-at Inv-loop μ-loop
-cast-at c = let e = same (c .before .before .before .before .before) in let w = room (told c) in omega arith
-
 add-at : tie.Need-add-at Inv-loop μ-loop
-add-at c = let e = same (c .before .before .before .before .before) in let w = room (told c) in omega arith
+add-at c = let w = room (told c) in omega arith
+
+cast-at : tie.Need-cast-at Inv-loop μ-loop
+cast-at c = search needs
 
 add-at-2 : tie.Need-add-at-2 Inv-loop μ-loop
-add-at-2 c = let e = same (c .before .before .before .before .before) in let w = room (told c) in omega arith
+add-at-2 c = let e = same (c .before .before .before .before .before .before) in let w = room (told (c .before)) in omega arith
 
 add-i : tie.Need-add-i Inv-loop μ-loop
 add-i c = search needs
@@ -185,23 +185,23 @@ loop-less : tie.Need-loop-less Inv-loop μ-loop
 loop-less c = search needs
 
 loop-again : tie.Need-loop-again Inv-loop μ-loop
-loop-again c = let e = same (c .before .before .before .before .before) in
-    let w = room (told c) in
-    let t = taken (told c) in
-    let l = head (told c) .loop in (
+loop-again c = let e = same (c .before .before .before .before .before .before) in
+    let w = room (told (c .before)) in
+    let t = taken (told (c .before)) in
+    let l = head (told (c .before)) .loop in (
       search needs,
       (
         omega arith,
         (
           (simp length-set (l .inv .1 .1 .0 .0), simp length-set (l .inv .1 .1 .0 .1)),
           (
-            name-again _ _ (l .names) _ _ _ _ _ _ _ (l .inv .1 .1 .1 .0) (turn (told c) .loop-test .taken) (omega arith) (t .0)
-                (sym (c .before .before .used-before .ensures) ∙ c .before .if1 .left) (e .1),
+            name-again (l .labels) _ _ (l .inv .1 .1 .1 .0) (turn (told (c .before)) .loop-test .taken) (omega arith) t
+                (c .before .before .before .before .before .before .rec .given .1) (w .0) (sym (c .before .before .before .used-before .ensures) ∙ c .before .before .if1 .left),
             (
-              grouped-more (bytes (told c)) (l .names) (l .labels) (l .i) _ (l .at) (omega arith) (omega arith)
-                  (l .inv .1 .1 .1 .1 .0) (e .0),
-              each-more (λ p. refusal (nameTests (editionOf (entry (told c) .args .edition)) (entry (told c) .args .groups) [] (drop p (bytes (told c)))) ≡ 0) (l .labels) (l .i)
-                  (l .at) (omega arith) (l .inv .1 .1 .1 .1 .1) (t .0),
+              grouped-more (bytes (told (c .before))) (l .labels) (l .i) (l .at) (omega arith) (l .names) _ (omega arith)
+                  (l .inv .1 .1 .1 .1 .0) (c .before .number-meant .ensures ∙ e .0),
+              pass-more (bytes (told (c .before))) (l .labels) (l .i) (l .at) (omega arith)
+                  (nameTests (editionOf (entry (told (c .before)) .args .edition)) (entry (told (c .before)) .args .groups) []) (l .inv .1 .1 .1 .1 .1) (t .pass),
             ),
           ),
         ),
@@ -218,8 +218,7 @@ returns-4 : tie.Need-returns-4 Inv-loop μ-loop
 returns-4 c = let e : c .before .loop .i ≡ c .before .before .before .before .before .args .count = omega arith in
     record {
       reads = rw e at (left-done _ _ _ _ _ _ _ _ _ (c .before .loop .inv .1 .1 .1 .0) e (c .before .loop .inv .1 .0));
-      grouped = rw e at (c .before .loop .inv .1 .1 .1 .1 .0);
-      pass = rw e at (c .before .loop .inv .1 .1 .1 .1 .1);
+      grouped = λ at f. rw e at (c .before .loop .inv .1 .1 .1 .1 .0);
     }
 
 pub load-names-spec : {M : Type 1} → statement M
@@ -248,12 +247,13 @@ load-names-spec =
     same-length-5
     same-length-6
     returns-3
+    number-meant-requires
     mul-names
     slice-write-names
     mul-labels
     slice-write-labels
-    cast-at
     add-at
+    cast-at
     add-at-2
     add-i
     loop-less

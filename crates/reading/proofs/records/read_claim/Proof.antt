@@ -1,14 +1,16 @@
 -- `read_claim` meets its contract: frame, kind, and then the tests of what follows.
-use mathlib.Core.Path.{_≡_, sym}
+use mathlib.Core.Path.{_≡_, sym, _∙_}
 use mathlib.Core.Bool.{true}
 use mathlib.Core.List.{[]}
+use native.Mathlib.Omega.{arith}
 use borrow.Author.Tests.{le-leb, lt-leb}
 use denote.Ref.{now}
 use lib.ListN.{drop}
 use Rattle.wire.specs.Record.{framed, refusal}
 use Rattle.wire.specs.SheetFormat.{claimTests}
-use Rattle.reading.specs.Answers.{Whole, answered, claimAt, claimBody}
-use Rattle.reading.proofs.Fields.{frame-whole, frame-cut, read-at, claim-past, answered-not}
+use Rattle.reading.specs.Answers.{Whole, claimBody}
+use Rattle.reading.proofs.Fields.{frame-whole, frame-cut, read-at, claim-past}
+use Rattle.reading.proofs.Taken.{claim-room, claim-refused, claim-answered}
 use borrow.Author.Needs.{needs}
 use Rattle.reading.proofs.records.read_claim.Statement.{statement}
 use Rattle.reading.proofs.records.read_claim.Tie as tie
@@ -27,13 +29,17 @@ past c =
     claim-past (a .names) _ _ (whole (c .before .before .before) .0)
     (read-at (now (a .s)) (a .at) 2 _ (c .before .before .word .ensures)) (c .before .if2 .left) (c .if3 .left)
 
+passes : (c : tie.Else4) → let a = c .before .before .before .before .before .before .before .before .args in
+    refusal (claimTests (a .names) [] (drop (a .at) (now (a .s)))) ≡ 0
+passes c = past (c .before .before) ∙ sym (c .before .body-refusal .ensures) ∙ c .if4 .left
+
 frame-requires : tie.Need-frame-requires
 frame-requires c κs = search needs
 
 returns : tie.Need-returns
-unfolding answered refusal claimTests
+unfolding refusal claimTests
 returns c = let a = c .before .before .before .args in
-    simp (frame-cut (now (a .s)) (a .at) _ (c .before .before .before .pre) (c .before .frame .ensures) (c .if1 .taken))
+    claim-refused (λ z. omega arith) (simp (frame-cut (now (a .s)) (a .at) _ (c .before .before .before .pre) (c .before .frame .ensures) (c .if1 .taken)))
 
 add-word : tie.Need-add-word
 add-word c = search needs
@@ -42,21 +48,21 @@ word-requires : tie.Need-word-requires
 word-requires c κs = search needs
 
 returns-2 : tie.Need-returns-2
-unfolding answered refusal claimTests
+unfolding refusal claimTests
 returns-2 c = let w = whole (c .before .before) in
     let a = c .before .before .before .before .before .args in
-    simp (w .0, read-at (now (a .s)) (a .at) 2 _ (c .before .word .ensures), lt-leb _ _ (c .if2 .taken))
+    claim-refused (λ z. omega arith) (simp (w .0, read-at (now (a .s)) (a .at) 2 _ (c .before .word .ensures), lt-leb _ _ (c .if2 .taken)))
 
 returns-3 : tie.Need-returns-3
-unfolding answered refusal claimTests
+unfolding refusal claimTests
 returns-3 c = let w = whole (c .before .before .before) in
     let a = c .before .before .before .before .before .before .args in
-    simp (
+    claim-refused (λ z. omega arith) (simp (
       w .0,
       read-at (now (a .s)) (a .at) 2 _ (c .before .before .word .ensures),
       le-leb _ _ (c .before .if2 .left),
       lt-leb _ _ (c .if3 .taken),
-    )
+    ))
 
 body-refusal-requires : tie.Need-body-refusal-requires
 body-refusal-requires c κs = (
@@ -65,12 +71,16 @@ body-refusal-requires c κs = (
 )
 
 returns-4 : tie.Need-returns-4
-returns-4 c = sym (rw (past (c .before .before), ← c .before .body-refusal .ensures) (answered-not _ _ (c .if4 .taken)))
+returns-4 c = claim-refused (c .if4 .taken) (past (c .before .before) ∙ sym (c .before .body-refusal .ensures))
+
+take-claim-requires : tie.Need-take-claim-requires
+take-claim-requires c κs = (
+  claim-room _ _ _ (passes c),
+  (c .before .before .before .if2 .left, (c .before .before .if3 .left, sym (c .before .before .before .before .word .ensures))),
+)
 
 returns-5 : tie.Need-returns-5
-unfolding answered claimAt
-returns-5 c = let w = whole (c .before .before .before .before .before) in
-    simp (past (c .before .before), sym (c .before .body-refusal .ensures), c .if4 .left, w .1 .says)
+returns-5 c = claim-answered (passes (c .before)) (c .take-claim .ensures)
 
 pub read-claim-spec : {M : Type 1} → statement M
 read-claim-spec =
@@ -84,4 +94,5 @@ read-claim-spec =
     returns-3
     body-refusal-requires
     returns-4
+    take-claim-requires
     returns-5)

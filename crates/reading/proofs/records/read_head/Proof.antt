@@ -1,14 +1,16 @@
 -- `read_head` meets its contract: the tests in the code's order are those of the format.
 use mathlib.Core.Path.{_≡_, sym, _∙_}
 use mathlib.Core.Bool.{true}
+use native.Mathlib.Omega.{arith}
 use borrow.Author.Tests.{eq-eqb, ne-eqb}
 use denote.Ref.{now}
 use lib.ListN.{drop}
 use Rattle.wire.specs.Bytes.{u16At}
 use Rattle.wire.specs.Record.{framed, refusal}
-use Rattle.wire.specs.SheetFormat.{headTests}
-use Rattle.reading.specs.Answers.{Whole, answered, headAt}
+use Rattle.wire.specs.SheetFormat.{headTests, headOf}
+use Rattle.reading.specs.Answers.{Whole, recordAs}
 use Rattle.reading.proofs.Fields.{frame-whole, frame-cut, read-at, whole-length}
+use Rattle.reading.proofs.Carried.{answer-refused, answer-record}
 use borrow.Author.Needs.{needs}
 use Rattle.reading.proofs.records.read_head.Statement.{statement}
 use Rattle.reading.proofs.records.read_head.Tie as tie
@@ -36,9 +38,9 @@ frame-requires : tie.Need-frame-requires
 frame-requires c κs = search needs
 
 returns : tie.Need-returns
-unfolding answered refusal headTests
+unfolding refusal headTests
 returns c = let a = c .before .before .before .args in
-    simp (frame-cut (now (a .s)) (a .at) _ (c .before .before .before .pre) (c .before .frame .ensures) (c .if1 .taken))
+    answer-refused (λ z. omega arith) (simp (frame-cut (now (a .s)) (a .at) _ (c .before .before .before .pre) (c .before .frame .ensures) (c .if1 .taken)))
 
 add-word : tie.Need-add-word
 add-word c = search needs
@@ -47,22 +49,22 @@ word-requires : tie.Need-word-requires
 word-requires c κs = search needs
 
 returns-2 : tie.Need-returns-2
-unfolding answered refusal headTests
+unfolding refusal headTests
 returns-2 c = let w = whole (c .before .before) in
     let a = c .before .before .before .before .before .args in
-    simp (w .0, read-at (now (a .s)) (a .at) 2 _ (c .before .word .ensures), ne-eqb _ _ (c .if2 .taken))
+    answer-refused (λ z. omega arith) (simp (w .0, read-at (now (a .s)) (a .at) 2 _ (c .before .word .ensures), ne-eqb _ _ (c .if2 .taken)))
 
 returns-3 : tie.Need-returns-3
-unfolding answered refusal headTests
+unfolding refusal headTests
 returns-3 c = let w = whole (c .before .before .before) in
     let a = c .before .before .before .before .before .before .args in
-    simp (
+    answer-refused (λ z. omega arith) (simp (
       w .0,
       read-at (now (a .s)) (a .at) 2 _ (c .before .before .word .ensures),
       eq-eqb _ _ (c .before .if2 .left),
       whole-length _ _ _ (w .1),
       ne-eqb _ _ (c .if3 .taken),
-    )
+    ))
 
 add-word-2 : tie.Need-add-word-2
 add-word-2 c = search needs
@@ -92,31 +94,33 @@ head-allowed-requires : tie.Need-head-allowed-requires
 head-allowed-requires c κs = search needs
 
 returns-4 : tie.Need-returns-4
-unfolding answered refusal headTests headAt
+unfolding refusal headTests recordAs headOf
 returns-4 c = let l = lead (c .before .before .before .before .before .before) in
     let a = c .before .before .before .before .before .before .before .before .before .before .before .before .args in
     let s = now (a .s) in
-    simp (
+    let groups = read-at s (a .at) 6 _ (c .before .before .before .before .before .word2 .ensures) in
+    let names = read-at s (a .at) 8 _ (c .before .before .before .before .word3 .ensures) in
+    let claims = read-at s (a .at) 10 _ (c .before .before .before .word4 .ensures) in
+    let edition = read-at s (a .at) 4 _ (c .before .before .word5 .ensures) in
+    answer-record
+    (simp (
       l .0,
       l .1 .0,
       l .1 .1,
-      read-at s (a .at) 6 _ (c .before .before .before .before .before .word2 .ensures),
-      read-at s (a .at) 8 _ (c .before .before .before .before .word3 .ensures),
-      read-at s (a .at) 10 _ (c .before .before .before .word4 .ensures),
-      read-at s (a .at) 4 _ (c .before .before .word5 .ensures),
-      sym (c .before .before .before .before .before .word2 .ensures),
-      sym (c .before .before .before .before .word3 .ensures),
-      sym (c .before .before .before .word4 .ensures),
-      sym (c .before .before .word5 .ensures),
+      groups,
+      names,
+      claims,
+      edition,
       sym (c .before .head-allowed .ensures) ∙ c .if4 .taken,
-    )
+    ))
+    (simp (l .1 .0, edition, groups, names, claims))
 
 returns-5 : tie.Need-returns-5
-unfolding answered refusal headTests
+unfolding refusal headTests
 returns-5 c = let l = lead (c .before .before .before .before .before .before) in
     let a = c .before .before .before .before .before .before .before .before .before .before .before .before .args in
     let s = now (a .s) in
-    simp (
+    answer-refused (λ z. omega arith) (simp (
       l .0,
       l .1 .0,
       l .1 .1,
@@ -125,7 +129,7 @@ returns-5 c = let l = lead (c .before .before .before .before .before .before) i
       read-at s (a .at) 10 _ (c .before .before .before .word4 .ensures),
       read-at s (a .at) 4 _ (c .before .before .word5 .ensures),
       sym (c .before .head-allowed .ensures) ∙ c .if4 .left,
-    )
+    ))
 
 pub read-head-spec : {M : Type 1} → statement M
 read-head-spec =

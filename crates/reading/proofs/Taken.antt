@@ -1,0 +1,122 @@
+-- Laws of the claim that a record carries: it is the record's, and what holds of it where the tests passed.
+use Prim.Native.Nat.{ℕ, zero, suc, _+_, _*_, _≤_, _<_}
+use mathlib.Core.Path.{_≡_, sym, _∙_}
+use mathlib.Core.Bool.{true, _&&_}
+use mathlib.Core.List.{List, [], _∷_}
+use native.Mathlib.Omega.{arith}
+use native.Mathlib.Nat.{add-assoc}
+use borrow.Author.Tests.{leb-true}
+use lib.ListN.{length, drop, length-drop}
+use lib.Dec.{leb}
+use Rattle.wire.specs.Bytes.{u16At}
+use Rattle.wire.specs.Record.{kindOf, refusal}
+use Rattle.wire.specs.SheetFormat.{u16s, allWithin, leftOf, rightOf, claimTests}
+use Rattle.wire.specs.Passing.{and-true, Pass, pass-of-refusal}
+use Rattle.wire.specs.Facts.{within-at}
+use Rattle.wire.specs.Sorts.{SidesFrame, claim-numbered, claim-frame, claim-cases, claim-count, claim-inside, claim-apart}
+use Rattle.reading.specs.ClaimHeld.{ListsHeld}
+use Rattle.reading.specs.Answers.{recordAs, ClaimTaken, ClaimAnswered}
+use Rattle.reading.specs.declared.claim.Claim.{Claim}
+use Rattle.reading.specs.declared.claim.Claim.the-variants as claim-of
+use Rattle.reading.specs.declared.records.Record.the-variants as record-of
+use Rattle.reading.specs.declared.records.Answer.the-variants as answer
+use Rattle.reading.proofs.Fields.{field-at, fields-at, read-at}
+use Rattle.reading.proofs.Carried.{answer-refused, answer-record}
+
+-- numbers that are all from 1 to `names`
+all-within : (s : List ℕ) (names i n : ℕ) → allWithin names (u16s s i n) ≡ true → (j : ℕ) → j < n →
+    (1 ≤ u16At s (i + 2 * j)) × (u16At s (i + 2 * j) ≤ names)
+unfolding allWithin u16s
+all-within s names i zero e j l = absurd (omega arith)
+all-within s names i (suc n) e zero l =
+    let a = and-true (leb 1 (u16At s i) && leb (u16At s i) names) (allWithin names (u16s s (i + 2) n)) e in
+    let b = and-true (leb 1 (u16At s i)) (leb (u16At s i) names) (a .0) in
+    let o : i + 2 * 0 ≡ i = omega arith in
+    rw o (leb-true _ _ (b .0), leb-true _ _ (b .1))
+all-within s names i (suc n) e (suc j) l =
+    let a = and-true (leb 1 (u16At s i) && leb (u16At s i) names) (allWithin names (u16s s (i + 2) n)) e in
+    let o : i + 2 * suc j ≡ i + 2 + 2 * j = omega arith in
+    rw o (all-within s names (i + 2) n (a .1) j (omega arith))
+
+tests-passed : (names : ℕ) (b : List ℕ) → refusal (claimTests names [] b) ≡ 0 → Pass (claimTests names [] b)
+tests-passed names b e = pass-of-refusal 1 7 (claimTests names [] b) (claim-numbered names [] b) (omega arith) e
+
+pub claim-room : (s : List ℕ) (at names : ℕ) → refusal (claimTests names [] (drop at s)) ≡ 0 → at + 10 ≤ length s
+claim-room s at names e =
+    let p = tests-passed names (drop at s) e in
+    let w = claim-frame names [] (drop at s) p in
+    claim-cases names [] (drop at s) p (λ k f. omega (arith, length-drop at s)) (λ k f. omega (arith, length-drop at s))
+    (λ k f. omega (arith, length-drop at s))
+
+-- a count
+pub count-taken : (s : List ℕ) (at name lo hi : ℕ) → u16At s (at + 2) ≡ 4 → name ≡ u16At s (at + 4) → lo ≡ u16At s (at + 6) →
+    hi ≡ u16At s (at + 8) → ClaimTaken s at (claim-of.Count (record { name = record { 0 = name }; lo = lo; hi = hi }))
+unfolding recordAs
+count-taken s at name lo hi k a b c =
+    let kind : kindOf (drop at s) ≡ 4 = field-at s at 2 ∙ k in
+    record {
+      says = rw (claim-count (drop at s) kind, kind, read-at s at 4 name a, read-at s at 6 lo b, read-at s at 8 hi c);
+      held = λ names p. claim-cases names [] (drop at s) (tests-passed names (drop at s) p)
+          (λ four f. rw (read-at s at 4 name a) at (within-at names (u16At (drop at s) 4 ∷ []) (f .name) 0 0 (omega arith)))
+          (λ five f. absurd (omega arith)) (λ six f. absurd (omega arith));
+    }
+
+-- lists
+module _ (s : List ℕ) (at m n : ℕ) (a : m ≡ u16At s (at + 4)) (b : n ≡ u16At s (at + 6)) where
+  left-at : leftOf (drop at s) ≡ u16s s (at + 8) m
+  unfolding leftOf
+  left-at = rw (read-at s at 4 m a) (fields-at s at 8 m)
+
+  right-at : rightOf (drop at s) ≡ u16s s (at + 8 + 2 * m) n
+  unfolding rightOf
+  right-at = rw (read-at s at 4 m a, read-at s at 6 n b, fields-at s at (8 + 2 * m) n, add-assoc at 8 (2 * m))
+
+  sides-held : (names : ℕ) → Pass (claimTests names [] (drop at s)) → SidesFrame names (drop at s) →
+      ListsHeld s names (record { m = m; n = n; at = at + 8 })
+  sides-held names p f =
+      let w = claim-frame names [] (drop at s) p in
+      let x = read-at s at 4 m a in
+      let y = read-at s at 6 n b in
+      record {
+        long = omega (arith, length-drop at s);
+        someLeft = omega arith;
+        fewLeft = omega arith;
+        someRight = omega arith;
+        fewRight = omega arith;
+        left = all-within s names (at + 8) m (rw left-at at (f .leftNames));
+        right = all-within s names (at + 8 + 2 * m) n (rw right-at at (f .rightNames));
+      }
+
+  lists-held : (u16At s (at + 2) ≡ 4 → ⊥) → (names : ℕ) → refusal (claimTests names [] (drop at s)) ≡ 0 →
+      ListsHeld s names (record { m = m; n = n; at = at + 8 })
+  lists-held k names e =
+      let p = tests-passed names (drop at s) e in
+      claim-cases names [] (drop at s) p (λ four f. absurd (k (sym (field-at s at 2) ∙ four)))
+      (λ five f. sides-held names p f) (λ six f. sides-held names p f)
+
+  pub inside-taken : u16At s (at + 2) ≡ 5 → ClaimTaken s at (claim-of.Inside (record { m = m; n = n; at = at + 8 }))
+  unfolding recordAs
+  inside-taken k =
+      let kind : kindOf (drop at s) ≡ 5 = field-at s at 2 ∙ k in
+      record { says = rw (claim-inside (drop at s) kind, kind, left-at, right-at); held = lists-held (λ z. omega arith) }
+
+  pub apart-taken : u16At s (at + 2) ≡ 6 → ClaimTaken s at (claim-of.Apart (record { m = m; n = n; at = at + 8 }))
+  unfolding recordAs
+  apart-taken k =
+      let kind : kindOf (drop at s) ≡ 6 = field-at s at 2 ∙ k in
+      record { says = rw (claim-apart (drop at s) kind, kind, left-at, right-at); held = lists-held (λ z. omega arith) }
+
+-- the answer to a claim's tests: the first that failed, or the claim
+module _ {names : ℕ} {s : List ℕ} {at : ℕ} where
+  pub claim-refused : {n : ℕ} → (n ≡ 0 → ⊥) → refusal (claimTests names [] (drop at s)) ≡ n → ClaimAnswered names s at (answer.Refused n)
+  claim-refused h e = record {
+    answers = answer-refused h e;
+    held = λ c f. let z : _≡_ {A = ℕ} 0 1 = cc in absurd (omega arith);
+  }
+
+  pub claim-answered : {c : Claim} → refusal (claimTests names [] (drop at s)) ≡ 0 → ClaimTaken s at c →
+      ClaimAnswered names s at (answer.Record (record-of.Claim c))
+  claim-answered {c} e w = record {
+    answers = answer-record e (w .says);
+    held = λ d f. let z : c ≡ d = cc in rw z at (w .held names e);
+  }

@@ -1,0 +1,48 @@
+-- `claim_bytes` meets its contract, by the three cases.
+use mathlib.Core.Path.{_∙_}
+use Rattle.wire.specs.Bytes.{le16}
+use Rattle.wire.specs.Encoding.{encodeRecord, le16s, encodeClaim}
+use Rattle.reading.proofs.Carried.{lists-bytes}
+use borrow.Author.Needs.{needs}
+use Rattle.reading.proofs.claim.claim_bytes.Statement.{statement}
+use Rattle.reading.proofs.claim.claim_bytes.Tie as tie
+
+enum-told : tie.Need-enum-told
+enum-told c = search needs
+
+enum-known-c : tie.Need-enum-known-c
+enum-known-c c = search needs
+
+lists-bytes-requires : tie.Need-lists-bytes-requires
+lists-bytes-requires c κs = search needs
+
+enum-known-c-2 : tie.Need-enum-known-c-2
+enum-known-c-2 c = search needs
+
+lists-bytes-requires-2 : tie.Need-lists-bytes-requires-2
+lists-bytes-requires-2 c κs = search needs
+
+returns : tie.Need-returns
+unfolding encodeClaim encodeRecord le16s le16
+returns c = λ s. rw (c .enum-told .given .1)
+
+returns-2 : tie.Need-returns-2
+unfolding encodeClaim
+returns-2 c = λ s. rw (c .before .before .c .given .1, lists-bytes s 5) (c .lists-bytes .ensures)
+
+returns-3 : tie.Need-returns-3
+unfolding encodeClaim
+returns-3 c = λ s. rw (c .before .before .c2 .given .1, lists-bytes s 6) (c .lists-bytes2 .ensures)
+
+pub claim-bytes-spec : {M : Type 1} → statement M
+claim-bytes-spec =
+    tie.close
+    (tie.spec
+    enum-told
+    enum-known-c
+    lists-bytes-requires
+    enum-known-c-2
+    lists-bytes-requires-2
+    returns
+    returns-2
+    returns-3)
