@@ -6,7 +6,6 @@ use mathlib.Core.List.{List}
 use native.Mathlib.Omega.{arith}
 use native.Mathlib.Nat.{le-refl}
 use lib.ListN.{length, getD, set, length-set}
-use lib.Seq.{getD-set-same, getD-set-other}
 use lib.Dec.{eqb}
 use Rattle.meaning.specs.Sum.{bit}
 use Rattle.meaning.specs.Sheet.{Sheet, Group, Son, Tree}
@@ -16,7 +15,7 @@ use Rattle.sizes.specs.Balanced.{Choice}
 use Rattle.sizes.specs.Span.{Span, In, Kind}
 use Rattle.sizes.specs.Fold.{kindOf, later, Measured}
 use Rattle.meaning.proofs.SumLaws.{compare-eq, son-parent, bit-most}
-use Rattle.runs.specs.Told.{numberIn}
+use Rattle.runs.specs.Told.{numberIn, number-same, number-other}
 use Rattle.measuring.specs.Held.{Alike, modeKind}
 use Rattle.measuring.specs.Tables.{kind-in}
 use Rattle.measuring.specs.Pairs.{pairIn}
@@ -58,13 +57,7 @@ pub bit-mark : (c : Bool) → eqb (bit c) 1 ≡ c
 bit-mark true = refl
 bit-mark false = refl
 
--- a store at group g
-pub number-same : (t : List ℕ) (g x : ℕ) → 1 ≤ g → g ≤ length t → numberIn (set t (g - 1) x) g ≡ x
-number-same t g x a l = getD-set-same t (g - 1) x 0 (omega arith)
-
-pub number-other : (t : List ℕ) (g h x : ℕ) → 1 ≤ g → 1 ≤ h → (h ≡ g → ⊥) → numberIn (set t (g - 1) x) h ≡ numberIn t h
-number-other t g h x a b n = getD-set-other t (g - 1) (h - 1) x 0 (λ e. n (omega arith))
-
+-- a mark stored at group g
 pub mark-same : (t : List ℕ) (g : ℕ) (c : Bool) → 1 ≤ g → g ≤ length t → markedIn (set t (g - 1) (bit c)) g ≡ c
 mark-same t g c a l = ap (λ x. eqb x 1) (number-same t g (bit c) a l) ∙ bit-mark c
 

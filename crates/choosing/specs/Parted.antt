@@ -146,7 +146,8 @@ module _ {s : Sheet} {may : ℕ → Bool → Bool} {z : ℕ → Bool → Span} (
             (λ n. compare-eq h p
             (λ x. rw x (v .share .rest))
             (λ y. rw (v .rests h (j .first) n y, v .states h (j .first) n y)
-            (subst (In (R h)) (ap (λ n. later s z h n (C h)) e ∙ later-skip s z h (s .size - suc i) (C h) (rw o (one-parent k h y)))
+            (subst (In (R h)) (ap (λ n. later s z h n (C h)) e ∙ later-skip s z h (s .size - suc i) (C h)
+            (rw o (one-parent k h y)))
             (w .left h j (omega arith)))));
         numbers = λ h j l. compare-eq h (suc i)
             (λ x. rw (x, v .ownRest) (leads-own t (suc i) f' (f' (suc i)) last))

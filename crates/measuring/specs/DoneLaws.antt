@@ -239,7 +239,8 @@ module _ {t : List ℕ} {n : ℕ} {f last prev : List ℕ} (w : Readable t n f l
             ∙ sym (rw b (later-next s (spansIn t n f) g i son c));
       }
 
-  pub at-end : {i : ℕ} {sum : Bool → Span} {t₀ a₀ t₁ a₁ : List ℕ} → AtSon (sheetIn t n) (spansIn t n f) g i sum t₀ a₀ t₁ a₁ → i ≡ 0
+  pub at-end : {i : ℕ} {sum : Bool → Span} {t₀ a₀ t₁ a₁ : List ℕ} → AtSon (sheetIn t n) (spansIn t n f) g i sum t₀ a₀ t₁ a₁
+      → i ≡ 0
       → Done (sheetIn t n) (spansIn t n f) g 0 t₀ a₀ t₁ a₁ × Alike sum (later (sheetIn t n) (spansIn t n f) g n)
   at-end {i} a e =
       let m : sheetIn t n .size - i ≡ n = omega (arith, size-in t n) in

@@ -15,6 +15,9 @@ use Rattle.sizes.specs.Bounds.{weight-least, weight-most}
 use Rattle.meaning.proofs.SumLaws.{compare-le, compare-eq}
 use Rattle.measuring.specs.Held.{endless, topOf, spanOf, EndRoom, Room, Alike}
 
+pub span-eq : {l m u v : ℕ} → l ≡ m → u ≡ v → spanOf l u ≡ spanOf m v
+span-eq d e = rw (d, e)
+
 pub none-of : {l m : ℕ} → m < l → spanOf l m ≡ none
 unfolding spanOf
 none-of {l} {m} h = rw (lt-leb l m h)
@@ -60,9 +63,6 @@ pub less-top : (n m : ℕ) → n ≤ endless → less n (topOf m) ≡ n - m
 less-top n m h = compare-eq m endless (λ e. rw (e, top-end) (omega arith)) (λ e. rw (top-fin e))
 
 -- a span is made by writing its ends down
-pub span-eq : {l m u v : ℕ} → l ≡ m → u ≡ v → spanOf l u ≡ spanOf m v
-span-eq d e = rw (d, e)
-
 pub make-of : (l m : ℕ) → l ≤ endless → make l (topOf m) ≡ spanOf l m
 unfolding spanOf
 make-of l m h =
@@ -103,7 +103,8 @@ plus-left a b e = rw (e, top-end) (any (topOf b))
 pub plus-right : (a b : ℕ) → (a ≡ endless → ⊥) → b ≡ endless → topOf endless ≡ plus (topOf a) (topOf b)
 plus-right a b n e = rw (e, top-end, top-fin n)
 
-pub plus-both : (a b : ℕ) → (a ≡ endless → ⊥) → (b ≡ endless → ⊥) → a ≤ sizeLimit → b ≤ sizeLimit → topOf (a + b) ≡ plus (topOf a) (topOf b)
+pub plus-both : (a b : ℕ) → (a ≡ endless → ⊥) → (b ≡ endless → ⊥) → a ≤ sizeLimit → b ≤ sizeLimit
+    → topOf (a + b) ≡ plus (topOf a) (topOf b)
 plus-both a b n k h j = rw (top-fin n, top-fin k, top-fin {m = a + b} (λ e. omega arith))
 
 -- joined spans, by their ends

@@ -15,7 +15,17 @@ use Rattle.reading.specs.Tables.{groupIn}
 use Rattle.reading.specs.SheetIn.{sheetIn, size-in, group-in, parent-in}
 use Rattle.sizes.specs.Span.{Span}
 use Rattle.sizes.specs.Fold.{kindOf, shut, start, joined, later}
-use Rattle.meaning.proofs.SumLaws.{split, compare-eq, compare-le, below-suc, true-not-false, not-true-false, son-of, son-is, no-son-before}
+use Rattle.meaning.proofs.SumLaws.{
+  split,
+  compare-eq,
+  compare-le,
+  below-suc,
+  true-not-false,
+  not-true-false,
+  son-of,
+  son-is,
+  no-son-before,
+}
 use Rattle.sizes.specs.RuleSteps.{no-son}
 use Rattle.sizes.specs.LaterLaws.{later-none, later-son, later-skip}
 use Rattle.measuring.specs.Links.{linkIn, sonBelow, Linked, Links}
@@ -207,11 +217,6 @@ module _ (s : Sheet) (z : ℕ → Bool → Span) (p : ℕ) where
 
 -- the links of the sheet in a table
 module _ (t : List ℕ) (n : ℕ) where
-  pub parent-before : (g p : ℕ) → Tree (sheetIn t n) → 1 ≤ g → g ≤ n → p ≡ groupIn t (g - 1) .parent → p < g
-  parent-before g p w a b e =
-      let k = group-in t n a b in
-      omega (arith, w .before g k, parent-in t n g k)
-
   pub links-step : (last prev last' prev' : List ℕ) (m p : ℕ) → Tree (sheetIn t n) → m < n
       → p ≡ groupIn t (m + 1 - 1) .parent → Links (sheetIn t n) last prev m → Linked last prev (m + 1) p last' prev'
       → Links (sheetIn t n) last' prev' (m + 1)

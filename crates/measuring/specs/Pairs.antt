@@ -72,9 +72,15 @@ stored-put t g a b c d p l r e f = record { put = at; others = other }
   where
     at : (q : Bool) → pairIn (stored t (pairFields * (g - 1)) a b c d) g q ≡ p q
     at false =
-        span-eq (stored-0 t (pairFields * (g - 1)) a b c d (omega arith)) (stored-1 t (pairFields * (g - 1)) a b c d (omega arith)) ∙ sym e
+        span-eq
+        (stored-0 t (pairFields * (g - 1)) a b c d (omega arith))
+        (stored-1 t (pairFields * (g - 1)) a b c d (omega arith))
+        ∙ sym e
     at true =
-        span-eq (stored-2 t (pairFields * (g - 1)) a b c d (omega arith)) (stored-3 t (pairFields * (g - 1)) a b c d (omega arith)) ∙ sym f
+        span-eq
+        (stored-2 t (pairFields * (g - 1)) a b c d (omega arith))
+        (stored-3 t (pairFields * (g - 1)) a b c d (omega arith))
+        ∙ sym f
 
     out : (h : ℕ) → 1 ≤ h → (h ≡ g → ⊥) → (j : ℕ) → pairFields * (h - 1) ≤ j → j < pairFields * (h - 1) + pairFields
         → getD (stored t (pairFields * (g - 1)) a b c d) j 0 ≡ getD t j 0
@@ -84,7 +90,9 @@ stored-put t g a b c d p l r e f = record { put = at; others = other }
 
     other : (h : ℕ) → 1 ≤ h → (h ≡ g → ⊥) → (q : Bool) → pairIn (stored t (pairFields * (g - 1)) a b c d) h q ≡ pairIn t h q
     other h i n false =
-        span-eq (out h i n (pairFields * (h - 1)) (omega arith) (omega arith)) (out h i n (pairFields * (h - 1) + 1) (omega arith) (omega arith))
+        span-eq
+        (out h i n (pairFields * (h - 1)) (omega arith) (omega arith))
+        (out h i n (pairFields * (h - 1) + 1) (omega arith) (omega arith))
     other h i n true =
         span-eq
         (out h i n (pairFields * (h - 1) + 2) (omega arith) (omega arith))

@@ -110,7 +110,8 @@ turned g p l one two three = record {
 
 -- one turn, own and others being the spans of g and of its brothers after it
 pub narrow-step : {groups spans after ranges rest ranges' rest' : List ℕ} {n : ℕ} {own others whole x range y left : Span}
-    {q : Kind} → Tabled groups n → (g p : ℕ) → Son (sheetIn groups n) p g → q ≡ modeKind (groupIn groups (p - 1) .mode) → own ≡ pairIn spans g false → others ≡ pairIn after g false
+    {q : Kind} → Tabled groups n → (g p : ℕ) → Son (sheetIn groups n) p g
+    → q ≡ modeKind (groupIn groups (p - 1) .mode) → own ≡ pairIn spans g false → others ≡ pairIn after g false
     → whole ≡ spanIn rest p → x ≡ pull q whole others → range ≡ meet own x → y ≡ pull q whole own → left ≡ meet others y
     → Turned ranges rest g p range left ranges' rest' → (z : ℕ → Bool → Span) → Measures (sheetIn groups n) z spans after
     → Narrowed (sheetIn groups n) z (spanIn ranges) (spanIn rest) (g - 1)

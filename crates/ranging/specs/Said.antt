@@ -52,8 +52,8 @@ range-said ranges t r m p h g q k =
 pub bounds-said : {groups spans after : List ℕ} {n : ℕ} → Arrangeable groups n spans after
     → BottomUp (sheetIn groups n) (leastIn spans) (greatestIn spans)
 bounds-said {groups} {spans} {after} {n} k =
-    bottom-up (sheetIn groups n) (k .z) (leastIn spans) (greatestIn spans) (k .tabled .tree) (none-above (k .tabled)) (k .measured)
-    (span-told k)
+    bottom-up (sheetIn groups n) (k .z) (leastIn spans) (greatestIn spans) (k .tabled .tree) (none-above (k .tabled))
+    (k .measured) (span-told k)
 
 -- the arrangement's sets fit
 pub arrangement-fits : {groups spans after : List ℕ} {n : ℕ} {first size : ℕ → ℕ} → Arrangeable groups n spans after

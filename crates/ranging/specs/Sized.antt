@@ -7,7 +7,6 @@ use mathlib.Core.List.{List}
 use native.Mathlib.Omega.{arith}
 use native.Mathlib.Nat.{le-refl}
 use lib.ListN.{length, getD, set, length-set}
-use lib.Seq.{getD-set-same, getD-set-other}
 use Rattle.wire.specs.Limits.{noEnd}
 use Rattle.meaning.specs.Sum.{sum}
 use Rattle.meaning.specs.Sheet.{Sheet, Group, Son, Tree, Top, fin}
@@ -20,7 +19,18 @@ use Rattle.sizes.specs.Balanced.{isSon, only, sons}
 use Rattle.sizes.specs.Span.{Span, span, plus, add, join}
 use Rattle.sizes.specs.Fold.{kindOf, shut, start, joined, later, Measured}
 use Rattle.sizes.specs.Ranged.{free}
-use Rattle.meaning.proofs.SumLaws.{split, compare-le, compare-eq, sum-zero, sum-suc, son-of, son-is, son-parent, no-son-before, one-parent}
+use Rattle.meaning.proofs.SumLaws.{
+  split,
+  compare-le,
+  compare-eq,
+  sum-zero,
+  sum-suc,
+  son-of,
+  son-is,
+  son-parent,
+  no-son-before,
+  one-parent,
+}
 use Rattle.sizes.specs.RuleSteps.{kind-disjoint, shut-cover}
 use Rattle.sizes.specs.LaterLaws.{later-none, later-son, later-skip}
 use Rattle.sizes.specs.Possible.{Sizes, possible}
@@ -33,7 +43,7 @@ use Rattle.measuring.specs.HeldLaws.{none-of, some-of}
 use Rattle.measuring.specs.Pairs.{pairIn}
 use Rattle.measuring.specs.Done.{Lent}
 use Rattle.measuring.specs.DoneLaws.{room-span}
-use Rattle.runs.specs.Told.{numberIn, Told, Placeable}
+use Rattle.runs.specs.Told.{numberIn, number-same, number-other, Told, Placeable}
 use Rattle.ranging.specs.Tables.{leastIn, greatestIn}
 use Rattle.ranging.specs.Narrowed.{Measures}
 
@@ -203,13 +213,12 @@ pub sizing : (sizes left : List ℕ) (p g x y : ℕ) → 1 ≤ p → p < g → g
 sizing sizes left p g x y a b c d e =
     let mid = set left (g - 1) x in
     record {
-      found = getD-set-same sizes (g - 1) x 0 (omega arith);
-      others = λ h i n. getD-set-other sizes (g - 1) (h - 1) x 0 (λ o. n (omega arith));
-      own = getD-set-other mid (p - 1) (g - 1) y 0 (λ o. omega arith) ∙ getD-set-same left (g - 1) x 0 (omega arith);
-      last = getD-set-same mid (p - 1) y 0 (simp length-set (omega arith)) ∙ e
-          ∙ ap (λ m. m - x) (getD-set-other left (g - 1) (p - 1) x 0 (λ o. omega arith));
-      rest = λ h i n o. getD-set-other mid (p - 1) (h - 1) y 0 (λ r. o (omega arith))
-          ∙ getD-set-other left (g - 1) (h - 1) x 0 (λ r. n (omega arith));
+      found = number-same sizes g x (omega arith) c;
+      others = λ h i n. number-other sizes g h x (omega arith) i n;
+      own = number-other mid p g y a (omega arith) (λ o. omega arith) ∙ number-same left g x (omega arith) d;
+      last = number-same mid p y a (simp length-set (omega arith)) ∙ e
+          ∙ ap (λ m. m - x) (number-other left g p x (omega arith) a (λ o. omega arith));
+      rest = λ h i n o. number-other mid p h y a i o ∙ number-other left g h x (omega arith) i n;
     }
 
 -- All groups have their sizes: the sizes of the table are those of an arrangement.

@@ -39,7 +39,8 @@ pub fn possible(spans: &[u32]) -> bool
 
 // The range of g, a son of p, and what the sons of p after g must make up.
 fn put_turn(ranges: &mut [u32], rest: &mut [u32], g: GroupNo, p: GroupNo, range: Span, left: Span)
-    requires { ⌜ (1 ≤ p .0) × (p .0 < g .0) × (spanFields * (g .0) ≤ length (now ranges)) × (spanFields * (g .0) ≤ length (now rest)) ⌝ }
+    requires { ⌜ (1 ≤ p .0) × (p .0 < g .0) × (spanFields * (g .0) ≤ length (now ranges))
+        × (spanFields * (g .0) ≤ length (now rest)) ⌝ }
     ensures { λ _. ⌜ Turned (now (ranges .entry)) (now (rest .entry)) (g .0) (p .0) (held range) (held left)
         (now (ranges .exit)) (now (rest .exit)) ⌝ }
 {

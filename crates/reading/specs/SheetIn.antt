@@ -13,11 +13,11 @@ use Rattle.reading.specs.Tables.{groupFields, groupIn, groupsIn, length-
 unfoldable pub sheetIn : List ℕ → ℕ → Sheet
 sheetIn t n = sheetOf (groupsIn t n)
 
--- No count that the sheet of a table asks for exceeds this: `noEnd` for each group.
+-- No end of an interval that the groups of a table give is above this: `noEnd` for each group.
 abbrev pub sizeLimit : ℕ
 sizeLimit = noEnd * groupCapacity
 
--- the table holds n groups, and they are a tree with group 1 as its root
+-- the table holds the groups of a readable sheet: a tree with group 1 as its root (document 01, "Records of a sheet", kind 2)
 pub record Tabled (t : List ℕ) (n : ℕ) : Type 0 where
   pub some : 1 ≤ n
   pub small : n ≤ groupCapacity
@@ -63,13 +63,15 @@ pub none-above : {t : List ℕ} {n : ℕ} → Tabled t n → sheetIn t n .parent
 unfolding sheetIn
 none-above k = k .rooted .top
 
--- a group other than the root is a son of the group that the table has as its parent, which has a lower number
-module _ {t : List ℕ} {n : ℕ} (k : Tabled t n) (g p : ℕ) (a : 2 ≤ g) (b : g ≤ n) (e : p ≡ groupIn t (g - 1) .parent) where
-  pub son-in : Son (sheetIn t n) p g
-  son-in =
+-- the number that the table has as a group's parent is below the group's; a group other than the root is a son of that group
+module _ {t : List ℕ} {n : ℕ} (k : Tabled t n) (g p : ℕ) (b : g ≤ n) (e : p ≡ groupIn t (g - 1) .parent) where
+  pub parent-below : 1 ≤ g → p < g
+  parent-below a =
+      let q = group-in t n a b in
+      omega (arith, k .tree .before g q, parent-in t n g q)
+
+  pub son-in : 2 ≤ g → Son (sheetIn t n) p g
+  son-in a =
       let q = group-in t n {g = g} (omega arith) b in
       let up = parent-in t n g q in
       record { above = omega (arith, k .rooted .rest g q a); group = q; under = up ∙ sym e }
-
-  pub parent-below : (1 ≤ p) × (p < g)
-  parent-below = omega (arith, son-in .above, son-in .under, k .tree .before g (son-in .group))

@@ -193,13 +193,12 @@ module _ {t : List ℕ} {n : ℕ} {f first end : ℕ → ℕ} (h : Tabled t n) (
 
   -- the sums that it takes
   pub start-room : (f g ≤ f p) × (first p + f p ≤ runLimit) × (end p + f g ≤ runLimit)
-  start-room =
-      let near = w .near p parent (omega (arith, below)) in
-      let close = w .close p parent (omega (arith, below)) in
-      let mine = size-limit (h .tree) (h .rooted) b top g (k .group) in
-      let less = below in
-      let last = few in
-      (b .at p parent .inside g k, omega arith, omega arith)
+  start-room = (
+    b .at p parent .inside g k,
+    omega (arith, w .near p parent (omega (arith, below)), below, few),
+    omega
+        (arith, w .close p parent (omega (arith, below)), size-limit (h .tree) (h .rooted) b top g (k .group), below, few),
+  )
 
 -- the stores for one more group
 pub placed-by : {s : Sheet} {f : ℕ → ℕ} (firsts ends : List ℕ) (p g x : ℕ) → Tree s → Rooted s → Balanced s f → f 1 ≤ sizeLimit

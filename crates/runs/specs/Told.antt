@@ -4,7 +4,8 @@ use mathlib.Core.Path.{_≡_, sym}
 use mathlib.Core.List.{List}
 use native.Mathlib.Omega.{arith}
 use native.Mathlib.Nat.{le-of-eq}
-use lib.ListN.{length, getD}
+use lib.ListN.{length, getD, set}
+use lib.Seq.{getD-set-same, getD-set-other}
 use Rattle.wire.specs.Limits.{groupCapacity}
 use Rattle.meaning.specs.Sheet.{Sheet, Group, Son, Tree, Rooted}
 use Rattle.meaning.specs.Arranged.{firstOf}
@@ -17,6 +18,13 @@ use Rattle.sizes.specs.RunsInWords.{told-starts}
 -- the number of group g in a table of one number a group
 abbrev pub numberIn : List ℕ → ℕ → ℕ
 numberIn t g = getD t (g - 1) 0
+
+-- a store at group g
+pub number-same : (t : List ℕ) (g x : ℕ) → 1 ≤ g → g ≤ length t → numberIn (set t (g - 1) x) g ≡ x
+number-same t g x a l = getD-set-same t (g - 1) x 0 (omega arith)
+
+pub number-other : (t : List ℕ) (g h x : ℕ) → 1 ≤ g → 1 ≤ h → (h ≡ g → ⊥) → numberIn (set t (g - 1) x) h ≡ numberIn t h
+number-other t g h x a b n = getD-set-other t (g - 1) (h - 1) x 0 (λ e. n (omega arith))
 
 -- The root starts at 1, and every son where document 01 says.
 pub record Told (s : Sheet) (size first : ℕ → ℕ) : Type 0 where

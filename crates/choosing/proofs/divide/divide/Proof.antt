@@ -5,14 +5,13 @@ use native.Mathlib.Omega.{arith}
 use borrow.Author.Needs.{needs}
 use lib.ListN.{length, replicate}
 use Rattle.wire.specs.Limits.{groupCapacity}
-use Rattle.runs.specs.Told.{numberIn}
+use Rattle.runs.specs.Told.{numberIn, number-same}
 use Rattle.reading.specs.SheetIn.{sheetIn, size-in}
 use Rattle.measuring.specs.Pairs.{pairIn}
 use Rattle.choosing.specs.Divided.{
   markedIn,
   Room,
   DividedTo,
-  number-same,
   mark-same,
   divided-root,
   divided-all,
@@ -35,7 +34,8 @@ slice-aggregate-give c = search needs
 slice-aggregate-give-2 : tie.Need-slice-aggregate-give-2 Inv-loop μ-loop
 slice-aggregate-give-2 c = search needs
 
-room : (s : tie.Start Inv-loop μ-loop) → Room 1 (s .args .sizes .now) (s .args .marks .now) (replicate groupCapacity 0) (replicate groupCapacity 0)
+room : (s : tie.Start Inv-loop μ-loop) → Room 1 (s .args .sizes .now) (s .args .marks .now)
+    (replicate groupCapacity 0) (replicate groupCapacity 0)
 room s =
     let n = s .pre .0 .0 .some in
     record {

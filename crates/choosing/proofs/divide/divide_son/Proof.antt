@@ -2,7 +2,7 @@
 use mathlib.Core.Path.{ap, _∙_}
 use native.Mathlib.Omega.{arith}
 use Rattle.meaning.specs.Sum.{bit}
-use Rattle.runs.specs.Told.{numberIn}
+use Rattle.runs.specs.Told.{numberIn, number-other}
 use Rattle.reading.specs.SheetIn.{size-in}
 use Rattle.choosing.specs.Divided.{
   markedIn,
@@ -12,7 +12,6 @@ use Rattle.choosing.specs.Divided.{
   divided-more,
   kind-table,
   rest-table,
-  number-other,
   mark-other,
 }
 use borrow.Author.Needs.{needs}

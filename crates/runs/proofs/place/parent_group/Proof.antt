@@ -11,8 +11,8 @@ returns : tie.Need-returns
 returns c =
     let p = c .before .before .pre in
     let e = c .parent-of .ensures in
-    let l = parent-below (p .0) _ _ (p .1) (p .2) e in
-    (son-in (p .0) _ _ (p .1) (p .2) e, l .0, l .1)
+    let k = son-in (p .0) _ _ (p .2) e (p .1) in
+    (k, k .above, parent-below (p .0) _ _ (p .2) e (k .group .first))
 
 pub parent-group-spec : {M : Type 1} → statement M
 parent-group-spec = tie.close (tie.spec parent-of-requires returns)
