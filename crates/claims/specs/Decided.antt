@@ -13,14 +13,10 @@ use Rattle.meaning.specs.Sheet.{Rooted}
 use Rattle.sizes.specs.Runs.{runs-first, shown-fits-above}
 use Rattle.runs.specs.Told.{numberIn, Told, told-runs}
 use Rattle.choosing.specs.Divided.{markedIn}
+use Rattle.claims.specs.Verdict.{verdictNumber}
 use Rattle.claims.specs.Judged.{Denial}
 use Rattle.claims.specs.declared.verdict.Verdict.{Verdict}
 use Rattle.claims.specs.declared.verdict.Verdict.the-variants.{Holds, Denied}
-
--- "verdict 1 holds or 0 denied"
-abbrev pub verdictNumber : Verdict → ℕ
-verdictNumber Holds = 1
-verdictNumber Denied = 0
 
 -- the sets that the tables show: for each group a run (first, count), and member 0 where the mark is 1
 abbrev pub setsIn : Sheet → List ℕ → List ℕ → List ℕ → Sets ℕ

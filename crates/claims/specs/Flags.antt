@@ -15,7 +15,7 @@ use Rattle.sizes.specs.ClaimsPlace.{isIn, placeIn}
 use Rattle.runs.specs.Told.{numberIn}
 use Rattle.measuring.specs.Held.{mayFlag}
 use Rattle.measuring.specs.Tables.{mayIn}
-use Rattle.choosing.specs.Divided.{number-same, number-other}
+use Rattle.runs.specs.Told.{number-same, number-other}
 
 -- the flag without one of its two: to be in the group (true) or out of it (false)
 abbrev pub flagWithout : Bool → ℕ → ℕ

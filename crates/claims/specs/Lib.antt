@@ -1,3 +1,4 @@
+pub mod Verdict
 pub mod Witnessed
 pub mod Groups
 pub mod Named

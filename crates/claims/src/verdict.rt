@@ -1,6 +1,6 @@
 // A verdict and its number.
 ghost use mathlib.Core.Path.{_≡_};
-ghost use Rattle.claims.specs.Decided.{verdictNumber};
+ghost use Rattle.claims.specs.Verdict.{verdictNumber};
 
 pub enum Verdict {
     Holds,

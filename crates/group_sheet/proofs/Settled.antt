@@ -22,7 +22,7 @@ use Rattle.meaning.proofs.SumLaws.{split}
 use Rattle.sizes.specs.ArrangedOnce.{ends-once}
 use Rattle.sizes.specs.Readable.{readable-possible-or-not, readable-breakable-or-not, readable-arrangement-once}
 use Rattle.registers.specs.Settled.{answered-once}
-use Rattle.claims.specs.declared.decide.Verdict.{Verdict}
+use Rattle.claims.specs.declared.verdict.Verdict.{Verdict}
 use Rattle.group_sheet.specs.Reply.{call, packed, Replied}
 use Rattle.group_sheet.specs.RangesReply.{rangeAt, rangeLeast, rangeGreatest, runFirst, runCount, greatestOf, RangesIn, Ranges}
 use Rattle.group_sheet.specs.RegisterReply.{AnswerIn, Register}
@@ -97,7 +97,7 @@ pub register-settled : (sheet register : List ℕ) {before after after' : List �
     → Bytes after → Bytes after' → (r ≡ r') × (after ≡ after')
 register-settled sheet register v w x y =
     once-read (λ z. z) (readSheet sheet) v w
-    (λ d e v w. once-read (λ z. z) (readRegister (length (d .groups)) register) v w
+    (λ d e v w. once-read (λ z. z) (readRegister (d .edition) (length (d .groups)) register) v w
     (λ rows f v w. once-room (λ z. z) v w
     (λ a b m n. replied-alike a b (answer-alike x y m n))))
 

@@ -16,8 +16,8 @@ use Rattle.meaning.specs.Claim.{Claim, Breaks, Breakable}
 use Rattle.meaning.specs.OfRecords.{sheetOf, claimAt}
 use Rattle.meaning.specs.Shown.{shown, above}
 use Rattle.claims.specs.Verdict.{verdictNumber}
-use Rattle.claims.specs.declared.decide.Verdict.{Verdict}
-use Rattle.claims.specs.declared.decide.Verdict.the-variants.{Holds, Denied}
+use Rattle.claims.specs.declared.verdict.Verdict.{Verdict}
+use Rattle.claims.specs.declared.verdict.Verdict.the-variants.{Holds, Denied}
 use Rattle.group_sheet.specs.Reply.{Call, Refused, OnceRead, OncePossible, OnceRoom}
 
 -- bytes of a denial that shows sets of n groups

@@ -1,9 +1,9 @@
 // The verdict on one claim.
 use crate::fitting::some_fit;
 use crate::pairs::pack;
-use claims::decide::Verdict;
 use claims::decide::decide;
-use claims::decide::verdict_number;
+use claims::verdict::Verdict;
+use claims::verdict::verdict_number;
 use reading::claim::Claim;
 use reading::claim::claim_in;
 use reading::load::Loaded;
