@@ -34,6 +34,10 @@ abbrev pub AllGroups : ℕ → List ℕ → Type 0
 AllGroups size [] = Unit {0}
 AllGroups size (g ∷ l) = (1 ≤ g) × (g ≤ size) × AllGroups size l
 
+-- every number on the list is at most n: a group of a sheet of n groups, or 0
+abbrev pub AllUpTo : ℕ → List ℕ → Type 0
+AllUpTo n l = (g : ℕ) → List·Memᴰ g l → g ≤ n
+
 -- a list of n groups, in a table
 pub record Listed (table : List ℕ) (n size : ℕ) : Type 0 where
   pub long : n ≤ length table
@@ -64,7 +68,7 @@ pub groups-zero : groupsAmong (0 ∷ []) ≡ []
 unfolding groupsAmong
 groups-zero = refl
 
-pub groups-all : (size : ℕ) (l : List ℕ) → ((g : ℕ) → List·Memᴰ g l → g ≤ size) → AllGroups size (groupsAmong l)
+pub groups-all : (size : ℕ) (l : List ℕ) → AllUpTo size l → AllGroups size (groupsAmong l)
 unfolding groupsAmong
 groups-all size [] h = tt
 groups-all size (zero ∷ l) h = groups-all size l (λ g m. h g (List·Memᴰ·tail m))
@@ -93,7 +97,7 @@ all-groups size (h ∷ l) w g m =
 pub listed-group : {t : List ℕ} {n size : ℕ} → Listed t n size → (i : ℕ) → i < n → (1 ≤ getD t i 0) × (getD t i 0 ≤ size)
 listed-group {t} {n} {size} w i l = all-groups size (take n t) (w .groups) (getD t i 0) (listed-at t n i l (w .long))
 
-pub listed-known : {t : List ℕ} {n size : ℕ} → Listed t n size → (g : ℕ) → List·Memᴰ g (take n t) → g ≤ size
+pub listed-known : {t : List ℕ} {n size : ℕ} → Listed t n size → AllUpTo size (take n t)
 listed-known {t} {n} {size} w g m = all-groups size (take n t) (w .groups) g m .1
 
 -- the list of a larger sheet

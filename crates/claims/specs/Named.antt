@@ -28,7 +28,7 @@ use Rattle.reading.specs.declared.claim.Lists.{Lists}
 use Rattle.reading.specs.declared.claim.Claim.{Claim as ClaimRead}
 use Rattle.reading.specs.declared.claim.Claim.the-variants as claim
 use Rattle.runs.specs.Told.{numberIn}
-use Rattle.claims.specs.Groups.{groupsAmong, Listed, groups-none, groups-more, groups-all}
+use Rattle.claims.specs.Groups.{groupsAmong, AllUpTo, Listed, groups-none, groups-more, groups-all}
 
 -- what the names on a list mean, by the table of names
 abbrev pub meanings : List ℕ → List ℕ → List ℕ
@@ -59,10 +59,7 @@ pub record Side (sheet : List ℕ) (from n : ℕ) (names : List ℕ) : Type 0 wh
   pub long : from + 2 * n ≤ length sheet
   pub name : (j : ℕ) → j < n → (1 ≤ u16At sheet (from + 2 * j)) × (u16At sheet (from + 2 * j) ≤ length names)
 
--- every group that a claim speaks of is at most n
-abbrev pub AllUpTo : ℕ → List ℕ → Type 0
-AllUpTo n l = (g : ℕ) → List·Memᴰ g l → g ≤ n
-
+-- the claim speaks of groups of a sheet of n groups, or of none
 abbrev pub SpeaksUpTo : ℕ → Claim → Type 0
 SpeaksUpTo n (counted g lo hi) = g ≤ n
 SpeaksUpTo n (within l r) = AllUpTo n l × AllUpTo n r

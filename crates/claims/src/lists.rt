@@ -3,7 +3,7 @@
 use crate::places::ask_place;
 use crate::places::group_at;
 use reading::tables::GroupNo;
-ghost use mathlib.Core.Bool.{true};
+ghost use mathlib.Core.Bool.{true, false};
 ghost use mathlib.Core.List.{[], _∷_};
 ghost use Prim.Native.Nat.{_≤_};
 ghost use lib.ListN.{take};
@@ -12,7 +12,6 @@ ghost use Rattle.reading.specs.SheetIn.{sheetIn};
 ghost use Rattle.choosing.specs.Chosen.{Asking};
 ghost use Rattle.claims.specs.Groups.{Listed};
 ghost use Rattle.claims.specs.Judged.{Judged};
-ghost use Rattle.claims.specs.Places.{PlaceJudged};
 ghost use Rattle.claims.specs.Ways.{Tried};
 
 // whether some sets that fit have a member in group g and in no group of a list
@@ -27,7 +26,7 @@ fn ask_inside(
 ) -> bool
     requires { ⌜ Asking (now groups) size (now sizes) (now marks) × Listed (now right) n size ⌝ }
     requires { ⌜ (1 ≤ g .0) × (g .0 ≤ size) ⌝ }
-    ensures { λ r. ⌜ PlaceJudged (sheetIn (now (groups .entry)) size) (g .0 ∷ []) (take n (now (right .entry)))
+    ensures { λ r. ⌜ Tried (sheetIn (now (groups .entry)) size) false (g .0 ∷ []) (take n (now (right .entry)))
         (now (sizes .exit)) (now (marks .exit)) r ⌝ }
 {
     let one = [g.0];
@@ -45,7 +44,7 @@ fn ask_both(
 ) -> bool
     requires { ⌜ Asking (now groups) size (now sizes) (now marks) ⌝ }
     requires { ⌜ (1 ≤ g .0) × (g .0 ≤ size) × (1 ≤ h .0) × (h .0 ≤ size) ⌝ }
-    ensures { λ r. ⌜ PlaceJudged (sheetIn (now (groups .entry)) size) (g .0 ∷ h .0 ∷ []) [] (now (sizes .exit)) (now
+    ensures { λ r. ⌜ Tried (sheetIn (now (groups .entry)) size) true (g .0 ∷ []) (h .0 ∷ []) (now (sizes .exit)) (now
         (marks .exit)) r ⌝ }
 {
     let both = [g.0, h.0];

@@ -24,7 +24,7 @@ abbrev μ-loop : tie.MeasureT-loop
 loop-holds : tie.Need-loop-holds Inv-loop μ-loop
 loop-holds c =
     let s = c .before .before .before .before in
-    (omega arith, refl, refl, right-none (s .args .g .0) (s .args .right .now) (s .args .n))
+    (omega arith, refl, refl, right-none (s .args .g .0 ∷ []) (s .args .right .now))
 
 group-at-requires : tie.Need-group-at-requires Inv-loop μ-loop
 group-at-requires c κs = let s = c .before .before .before .before .before .before in omega (arith, s .pre .0 .1 .long)
@@ -59,9 +59,8 @@ returns c =
     let h = c5 .before .before .before .group-at .ensures in
     let at = c5 .before .before .before .before .before in
     let s = at .before .before .before .before .before in
-    let l = s .pre .0 .1 in
-    right-found (s .args .g .0) (s .args .right .now) (s .args .n) (at .loop .j) (s .pre .1 .0)
-    (listed-group l (at .loop .j) (omega arith) .0) (omega arith) (l .long) (rw h at (c5 .ask-both .ensures)) (c .if1 .taken)
+    right-found (s .args .g .0 ∷ []) (s .args .right .now) (s .args .n) (at .loop .j) (omega arith) (s .pre .0 .1 .long)
+    (rw h at (c5 .ask-both .ensures)) (c .if1 .taken)
 
 add-j : tie.Need-add-j Inv-loop μ-loop
 add-j c = search needs
@@ -79,7 +78,7 @@ loop-again c =
       omega arith,
       c5 .ask-both .kept .1 .1 .1 .1 .0 ∙ v .1,
       c5 .ask-both .kept .1 .1 .1 .1 .1 .0 ∙ v .2,
-      right-more (s .args .g .0) (s .args .right .now) (s .args .n) (at .loop .j) (omega arith) (s .pre .0 .1 .long) (v .3)
+      right-more (s .args .g .0 ∷ []) (s .args .right .now) (at .loop .j) (omega (arith, s .pre .0 .1 .long)) (v .3)
           (rw h at (c5 .ask-both .ensures)) (c .if1 .left),
     )
 

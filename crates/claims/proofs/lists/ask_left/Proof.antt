@@ -1,5 +1,4 @@
 -- `ask_left` meets its contract.
-use Rattle.claims.specs.Ways.{inside-tried}
 use borrow.Author.Needs.{needs}
 use Rattle.claims.proofs.lists.ask_left.Statement.{statement}
 use Rattle.claims.proofs.lists.ask_left.Tie as tie
@@ -30,8 +29,7 @@ same-length-4 c = search needs
 returns-2 : tie.Need-returns-2
 returns-2 c =
     let c4 = c .before .before .before .before in
-    let c7 = c4 .before .before .before in
-    rw (c7 .if1 .left) (inside-tried (c7 .before .before .before .before .before .pre .1 .0) (c4 .ask-inside .ensures))
+    rw (c4 .before .before .before .if1 .left) (c4 .ask-inside .ensures)
 
 pub ask-left-spec : {M : Type 1} → statement M
 ask-left-spec =
