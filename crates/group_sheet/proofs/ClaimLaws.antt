@@ -12,15 +12,16 @@ use Rattle.wire.specs.Record.{read}
 use Rattle.wire.specs.SheetFormat.{Records, nameOf, readSheet}
 use Rattle.wire.specs.Facts.{read-right}
 use Rattle.meaning.specs.Sheet.{Sheet, Group, Tree}
-use Rattle.meaning.specs.Claim.{Claim}
+use Rattle.meaning.specs.Claim.{Claim, Breakable}
 use Rattle.meaning.specs.OfRecords.{claimed, claimAt}
 use Rattle.meaning.specs.Readable.{name-group-most}
 use Rattle.reading.specs.Answers.{headRecord}
 use Rattle.reading.specs.Tables.{length-groupsIn}
 use Rattle.reading.specs.ClaimHeld.{claimRecord}
-use Rattle.reading.specs.ClaimTable.{claimIn, length-claimsIn, getD-claimsIn}
+use Rattle.reading.specs.ClaimTable.{claimIn, getD-claimsIn}
 use Rattle.reading.specs.Loaded.{length-recordsIn, recordsOf, Held}
 use Rattle.reading.specs.declared.records.Head.{Head}
+use Rattle.reading.specs.declared.claim.Claim.{Claim as ClaimRead}
 use Rattle.runs.specs.Told.{numberIn}
 use Rattle.choosing.specs.Divided.{markedIn}
 use Rattle.claims.specs.Verdict.{verdictNumber}
@@ -30,7 +31,8 @@ use Rattle.claims.specs.declared.verdict.Verdict.{Verdict}
 use Rattle.claims.specs.declared.verdict.Verdict.the-variants.{Denied}
 use Rattle.replies.specs.Wrote.{Wrote, word-kept}
 use Rattle.replies.specs.Written.{VerdictAt, ShownAt, SetsPut}
-use Rattle.group_sheet.specs.ClaimReply.{shownAt, shownFirst, shownCount, shownMark, VerdictIn, DenialIn}
+use Rattle.group_sheet.specs.Reply.{Call}
+use Rattle.group_sheet.specs.ClaimReply.{shownAt, shownFirst, shownCount, shownMark, VerdictIn, DenialIn, VerdictOn}
 use Rattle.group_sheet.proofs.ShownAlike.{shown-fits-alike, shown-breaks-alike}
 
 -- the verdict's record, and that it stays under the records after it
@@ -68,14 +70,21 @@ module _ {s : Sheet} {c : Claim} {firsts sizes marks out : List ℕ} {n : ℕ} (
         breaks = shown-breaks-alike s first count mark c (subst (λ j. SpeaksUpTo j c) (sym size) known) (w .breaks);
       }
 
--- claim k of a sheet that was read, as the tables hold it
+-- sets that a table shows break the claim
+pub shows-breakable : {s : Sheet} {k : Claim} {firsts sizes marks : List ℕ} → Shows s k firsts sizes marks → Breakable s k
+shows-breakable w = (_, w .fits, w .breaks)
+
+pub verdict-on : {s : Sheet} {j k : Claim} {y : Call} → j ≡ k → VerdictOn s j y → VerdictOn s k y
+verdict-on {s} {y = y} e w = subst (λ k. VerdictOn s k y) e w
+
+-- a claim x of a sheet that was read, handed up from place i of the tables
 module _ (h : Head) (s groups : List ℕ) {names : List ℕ} (labels claims places : List ℕ)
     (e : readSheet s ≡ read (recordsOf (headRecord h) s groups labels claims places)) (k : Held (headRecord h) s names labels claims places)
-    (long : h .names ≤ length names) where
-  pub claim-askable : (i : ℕ) → i < h .claims → Askable s (claimIn claims places i) names (h .groups)
-  claim-askable i l = record {
+    (long : h .names ≤ length names) (i : ℕ) (l : i < h .claims) {x : ClaimRead} (o : x ≡ claimIn claims places i) where
+  abbrev pub claim-askable : Askable s x names (h .groups)
+  claim-askable = record {
     count = h .names;
-    held = k .claimed i l;
+    held = rw o (k .claimed i l);
     long = long;
     known = λ n a b.
         omega (
@@ -86,10 +95,10 @@ module _ (h : Head) (s groups : List ℕ) {names : List ℕ} (labels claims plac
         );
   }
 
-  pub claim-told : (i : ℕ) → i < h .claims
-      → claimMeant names (claimRecord s (claimIn claims places i)) ≡ claimAt (recordsOf (headRecord h) s groups labels claims places) (i + 1)
-  claim-told i l =
-      let o : i + 1 - 1 ≡ i = omega arith in
-      claim-named s (claimIn claims places i) (claim-askable i l) _ (k .named)
+  -- it is the claim that is written down
+  pub claim-told : (n : ℕ) → n - 1 ≡ i
+      → claimMeant names (claimRecord s x) ≡ claimAt (recordsOf (headRecord h) s groups labels claims places) n
+  claim-told n p =
+      claim-named s x claim-askable _ (k .named)
       ∙ ap (claimed (recordsOf (headRecord h) s groups labels claims places .names))
-      (sym (rw o (getD-claimsIn s claims places (h .claims) i _ l)))
+      (ap (claimRecord s) o ∙ sym (rw p (getD-claimsIn s claims places (h .claims) i _ l)))

@@ -13,11 +13,10 @@ use Rattle.wire.specs.Facts.{read-right, right-few}
 use Rattle.meaning.specs.Sheet.{Sheet, Group, Tree, Rooted}
 use Rattle.meaning.specs.Fits.{Possible}
 use Rattle.meaning.specs.Arranged.{Arranged}
-use Rattle.meaning.specs.Readable.{tree-of-right}
+use Rattle.meaning.specs.Readable.{tree-of-right, rooted-of-right}
 use Rattle.sizes.specs.Span.{Span}
 use Rattle.sizes.specs.Fold.{Measured}
 use Rattle.sizes.specs.Ranged.{free, Ranged}
-use Rattle.sizes.specs.Readable.{rooted-of-right}
 use Rattle.sizes.specs.ArrangedAlike.{arranged-eq}
 use Rattle.sizes.specs.MeasuredLaws.{spans-measured}
 use Rattle.reading.specs.Tables.{groupFields, groupsIn, length-groupsIn}

@@ -12,7 +12,8 @@ use Rattle.meaning.specs.Fits.{Meets, Fits}
 use Rattle.meaning.specs.Claim.{Claim, counted, within, separate, named, union, countNamed, Says, Breaks}
 use Rattle.meaning.specs.Shown.{shown, inRun, above}
 use Rattle.meaning.proofs.SumLaws.{sum-eq, son-parent}
-use Rattle.claims.specs.Named.{AllUpTo, SpeaksUpTo}
+use Rattle.claims.specs.Groups.{AllUpTo}
+use Rattle.claims.specs.Named.{SpeaksUpTo}
 
 module _ (n m : ℕ) (h k : ℕ → ℕ → Bool) (e : (g : ℕ) → g ≤ m → (x : ℕ) → h g x ≡ k g x) where
   named-alike : (g : ℕ) → g ≤ m → (x : ℕ) → named (numbered n h) g x ≡ named (numbered n k) g x

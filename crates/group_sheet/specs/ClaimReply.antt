@@ -8,7 +8,7 @@ use lib.ListN.{length}
 use lib.Dec.{eqb}
 use Rattle.wire.specs.Limits.{verdictBytes, shownBytes}
 use Rattle.wire.specs.Bytes.{u16At, u32At}
-use Rattle.wire.specs.SheetFormat.{readSheet}
+use Rattle.wire.specs.SheetFormat.{Records, readSheet}
 use Rattle.meaning.specs.Sheet.{Sheet, Group}
 use Rattle.meaning.specs.Sets.{Sets}
 use Rattle.meaning.specs.Fits.{Fits}
@@ -72,9 +72,12 @@ pub record VerdictOn (s : Sheet) (k : Claim) (c : Call) : Type 0 where
   pub holds : (Breakable s k → ⊥) → OnceRoom verdictBytes c (VerdictIn Holds)
   pub denied : Breakable s k → OnceRoom (denialBytes (s .size)) c (DenialIn s k)
 
-abbrev pub ClaimVerdict : List ℕ → ℕ → Call → Type 0
-ClaimVerdict sheet k c =
-    OnceRead (readSheet sheet) c (λ d.
+-- the reply under a sheet
+abbrev pub VerdictUnder : Records → ℕ → Call → Type 0
+VerdictUnder d k c =
     OncePossible (sheetOf (d .groups)) c
     (OnceNumbered k (length (d .claims)) c
-    (VerdictOn (sheetOf (d .groups)) (claimAt d k) c)))
+    (VerdictOn (sheetOf (d .groups)) (claimAt d k) c))
+
+abbrev pub ClaimVerdict : List ℕ → ℕ → Call → Type 0
+ClaimVerdict sheet k c = OnceRead (readSheet sheet) c (λ d. VerdictUnder d k c)

@@ -1,6 +1,5 @@
 -- `measure` meets its contract: no flag forbids anything, so the root's interval says whether some sets fit.
 use lib.ListN.{length-replicate}
-use native.Mathlib.Omega.{arith}
 use Rattle.group_sheet.proofs.RangesLaws.{root-told, arrangeable}
 use borrow.Author.Needs.{needs}
 use Rattle.group_sheet.proofs.fitting.measure.Statement.{statement}
@@ -17,18 +16,14 @@ slice-aggregate-measure-sheet-3 c = search needs
 
 measure-sheet-requires : tie.Need-measure-sheet-requires
 measure-sheet-requires c κs =
-    let p = c .before .before .before .before .before .before .before .before .pre in (
-      (
-        record {
-          small = p .0 .few;
-          groups-long = p .0 .room;
-          flags-long = simp length-replicate (p .0 .few);
-          last-long = simp length-replicate (p .0 .few);
-          prev-long = simp length-replicate (p .0 .few);
-          tree = p .0 .tree;
-        },
-        p .0 .rooted,
-      ),
+    let p = c .before .before .before .before .before .before .before .before .pre in
+    let room = p .0 .small in (
+      record {
+        tabled = p .0;
+        flags-long = simp length-replicate room;
+        last-long = simp length-replicate room;
+        prev-long = simp length-replicate room;
+      },
       p .1,
     )
 
@@ -47,7 +42,7 @@ returns c =
     let w = c .before .before .before .before .before .before .before .before .measure-sheet .ensures in
     record {
       told = root-told (p .0) w _ (c .possible .ensures);
-      measured = arrangeable (p .0) w (search needs) (search needs);
+      measured = arrangeable (p .0) w (record { spans-long = search needs; after-long = search needs });
     }
 
 pub measure-spec : {M : Type 1} → statement M

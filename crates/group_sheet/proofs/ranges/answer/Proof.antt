@@ -5,7 +5,7 @@ use mathlib.Core.Bool.{false≢true}
 use native.Mathlib.Omega.{arith}
 use denote.Ref.{now}
 use borrow.Author.Tests.{not-true, not-false}
-use Rattle.measuring.specs.Tables.{size-in}
+use Rattle.reading.specs.SheetIn.{size-in}
 use Rattle.wire.specs.Limits.{rangeBytes}
 use Rattle.group_sheet.proofs.ReplyLaws.{written}
 use borrow.Author.Needs.{needs}
@@ -59,7 +59,6 @@ put-requires : tie.Need-put-requires
 put-requires c κs =
     let w = c .before .before .before .before .before .before .before .measure .ensures in
     record {
-      tabled = c .before .before .before .before .before .before .before .before .before .before .before .before .pre;
       measured = w .measured (w .told .0 (not-false _ (c .before .before .before .before .if1 .left)));
       room = c .before .before .before .if2 .left;
     }

@@ -1,12 +1,13 @@
+-- `sheet_ranges` meets its contract: the sheet's refusal, or the answer under it.
 use mathlib.Core.Path.{refl}
 use native.Mathlib.Omega.{arith}
-use Rattle.group_sheet.proofs.LoadedLaws.{sheet-loaded, sheet-held, sheet-refused}
-use Rattle.measuring.specs.Tables.{sheetIn}
-use Rattle.group_sheet.specs.RangesReply.{RangesUnder}
+use borrow.Author.Needs.{needs}
 use Rattle.meaning.specs.OfRecords.{sheetOf}
+use Rattle.reading.specs.SheetIn.{sheetIn}
+use Rattle.reading.specs.Loaded.{loaded-sheet, loaded-held, loaded-refused}
+use Rattle.group_sheet.specs.RangesReply.{RangesUnder}
 use Rattle.group_sheet.proofs.ReplyLaws.{read-not-refused, as-read, turned-back}
 use Rattle.group_sheet.proofs.RangesLaws.{tabled}
-use borrow.Author.Needs.{needs}
 use Rattle.group_sheet.proofs.ranges.sheet_ranges.Statement.{statement}
 use Rattle.group_sheet.proofs.ranges.sheet_ranges.Tie as tie
 
@@ -21,6 +22,9 @@ slice-aggregate-load-sheet-3 c = search needs
 
 slice-aggregate-load-sheet-4 : tie.Need-slice-aggregate-load-sheet-4
 slice-aggregate-load-sheet-4 c = search needs
+
+slice-aggregate-load-sheet-5 : tie.Need-slice-aggregate-load-sheet-5
+slice-aggregate-load-sheet-5 c = search needs
 
 load-sheet-requires : tie.Need-load-sheet-requires
 load-sheet-requires c κs = search needs
@@ -39,13 +43,13 @@ slice-aggregate-answer c = search needs
 
 answer-requires : tie.Need-answer-requires
 answer-requires c κs =
-    let w = c .before .before .before .before .before .before .before .before .before .load-sheet .ensures in
+    let w = c .before .before .before .before .before .before .before .before .before .before .load-sheet .ensures in
     let e = c .before .before .before .head .given .1 in
-    tabled _ _ _ _ (sheet-loaded w _ e) refl (omega (arith, sheet-held w _ e .limits .fewGroups))
+    tabled _ _ _ _ (loaded-sheet w _ e) refl (omega (arith, loaded-held w _ e .limits .fewGroups))
 
 returns : tie.Need-returns
 returns c =
-    let e = sheet-refused (c .before .before .before .before .before .before .before .before .load-sheet .ensures) _ _ (c .before .before .n .given .1) in
+    let e = loaded-refused (c .before .before .before .before .before .before .before .before .before .load-sheet .ensures) _ _ (c .before .before .n .given .1) in
     record {
       turned = turned-back e (c .pack .ensures);
       passed = λ d f. absurd (read-not-refused f e);
@@ -57,7 +61,7 @@ same-length c = search needs
 returns-2 : tie.Need-returns-2
 unfolding sheetIn
 returns-2 c =
-    let e = sheet-loaded (c .before .before .before .before .before .before .before .before .before .before .before .before .load-sheet .ensures) _ (c .before .before .before .before .before .before .head .given .1) in
+    let e = loaded-sheet (c .before .before .before .before .before .before .before .before .before .before .before .before .before .load-sheet .ensures) _ (c .before .before .before .before .before .before .head .given .1) in
     record {
       turned = λ n k f. absurd (read-not-refused e f);
       passed = as-read (λ d. RangesUnder (sheetOf (d .groups)) _) e (c .before .before .answer .ensures);
@@ -71,6 +75,7 @@ sheet-ranges-spec =
     slice-aggregate-load-sheet-2
     slice-aggregate-load-sheet-3
     slice-aggregate-load-sheet-4
+    slice-aggregate-load-sheet-5
     load-sheet-requires
     enum-known-n
     pack-requires
