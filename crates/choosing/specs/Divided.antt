@@ -35,7 +35,7 @@ pub record Folded (s : Sheet) (spans after : List ℕ) : Type 0 where
   pub lent : Lent (s .size) spans after
 
 -- the tables have room for n groups
-pub record Room (n : ℕ) (sizes marks rest states : List ℕ) : Type 0 where
+pub record RoomFor (n : ℕ) (sizes marks rest states : List ℕ) : Type 0 where
   pub sizes-long : n ≤ length sizes
   pub marks-long : n ≤ length marks
   pub rest-long : n ≤ length rest
@@ -72,7 +72,7 @@ bits-more t g c a l w h b k =
     (λ n. rw (number-other t g h (bit c) a b n) (w h b (omega arith)))
 
 module _ {s : Sheet} {may : ℕ → Bool → Bool} {z : ℕ → Bool → Span} (t : Tree s) (m : Measured s may z) where
-  pub divided-root : (sizes marks rest states : List ℕ) (r : ℕ) (c : Bool) → Group s 1 → Room 1 sizes marks rest states
+  pub divided-root : (sizes marks rest states : List ℕ) (r : ℕ) (c : Bool) → Group s 1 → RoomFor 1 sizes marks rest states
       → In r (z 1 c)
       → DividedTo s z (set sizes 0 r) (set marks 0 (bit c)) (set rest 0 r) (set states 0 (bit c)) 1
   divided-root sizes marks rest states r c q l h =
@@ -93,7 +93,7 @@ module _ {s : Sheet} {may : ℕ → Bool → Bool} {z : ℕ → Bool → Span} (
       parted-divisible t m p i k (rw e at (w .parted))
 
   pub divided-more : (sizes marks rest states : List ℕ) (p g x y : ℕ) (b d : Bool) → Son s p g
-      → Room (s .size) sizes marks rest states → DividedTo s z sizes marks rest states (g - 1)
+      → RoomFor (s .size) sizes marks rest states → DividedTo s z sizes marks rest states (g - 1)
       → Shared (kindOf s p) (later s z p (s .size - g)) (z g) (numberIn rest p) (markedIn states p) x b y d
       → DividedTo s z (set sizes (g - 1) y) (set marks (g - 1) (bit d)) (set (set rest (g - 1) y) (p - 1) x)
       (set (set states (g - 1) (bit d)) (p - 1) (bit b)) g

@@ -15,7 +15,7 @@ ghost use Rattle.sizes.specs.Span.{In};
 ghost use Rattle.reading.specs.SheetIn.{sheetIn, Tabled};
 ghost use Rattle.runs.specs.Told.{numberIn};
 ghost use Rattle.measuring.specs.Pairs.{pairIn};
-ghost use Rattle.choosing.specs.Divided.{markedIn, Folded, Room, DividedTo, Dividend};
+ghost use Rattle.choosing.specs.Divided.{markedIn, Folded, RoomFor, DividedTo, Dividend};
 
 fn mark_of(c: bool) -> u8
     ensures { λ r. ⌜ r ≡ bit c ⌝ }
@@ -33,7 +33,7 @@ fn give(
     y: u32,
     d: bool,
 )
-    requires { ⌜ (1 ≤ g .0) × Room (g .0) (now sizes) (now marks) (now rest) (now states) ⌝ }
+    requires { ⌜ (1 ≤ g .0) × RoomFor (g .0) (now sizes) (now marks) (now rest) (now states) ⌝ }
     ensures { λ _. ⌜ now (sizes .exit) ≡ set (now (sizes .entry)) (g .0 - 1) y ⌝ }
     ensures { λ _. ⌜ now (marks .exit) ≡ set (now (marks .entry)) (g .0 - 1) (bit d) ⌝ }
     ensures { λ _. ⌜ now (rest .exit) ≡ set (now (rest .entry)) (g .0 - 1) y ⌝ }
@@ -69,7 +69,7 @@ fn divide_son(
     g: GroupNo,
 )
     requires { ⌜ Tabled (now groups) size × Folded (sheetIn (now groups) size) (now spans) (now after) ⌝ }
-    requires { ⌜ (2 ≤ g .0) × (g .0 ≤ size) × Room size (now sizes) (now marks) (now rest) (now states) ⌝ }
+    requires { ⌜ (2 ≤ g .0) × (g .0 ≤ size) × RoomFor size (now sizes) (now marks) (now rest) (now states) ⌝ }
     requires { ⌜ DividedTo (sheetIn (now groups) size) (pairIn (now spans)) (now sizes) (now marks) (now rest) (now states)
         (g .0 - 1) ⌝ }
     ensures { λ _. ⌜ DividedTo (sheetIn (now (groups .entry)) size) (pairIn (now (spans .entry)))

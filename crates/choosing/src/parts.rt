@@ -12,7 +12,7 @@ ghost use Prim.Native.Nat.{_≤_};
 ghost use Rattle.sizes.specs.Span.{In, Makes, join, lap, add, eq};
 ghost use Rattle.sizes.specs.SpanLaws.{sonOf};
 ghost use Rattle.meaning.specs.Sum.{bit};
-ghost use Rattle.measuring.specs.Held.{held, pairOf, kindHeld};
+ghost use Rattle.measuring.specs.Held.{spanHeld, pairOf, kindHeld};
 ghost use Rattle.choosing.specs.Parted.{Divisible, Shared};
 ghost use Rattle.choosing.specs.Parts.{restState, sonState, restBy};
 
@@ -32,7 +32,7 @@ pub struct Parts {
 
 // whether r is in two spans joined; no sum is taken, so none can wrap
 fn lap_has(a: Span, b: Span, r: u32) -> bool
-    ensures { λ x. ⌜ (x ≡ true) ↔ In r (join lap (held a) (held b)) ⌝ }
+    ensures { λ x. ⌜ (x ≡ true) ↔ In r (join lap (spanHeld a) (spanHeld b)) ⌝ }
 {
     if a.most < a.least {
         return false;
@@ -47,7 +47,7 @@ fn lap_has(a: Span, b: Span, r: u32) -> bool
 }
 
 fn add_has(a: Span, b: Span, r: u32) -> bool
-    ensures { λ x. ⌜ (x ≡ true) ↔ In r (join add (held a) (held b)) ⌝ }
+    ensures { λ x. ⌜ (x ≡ true) ↔ In r (join add (spanHeld a) (spanHeld b)) ⌝ }
 {
     if a.most < a.least {
         return false;
@@ -65,7 +65,7 @@ fn add_has(a: Span, b: Span, r: u32) -> bool
 }
 
 fn eq_has(a: Span, b: Span, r: u32) -> bool
-    ensures { λ x. ⌜ (x ≡ true) ↔ In r (join eq (held a) (held b)) ⌝ }
+    ensures { λ x. ⌜ (x ≡ true) ↔ In r (join eq (spanHeld a) (spanHeld b)) ⌝ }
 {
     if r < larger(a.least, b.least) {
         return false;
@@ -74,7 +74,7 @@ fn eq_has(a: Span, b: Span, r: u32) -> bool
 }
 
 pub fn join_has(k: Kind, a: Span, b: Span, r: u32) -> bool
-    ensures { λ x. ⌜ (x ≡ true) ↔ In r (join (kindHeld k) (held a) (held b)) ⌝ }
+    ensures { λ x. ⌜ (x ≡ true) ↔ In r (join (kindHeld k) (spanHeld a) (spanHeld b)) ⌝ }
 {
     match k {
         Kind::Lap => lap_has(a, b, r),
@@ -84,7 +84,7 @@ pub fn join_has(k: Kind, a: Span, b: Span, r: u32) -> bool
 }
 
 pub fn at_state(p: Pair, c: bool) -> Span
-    ensures { λ x. ⌜ held x ≡ pairOf p c ⌝ }
+    ensures { λ x. ⌜ spanHeld x ≡ pairOf p c ⌝ }
 {
     if c { p.inn } else { p.out }
 }
@@ -151,8 +151,8 @@ fn states_of(k: Kind, a: Pair, z: Pair, r: u32, c: bool) -> States
 
 // the numbers
 fn son_part(k: Kind, a: Span, b: Span, r: u32) -> u32
-    requires { ⌜ In r (join (kindHeld k) (held a) (held b)) ⌝ }
-    ensures { λ x. ⌜ (x ≡ sonOf (kindHeld k) (held a) (held b) r) × (x ≤ r) ⌝ }
+    requires { ⌜ In r (join (kindHeld k) (spanHeld a) (spanHeld b)) ⌝ }
+    ensures { λ x. ⌜ (x ≡ sonOf (kindHeld k) (spanHeld a) (spanHeld b) r) × (x ≤ r) ⌝ }
 {
     match k {
         Kind::Lap => smaller(b.most, r),

@@ -25,13 +25,13 @@ topOf m = cond (eqb m endless) inf (fin m)
 unfoldable pub spanOf : ℕ → ℕ → Span
 spanOf l m = cond (leb l m) (span l (topOf m)) none
 
-abbrev pub held : SpanCode → Span
-held r = spanOf (r .least) (r .most)
+abbrev pub spanHeld : SpanCode → Span
+spanHeld r = spanOf (r .least) (r .most)
 
 -- for the member out of the group (false) and in it (true)
 abbrev pub pairOf : PairCode → Bool → Span
-pairOf p false = held (p .out)
-pairOf p true = held (p .inn)
+pairOf p false = spanHeld (p .out)
+pairOf p true = spanHeld (p .inn)
 
 -- equal in both states
 abbrev pub Alike : (Bool → Span) → (Bool → Span) → Type 0

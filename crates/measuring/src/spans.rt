@@ -7,7 +7,7 @@ ghost use Prim.Native.Nat.{_+_, _-_, min, max};
 ghost use Rattle.meaning.specs.OfRecords.{endOf};
 ghost use Rattle.sizes.specs.Span as sizes;
 ghost use Rattle.sizes.specs.Fold as fold;
-ghost use Rattle.measuring.specs.Held.{endless, topOf, EndRoom, held, Room, kindHeld, mayFlag, modeKind};
+ghost use Rattle.measuring.specs.Held.{endless, topOf, EndRoom, spanHeld, Room, kindHeld, mayFlag, modeKind};
 ghost use Rattle.measuring.specs.Held.{pairOf, RoomBoth, Alike};
 
 // stands for no upper end; no sum of upper ends reaches it
@@ -66,14 +66,14 @@ fn plus(a: u32, b: u32) -> u32
 }
 
 pub fn nothing() -> Span
-    ensures { λ r. ⌜ held r ≡ sizes.none ⌝ }
+    ensures { λ r. ⌜ spanHeld r ≡ sizes.none ⌝ }
 {
     Span { least: 1, most: 0 }
 }
 
 // what two spans share
 pub fn meet(a: Span, b: Span) -> Span
-    ensures { λ r. ⌜ held r ≡ sizes.meet (held a) (held b) ⌝ }
+    ensures { λ r. ⌜ spanHeld r ≡ sizes.meet (spanHeld a) (spanHeld b) ⌝ }
 {
     Span {
         least: larger(a.least, b.least),
@@ -83,7 +83,7 @@ pub fn meet(a: Span, b: Span) -> Span
 
 // the least span that holds both
 pub fn hull(a: Span, b: Span) -> Span
-    ensures { λ r. ⌜ held r ≡ sizes.hull (held a) (held b) ⌝ }
+    ensures { λ r. ⌜ spanHeld r ≡ sizes.hull (spanHeld a) (spanHeld b) ⌝ }
 {
     if a.most < a.least {
         return b;
@@ -98,8 +98,8 @@ pub fn hull(a: Span, b: Span) -> Span
 }
 
 fn lap(a: Span, b: Span) -> Span
-    requires { ⌜ Room (held a) × Room (held b) ⌝ }
-    ensures { λ r. ⌜ held r ≡ sizes.join sizes.lap (held a) (held b) ⌝ }
+    requires { ⌜ Room (spanHeld a) × Room (spanHeld b) ⌝ }
+    ensures { λ r. ⌜ spanHeld r ≡ sizes.join sizes.lap (spanHeld a) (spanHeld b) ⌝ }
 {
     if a.most < a.least {
         return nothing();
@@ -114,8 +114,8 @@ fn lap(a: Span, b: Span) -> Span
 }
 
 fn add(a: Span, b: Span) -> Span
-    requires { ⌜ Room (held a) × Room (held b) ⌝ }
-    ensures { λ r. ⌜ held r ≡ sizes.join sizes.add (held a) (held b) ⌝ }
+    requires { ⌜ Room (spanHeld a) × Room (spanHeld b) ⌝ }
+    ensures { λ r. ⌜ spanHeld r ≡ sizes.join sizes.add (spanHeld a) (spanHeld b) ⌝ }
 {
     if a.most < a.least {
         return nothing();
@@ -195,7 +195,7 @@ pub fn start(shut: bool) -> Pair
 
 // a group's own bounds for the member out of it, and for the member in it
 fn own_out(lo: u16, hi: u16) -> Span
-    ensures { λ r. ⌜ held r ≡ fold.ownTo lo (endOf hi) false ⌝ }
+    ensures { λ r. ⌜ spanHeld r ≡ fold.ownTo lo (endOf hi) false ⌝ }
 {
     if hi == NO_END {
         return Span {
@@ -216,7 +216,7 @@ fn less_one(n: u16) -> u32
 }
 
 fn own_in(lo: u16, hi: u16) -> Span
-    ensures { λ r. ⌜ held r ≡ fold.ownTo lo (endOf hi) true ⌝ }
+    ensures { λ r. ⌜ spanHeld r ≡ fold.ownTo lo (endOf hi) true ⌝ }
 {
     if hi == NO_END {
         return Span {

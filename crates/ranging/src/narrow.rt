@@ -21,7 +21,7 @@ ghost use Rattle.reading.specs.SheetIn.{sheetIn, Tabled};
 ghost use Rattle.sizes.specs.Span as sizes;
 ghost use Rattle.sizes.specs.Fold.{Measured};
 ghost use Rattle.sizes.specs.Ranged.{free, Ranged};
-ghost use Rattle.measuring.specs.Held.{held};
+ghost use Rattle.measuring.specs.Held.{spanHeld};
 ghost use Rattle.measuring.specs.Pairs.{pairFields, pairIn};
 ghost use Rattle.measuring.specs.Done.{Lent};
 ghost use Rattle.ranging.specs.Tables.{spanFields, spanIn};
@@ -41,7 +41,7 @@ pub fn possible(spans: &[u32]) -> bool
 fn put_turn(ranges: &mut [u32], rest: &mut [u32], g: GroupNo, p: GroupNo, range: Span, left: Span)
     requires { ⌜ (1 ≤ p .0) × (p .0 < g .0) × (spanFields * (g .0) ≤ length (now ranges))
         × (spanFields * (g .0) ≤ length (now rest)) ⌝ }
-    ensures { λ _. ⌜ Turned (now (ranges .entry)) (now (rest .entry)) (g .0) (p .0) (held range) (held left)
+    ensures { λ _. ⌜ Turned (now (ranges .entry)) (now (rest .entry)) (g .0) (p .0) (spanHeld range) (spanHeld left)
         (now (ranges .exit)) (now (rest .exit)) ⌝ }
 {
     put_span(ranges, g, range);

@@ -8,7 +8,7 @@ use measuring::spans::nothing;
 ghost use mathlib.Core.Path.{_≡_};
 ghost use Prim.Native.Nat.{_≤_};
 ghost use Rattle.sizes.specs.Span as sizes;
-ghost use Rattle.measuring.specs.Held.{topOf, held, kindHeld};
+ghost use Rattle.measuring.specs.Held.{topOf, spanHeld, kindHeld};
 ghost use Rattle.ranging.specs.PullLaws.{pullBy};
 
 // the upper end u less a
@@ -26,7 +26,7 @@ fn shorter(u: u32, a: u32) -> u32
 // the least of b).
 fn pull_ends(t: Span, b: Span, cut: u32) -> Span
     requires { ⌜ cut ≤ b .least ⌝ }
-    ensures { λ r. ⌜ held r ≡ pullBy cut (t .least) (topOf (t .most)) (b .least) (topOf (b .most)) ⌝ }
+    ensures { λ r. ⌜ spanHeld r ≡ pullBy cut (t .least) (topOf (t .most)) (b .least) (topOf (b .most)) ⌝ }
 {
     if t.most < b.least {
         return nothing();
@@ -39,7 +39,7 @@ fn pull_ends(t: Span, b: Span, cut: u32) -> Span
 
 // The x for which some y of b and some total of t are joined by the kind.
 pub fn pull(kind: Kind, t: Span, b: Span) -> Span
-    ensures { λ r. ⌜ held r ≡ sizes.pull (kindHeld kind) (held t) (held b) ⌝ }
+    ensures { λ r. ⌜ spanHeld r ≡ sizes.pull (kindHeld kind) (spanHeld t) (spanHeld b) ⌝ }
 {
     if t.most < t.least {
         return nothing();

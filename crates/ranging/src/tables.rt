@@ -7,7 +7,7 @@ use reading::tables::GroupNo;
 ghost use mathlib.Core.Path.{_≡_};
 ghost use Prim.Native.Nat.{_*_, _≤_};
 ghost use lib.ListN.{length};
-ghost use Rattle.measuring.specs.Held.{held};
+ghost use Rattle.measuring.specs.Held.{spanHeld};
 ghost use Rattle.measuring.specs.Pairs.{pairFields};
 ghost use Rattle.ranging.specs.Tables.{OutAt, spanFields, spanIn, SpanPut};
 
@@ -30,7 +30,7 @@ pub fn out_at(t: &[u32], g: GroupNo) -> Span
 
 pub fn span_at(t: &[u32], g: GroupNo) -> Span
     requires { ⌜ (1 ≤ g .0) × (spanFields * (g .0) ≤ length (now t)) ⌝ }
-    ensures { λ r. ⌜ held r ≡ spanIn (now (t .entry)) (g .0) ⌝ }
+    ensures { λ r. ⌜ spanHeld r ≡ spanIn (now (t .entry)) (g .0) ⌝ }
 {
     let i = g.0 as usize;
     let k = SPAN_FIELDS * (i - 1);
@@ -42,7 +42,7 @@ pub fn span_at(t: &[u32], g: GroupNo) -> Span
 
 pub fn put_span(t: &mut [u32], g: GroupNo, s: Span)
     requires { ⌜ (1 ≤ g .0) × (spanFields * (g .0) ≤ length (now t)) ⌝ }
-    ensures { λ _. ⌜ SpanPut (now (t .entry)) (g .0) (held s) (now (t .exit)) ⌝ }
+    ensures { λ _. ⌜ SpanPut (now (t .entry)) (g .0) (spanHeld s) (now (t .exit)) ⌝ }
 {
     let i = g.0 as usize;
     let k = SPAN_FIELDS * (i - 1);

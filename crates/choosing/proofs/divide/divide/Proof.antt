@@ -10,7 +10,7 @@ use Rattle.reading.specs.SheetIn.{sheetIn, size-in}
 use Rattle.measuring.specs.Pairs.{pairIn}
 use Rattle.choosing.specs.Divided.{
   markedIn,
-  Room,
+  RoomFor,
   DividedTo,
   mark-same,
   divided-root,
@@ -34,7 +34,7 @@ slice-aggregate-give c = search needs
 slice-aggregate-give-2 : tie.Need-slice-aggregate-give-2 Inv-loop μ-loop
 slice-aggregate-give-2 c = search needs
 
-room : (s : tie.Start Inv-loop μ-loop) → Room 1 (s .args .sizes .now) (s .args .marks .now)
+room : (s : tie.Start Inv-loop μ-loop) → RoomFor 1 (s .args .sizes .now) (s .args .marks .now)
     (replicate groupCapacity 0) (replicate groupCapacity 0)
 room s =
     let n = s .pre .0 .0 .some in
