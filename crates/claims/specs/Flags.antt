@@ -103,7 +103,7 @@ barred-next l i h x y = rw (add-one, take-suc l i 0 h) (barred-more (take i l) (
 abbrev pub freeTable : List ℕ
 freeTable = replicate groupLimit 3
 
-pub free-flag : (g : ℕ) → 1 ≤ g → g ≤ groupLimit → (c : Bool) → mayIn freeTable g c ≡ true
+free-flag : (g : ℕ) → 1 ≤ g → g ≤ groupLimit → (c : Bool) → mayIn freeTable g c ≡ true
 free-flag g a l c =
     may-number freeTable g c ∙ ap (λ x. mayFlag x c) (getD-replicate groupLimit (g - 1) 3 0 (omega arith)) ∙ three c
   where
