@@ -2,14 +2,14 @@
 use Prim.Native.Nat.{ℕ, suc, _+_, _-_, _*_, _≤_, _<_, min, max}
 use mathlib.Core.Path.{_≡_, refl, sym, ap, _∙_}
 use mathlib.Core.Bool.{Bool, true, false, cond, true≢false}
-use mathlib.Core.List.{List}
+use mathlib.Core.List.{List, []}
 use mathlib.Core.Logic.{_⊎_, inl, inr, ⊎-elim}
 use native.Mathlib.Omega.{arith}
 use native.Mathlib.Nat.{le-refl}
 use borrow.Author.Tests.{eq-eqb, ne-eqb}
 use lib.ListN.{length, getD, set, length-set}
 use lib.Seq.{getD-set-same, getD-set-other}
-use Rattle.wire.specs.Limits.{groupCapacity, noEnd}
+use Rattle.wire.specs.Limits.{noEnd}
 use Rattle.meaning.specs.Sum.{sum, bit}
 use Rattle.meaning.specs.Sheet.{Sheet, Group, Son, Tree, Top, fin}
 use Rattle.meaning.specs.Claim.{counted}
@@ -22,17 +22,16 @@ use Rattle.sizes.specs.Span.{smaller}
 use Rattle.meaning.proofs.SumLaws.{split, compare-eq, sum-eq, son-of, son-is}
 use Rattle.sizes.specs.Runs.{above-runs}
 use Rattle.sizes.specs.Possible.{Sizes, nowhere, sizes-choice, possible}
+use Rattle.sizes.specs.ClaimsPlace.{isIn, placeIn, place}
 use Rattle.sizes.specs.ClaimsCount.{rebound, narrowHi, narrowLo, narrowHi-sizes, narrowLo-sizes, narrowHi-choice, narrowLo-choice}
 use Rattle.sizes.specs.ClaimsMath.{Above, breakable-size, breakable-empty, empty-breaks, shown-breaks-count}
 use Rattle.runs.specs.Told.{numberIn}
 use Rattle.reading.specs.SheetIn.{Tabled}
-use Rattle.measuring.specs.Tables.{mayIn}
 use Rattle.reading.specs.SheetIn.{sheetIn, size-in, parent-in, lo-in, hi-in, disjoint-in, cover-in, same-in}
 use Rattle.choosing.specs.Divided.{markedIn}
-use Rattle.choosing.specs.Chosen.{Chose}
 use Rattle.claims.specs.Witnessed.{Witnessed, witnessed-yes, witnessed-no, witnessed-as}
-use Rattle.claims.specs.Flags.{freeTable, free-flag}
 use Rattle.claims.specs.Judged.{Fitting, Denial, Judged}
+use Rattle.claims.specs.Places.{PlaceJudged}
 
 -- sizes without a condition, with at most and at least k members in group g
 abbrev pub Any : (ℕ → ℕ) → Type 0
@@ -59,16 +58,15 @@ counts sizes marks g = numberIn sizes g + bit (markedIn marks g)
 abbrev pub Sized : Sheet → ((ℕ → ℕ) → Type 0) → List ℕ → List ℕ → Bool → Type 0
 Sized s P sizes marks x = Witnessed (Fitting s sizes marks × P (counts sizes marks)) ((f : ℕ → ℕ) × Sizes s f × P f) x
 
-pub chose-sized : {s : Sheet} {sizes marks : List ℕ} {x : Bool} → s .size ≤ groupCapacity
-    → Chose s (mayIn freeTable) false sizes marks x
+-- a place in no group and out of none
+pub place-sized : {s : Sheet} {sizes marks : List ℕ} {x : Bool} → Tree s → PlaceJudged s [] [] sizes marks x
     → Sized s Any sizes marks x
-chose-sized l w = record {
-  found = λ e. let v = w .found e in
-      (record { may = mayIn freeTable; choice = v .choice; top = v .top; bits = v .bits }, tt);
-  lacking = λ e z.
-      w .lacking e (z .0) nowhere
-      (sizes-choice (mayIn freeTable) (λ g q. free-flag g (q .first) (omega (arith, q .last)) false) (z .1)) refl;
-}
+unfolding placeIn isIn
+place-sized t w =
+    witnessed-as
+    (λ v. (v .fitting, tt))
+    (λ z. place [] [] t .1 (z .0, nowhere, sizes-choice (placeIn [] []) (λ g q. refl) (z .1)))
+    w
 
 -- two sheets that say the same of every group
 pub record Same (s r : Sheet) : Type 0 where

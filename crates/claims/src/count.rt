@@ -1,7 +1,5 @@
 // Claims of kind 4 (count): the claim is broken where the sheet with one bound narrowed is possible.
-use crate::places::FREE;
-use choosing::choose::choose;
-use reading::tables::GROUP_CAPACITY;
+use crate::places::ask_place;
 use reading::tables::GroupNo;
 use reading::tables::Meant;
 use reading::tables::hi_of;
@@ -10,6 +8,7 @@ use reading::tables::set_hi;
 use reading::tables::set_lo;
 ghost use mathlib.Core.Path.{_≡_};
 ghost use Prim.Native.Nat.{_≤_, _<_, min, max};
+ghost use Rattle.wire.specs.Limits.{noEnd};
 ghost use Rattle.meaning.specs.Sheet.{Top};
 ghost use Rattle.meaning.specs.Claim.{counted};
 ghost use Rattle.meaning.specs.OfRecords.{endOf};
@@ -34,13 +33,13 @@ fn larger(a: u16, b: u16) -> u16
     if a < b { b } else { a }
 }
 
-// whether some sets fit
+// whether some sets fit: they have a place for a member of whom nothing is asked
 fn any_sets(groups: &[u16], size: u16, sizes: &mut [u32], marks: &mut [u8]) -> bool
     requires { ⌜ Asking (now groups) size (now sizes) (now marks) ⌝ }
     ensures { λ r. ⌜ Sized (sheetIn (now (groups .entry)) size) Any (now (sizes .exit)) (now (marks .exit)) r ⌝ }
 {
-    let flags = [FREE; GROUP_CAPACITY];
-    choose(groups, size, &flags, false, sizes, marks)
+    let none = [0u16; 0];
+    ask_place(groups, size, &none, 0, &none, 0, sizes, marks)
 }
 
 // whether some sets that fit have at most k members in a group; k does not stand for no end
@@ -52,7 +51,7 @@ fn few_sets(
     sizes: &mut [u32],
     marks: &mut [u8],
 ) -> bool
-    requires { ⌜ Asking (now groups) size (now sizes) (now marks) × (1 ≤ g .0) × (g .0 ≤ size) × (k < 65535) ⌝ }
+    requires { ⌜ Asking (now groups) size (now sizes) (now marks) × (1 ≤ g .0) × (g .0 ≤ size) × (k < noEnd) ⌝ }
     ensures { λ r. ⌜ Sized (sheetIn (now (groups .entry)) size) (Few (g .0) k) (now (sizes .exit)) (now (marks .exit)) r ⌝ }
     ensures { λ _. ⌜ now (groups .exit) ≡ now (groups .entry) ⌝ }
 {

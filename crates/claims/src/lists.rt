@@ -48,7 +48,8 @@ fn ask_both(
         (marks .exit)) r ⌝ }
 {
     let both = [g.0, h.0];
-    ask_place(groups, size, &both, 2, &both, 0, sizes, marks)
+    let none = [0u16; 0];
+    ask_place(groups, size, &both, 2, &none, 0, sizes, marks)
 }
 
 // whether some sets that fit have a member in group g and in some group of a list

@@ -14,7 +14,7 @@ ghost use Rattle.claims.specs.Flags.{flagWithout, Barred};
 ghost use Rattle.claims.specs.Places.{PlaceJudged};
 
 // A flag is a sum of 1, the member may be out of the group, and 2, it may be in it.
-pub const FREE: u8 = 3;
+const FREE: u8 = 3;
 
 pub fn group_at(list: &[u16], i: usize) -> GroupNo
     requires { ⌜ i < length (now list) ⌝ }
