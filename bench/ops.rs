@@ -110,19 +110,21 @@ fn main() {
     let sheet = |name: &str| fs::read(format!("{folder}/{name}.sheet")).expect(name);
 
     // Reading: a largest sheet, an empty register.
-    let s = sheet("largest");
-    same("reading", (register(&s, &[], &mut x), &x), (engine::register_walk(&s, &[], &mut y), &y));
-    say(
-        "reading a largest sheet",
-        middle(
-            || {
-                black_box(register(black_box(&s), &[], &mut x));
-            },
-            || {
-                black_box(engine::register_walk(black_box(&s), &[], &mut y));
-            },
-        ),
-    );
+    for place in ["first", "last"] {
+        let s = sheet(&format!("largest-{place}"));
+        same("reading", (register(&s, &[], &mut x), &x), (engine::register_walk(&s, &[], &mut y), &y));
+        say(
+            &format!("reading a largest sheet, labels differ in the {place} bytes"),
+            middle(
+                || {
+                    black_box(register(black_box(&s), &[], &mut x));
+                },
+                || {
+                    black_box(engine::register_walk(black_box(&s), &[], &mut y));
+                },
+            ),
+        );
+    }
 
     for shape in ["chain", "star", "bushy"] {
         for size in [16, 32, 64, 128] {

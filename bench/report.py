@@ -15,16 +15,17 @@ from sheets import Library, largest, record  # noqa: E402
 
 folder, ops, stack, driver, flags = sys.argv[1:]
 SHAPES, SIZES = ['chain', 'star', 'bushy'], [16, 32, 64, 128]
+LABELS = {'first': b'%03dSIXTEEN-BYTES', 'last': b'SIXTEEN-BYTES%03d'}  # of a largest sheet, by the bytes that differ
 RUNS = 3
 
 
-def longest(sheet):
+def longest(sheet, label):
     """A largest sheet by bytes: 128 groups, 128 labels of 16, 64 claims of 8 and 8 names."""
     out = record(1, [1, 128, 128, 64])
     for parent, lo, hi, mode in sheet.groups:
         out += record(2, [parent, lo, 65535 if hi is None else hi, mode])
     for i in range(1, 129):
-        out += struct.pack('<HHH', 20, 3, i) + b'SIXTEEN-BYTES%03d' % i
+        out += struct.pack('<HHH', 20, 3, i) + label % i
     for c in range(64):
         out += record(5 + c % 2, [8, 8] + [1 + (c + 7 * k) % 128 for k in range(16)])
     assert len(out) == 6924
@@ -89,8 +90,9 @@ def main():
     for (shape, n), s in sheets.items():
         with open('%s/%s-%d.sheet' % (folder, shape, n), 'wb') as f:
             f.write(s.bytes())
-    with open(folder + '/largest.sheet', 'wb') as f:
-        f.write(longest(sheets['bushy', 128]))
+    for where, label in LABELS.items():
+        with open('%s/largest-%s.sheet' % (folder, where), 'wb') as f:
+            f.write(longest(sheets['bushy', 128], label))
     library = Library(driver)
 
     measured = {}
@@ -113,7 +115,7 @@ def main():
         if parts[0] in ('ranges', 'claims') and parts[-1] != '128':
             continue
         label = what.replace('claims', '64 claims,').replace('ranges', 'ranges,').replace('register', 'register of 2,048 rows,')
-        goal = '2' if parts[0] == 'claims' else '1.5'
+        goal = {'reading': '1.2', 'claims': '2'}.get(parts[0], '1.5')
         print('| %s | %s | %s | %.2f | at most %s |' % (label, show(a), show(b), a / b, goal))
     print('\n`scan` goes through groups, rules and rows in this order; `walk` takes all rules in one walk over '
           'the rows. Reading is a call with an empty register.\n')

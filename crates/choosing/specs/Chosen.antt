@@ -1,34 +1,32 @@
 -- The answer to one question about a sheet under flags, and what the measured tables say of it.
-use Prim.Native.Nat.{ℕ, zero, suc, _-_, _*_, _≤_, _<_}
+use Prim.Native.Nat.{ℕ, zero, suc, _-_, _≤_, _<_}
 use mathlib.Core.Path.{_≡_, sym, ap, _∙_}
 use mathlib.Core.Bool.{Bool, true, false, true≢false, false≢true}
 use mathlib.Core.List.{List}
 use native.Mathlib.Omega.{arith}
 use native.Mathlib.Nat.{le-refl}
-use lib.ListN.{length, getD}
-use Rattle.wire.specs.Limits.{noEnd}
+use lib.ListN.{length}
 use Rattle.meaning.specs.Sheet.{Sheet, Group, Son, Tree}
+use Rattle.reading.specs.SheetIn.{sizeLimit, Tabled}
 use Rattle.sizes.specs.Balanced.{isSon, Choice}
 use Rattle.sizes.specs.Span.{Span, none, In, meet}
 use Rattle.sizes.specs.Fold.{kindOf, later, own, Measured}
-use Rattle.sizes.specs.SumLaws.{split, son-of}
+use Rattle.meaning.proofs.SumLaws.{split, son-of}
 use Rattle.sizes.specs.LaterLaws.{later-none, later-son, later-skip}
-use Rattle.sizes.specs.MeasuredLaws.{spans-measured}
 use Rattle.sizes.specs.Exact.{sound}
-use Rattle.sizes.specs.Bounds.{weight, span-small, weight-least}
-use Rattle.runs.specs.Told.{numberIn, Grown, sizeLimit}
+use Rattle.sizes.specs.Bounds.{weight, weight-least}
+use Rattle.runs.specs.Told.{numberIn}
 use Rattle.measuring.specs.Held.{endless, topOf, spanOf, Alike}
 use Rattle.measuring.specs.HeldLaws.{none-of, some-of}
-use Rattle.measuring.specs.Tables.{sheetIn, mayIn, spansIn, size-in}
 use Rattle.measuring.specs.Pairs.{pairIn}
-use Rattle.measuring.specs.Done.{AllDone}
-use Rattle.measuring.specs.DoneLaws.{joined-alike, small-in}
-use Rattle.choosing.specs.Divided.{markedIn, Folded, Dividend, in-tree, in-rooted}
+use Rattle.measuring.specs.Done.{Lent, AllDone}
+use Rattle.measuring.specs.DoneLaws.{joined-alike}
+use Rattle.choosing.specs.Divided.{markedIn, Folded, Dividend}
 use Rattle.choosing.specs.Parts.{in-some}
 
 -- the tables of a question: the groups of a sheet, and room for the answer
 pub record Asking (groups : List ℕ) (n : ℕ) (sizes marks : List ℕ) : Type 0 where
-  pub grown : Grown groups n
+  pub grown : Tabled groups n
   pub sizes-long : n ≤ length sizes
   pub marks-long : n ≤ length marks
 
@@ -66,15 +64,14 @@ module _ {s : Sheet} {may : ℕ → Bool → Bool} {z : ℕ → Bool → Span} {
         (sym (later-eq s (pairIn spans) z p (λ g k. w .spanned g (k .group)) (s .size) c));
   }
 
-  pub folded-table : 4 * s .size ≤ length spans → 4 * s .size ≤ length after → Folded s spans after
-  folded-table l k = record {
+  pub folded-table : Lent (s .size) spans after → Folded s spans after
+  folded-table l = record {
     may = may;
     measured = measured-table;
     followed = λ p g j c.
         w .followed p g j c ∙ ap (λ i. later s z i (s .size - g) c) (j .under)
         ∙ sym (later-eq s (pairIn spans) z p (λ h o. w .spanned h (o .group)) (s .size - g) c);
-    spans-long = l;
-    after-long = k;
+    lent = l;
   }
 
   -- no number for the root, no choice
@@ -100,19 +97,6 @@ module _ {s : Sheet} {may : ℕ → Bool → Bool} {z : ℕ → Bool → Span} {
     };
     lacking = λ o. absurd (true≢false o);
   }
-
--- the root's numbers are small
-pub root-small : (t : List ℕ) (n : ℕ) (f : List ℕ) → Grown t n → ((i : ℕ) → getD t i 0 ≤ noEnd) → (c : Bool)
-    → weight (spansIn t n f 1 c) ≤ sizeLimit
-root-small t n f w b c =
-    let s = sheetIn t n in
-    let tr = in-tree w in
-    omega (
-      arith,
-      span-small s (mayIn f) (spansIn t n f) noEnd tr (spans-measured s (mayIn f) tr) (small-in t n b) 1 (in-rooted w .one) c,
-      size-in t n,
-      w .small,
-    )
 
 -- the least number is in the span
 pub least-in : (l u : ℕ) → l ≤ u → u ≤ endless → In l (spanOf l u)

@@ -1,24 +1,25 @@
 -- The tables in which `divide` gives out numbers and marks.
-use Prim.Native.Nat.{ℕ, zero, suc, _+_, _-_, _*_, _≤_}
+use Prim.Native.Nat.{ℕ, zero, suc, _-_, _≤_}
 use mathlib.Core.Path.{_≡_, refl, sym, ap, _∙_, subst}
 use mathlib.Core.Bool.{Bool, true, false}
 use mathlib.Core.List.{List}
 use native.Mathlib.Omega.{arith}
 use native.Mathlib.Nat.{le-refl}
 use lib.ListN.{length, getD, set, length-set}
-use lib.Seq.{getD-set-same, getD-set-other}
 use lib.Dec.{eqb}
 use Rattle.meaning.specs.Sum.{bit}
 use Rattle.meaning.specs.Sheet.{Sheet, Group, Son, Tree}
-use Rattle.sizes.specs.Balanced.{Balanced, Choice}
-use Rattle.sizes.specs.Ranged.{Rooted}
+use Rattle.reading.specs.Tables.{groupIn}
+use Rattle.reading.specs.SheetIn.{sheetIn, Tabled}
+use Rattle.sizes.specs.Balanced.{Choice}
 use Rattle.sizes.specs.Span.{Span, In, Kind}
-use Rattle.sizes.specs.Fold.{kindOf, joined, later, Measured}
-use Rattle.sizes.specs.SumLaws.{compare-eq, son-parent, bit-most}
-use Rattle.runs.specs.Told.{numberIn, tableSheet, Grown, Told}
+use Rattle.sizes.specs.Fold.{kindOf, later, Measured}
+use Rattle.meaning.proofs.SumLaws.{compare-eq, son-parent, bit-most}
+use Rattle.runs.specs.Told.{numberIn, number-same, number-other}
 use Rattle.measuring.specs.Held.{Alike, modeKind}
-use Rattle.measuring.specs.Tables.{sheetIn, size-in, kind-in}
+use Rattle.measuring.specs.Tables.{kind-in}
 use Rattle.measuring.specs.Pairs.{pairIn}
+use Rattle.measuring.specs.Done.{Lent}
 use Rattle.choosing.specs.Parted.{Parted, Divisible, Shared, parted-root, parted-more, parted-divisible, parted-choice}
 
 -- whether group g is marked in a table of marks
@@ -31,8 +32,7 @@ pub record Folded (s : Sheet) (spans after : List ℕ) : Type 0 where
   pub may : ℕ → Bool → Bool
   pub measured : Measured s may (pairIn spans)
   pub followed : (p g : ℕ) → Son s p g → Alike (pairIn after g) (later s (pairIn spans) p (s .size - g))
-  pub spans-long : 4 * s .size ≤ length spans
-  pub after-long : 4 * s .size ≤ length after
+  pub lent : Lent (s .size) spans after
 
 -- the tables have room for n groups
 pub record Room (n : ℕ) (sizes marks rest states : List ℕ) : Type 0 where
@@ -57,13 +57,7 @@ pub bit-mark : (c : Bool) → eqb (bit c) 1 ≡ c
 bit-mark true = refl
 bit-mark false = refl
 
--- a store at group g
-pub number-same : (t : List ℕ) (g x : ℕ) → 1 ≤ g → g ≤ length t → numberIn (set t (g - 1) x) g ≡ x
-number-same t g x a l = getD-set-same t (g - 1) x 0 (omega arith)
-
-pub number-other : (t : List ℕ) (g h x : ℕ) → 1 ≤ g → 1 ≤ h → (h ≡ g → ⊥) → numberIn (set t (g - 1) x) h ≡ numberIn t h
-number-other t g h x a b n = getD-set-other t (g - 1) (h - 1) x 0 (λ e. n (omega arith))
-
+-- a mark stored at group g
 pub mark-same : (t : List ℕ) (g : ℕ) (c : Bool) → 1 ≤ g → g ≤ length t → markedIn (set t (g - 1) (bit c)) g ≡ c
 mark-same t g c a l = ap (λ x. eqb x 1) (number-same t g (bit c) a l) ∙ bit-mark c
 
@@ -162,37 +156,10 @@ shared-alike {i = i} {j = j} e f w = record {
   son = rw (f j) at (w .son);
 }
 
--- the sheet of a table, under its two names
-pub in-tree : {t : List ℕ} {n : ℕ} → Grown t n → Tree (sheetIn t n)
-unfolding sheetIn
-in-tree w = w .tree
-
-pub in-rooted : {t : List ℕ} {n : ℕ} → Grown t n → Rooted (sheetIn t n)
-unfolding sheetIn
-in-rooted w = w .rooted
-
-pub in-son : (t : List ℕ) (n : ℕ) {p g : ℕ} → Son (tableSheet t n) p g → Son (sheetIn t n) p g
-unfolding sheetIn
-in-son t n k = k
-
-pub in-group : (t : List ℕ) (n : ℕ) {g : ℕ} → 1 ≤ g → g ≤ n → Group (sheetIn t n) g
-in-group t n a b = record { first = a; last = omega (arith, size-in t n) }
-
-pub in-small : {t : List ℕ} {n : ℕ} → Grown t n → sheetIn t n .size ≤ 128
-in-small {t} {n} w = omega (arith, size-in t n, w .small)
-
-pub in-balanced : (t : List ℕ) (n : ℕ) {f : ℕ → ℕ} → Balanced (sheetIn t n) f → Balanced (tableSheet t n) f
-unfolding sheetIn
-in-balanced t n b = b
-
-pub in-told : (t : List ℕ) (n : ℕ) {f first : ℕ → ℕ} → Told (tableSheet t n) f first → Told (sheetIn t n) f first
-unfolding sheetIn
-in-told t n w = w
-
 -- what the code reads of a son's parent and of the later sons, in the mathematics' terms
-pub kind-table : (t : List ℕ) (n p g k : ℕ) (q : Kind) → Grown t n → Son (sheetIn t n) p g → k ≡ getD t (4 * (p - 1) + 3) 0
+pub kind-table : (t : List ℕ) (n p g k : ℕ) (q : Kind) → Tabled t n → Son (sheetIn t n) p g → k ≡ groupIn t (p - 1) .mode
     → q ≡ modeKind k → q ≡ kindOf (sheetIn t n) p
-kind-table t n p g k q w i d e = e ∙ ap modeKind d ∙ sym (kind-in t n p (son-parent (in-tree w) i))
+kind-table t n p g k q w i d e = e ∙ ap modeKind d ∙ sym (kind-in t n p (son-parent (w .tree) i))
 
 pub rest-table : {s : Sheet} {spans after : List ℕ} {x : Bool → Span} (p g : ℕ) → Folded s spans after → Son s p g
     → Alike x (pairIn after g) → Alike x (later s (pairIn spans) p (s .size - g))

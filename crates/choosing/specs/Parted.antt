@@ -10,7 +10,7 @@ use Rattle.meaning.specs.Sheet.{Sheet, Group, Son, Tree}
 use Rattle.sizes.specs.Balanced.{isSon, Choice}
 use Rattle.sizes.specs.Span.{Span, In, Kind, Makes, join}
 use Rattle.sizes.specs.Fold.{kindOf, later, Measured}
-use Rattle.sizes.specs.SumLaws.{split, compare-eq, son-of, son-is, son-parent}
+use Rattle.meaning.proofs.SumLaws.{compare-eq, son-is, son-parent, no-son-before, one-parent}
 use Rattle.sizes.specs.JoinedLaws.{start-in}
 use Rattle.sizes.specs.RuleSteps.{Upto, upto-none, upto-son, upto-skip, rule-upto}
 use Rattle.sizes.specs.LaterLaws.{later-none, later-skip}
@@ -51,21 +51,14 @@ pub record Dividing (s : Sheet) (z : ℕ → Bool → Span) (f : ℕ → ℕ) (M
   pub rests : (h : ℕ) → 1 ≤ h → (h ≡ g → ⊥) → (h ≡ p → ⊥) → R' h ≡ R h
   pub states : (h : ℕ) → 1 ≤ h → (h ≡ g → ⊥) → (h ≡ p → ⊥) → C' h ≡ C h
 
--- no group up to g is a son of g
-no-son-yet : {s : Sheet} → Tree s → (g h : ℕ) → h ≤ g → g ≤ s .size → isSon s g h ≡ false
-no-son-yet {s} t g h l k =
-    split (isSon s g h)
-    (λ e. absurd (let j = son-of s g h (omega arith) e in omega (arith, t .before h (j .group))))
-    (λ e. e)
-
--- so the sons after g are all sons of g
+-- the sons after g are all sons of g
 upto-own : {s : Sheet} → Tree s → (g : ℕ) (G : ℕ → ℕ) (x : ℕ) → g ≤ s .size → (d : ℕ) → d ≤ g
     → Upto s g G (s .size - g) x → Upto s g G (d + (s .size - g)) x
 upto-own {s} t g G x k zero l u = let e : 0 + (s .size - g) ≡ s .size - g = omega arith in rw e u
 upto-own {s} t g G x k (suc d) l u =
     let e : suc d + (s .size - g) ≡ suc (d + (s .size - g)) = omega arith in
     rw e
-    (upto-skip s g G (d + (s .size - g)) x (no-son-yet t g (s .size - (d + (s .size - g))) (omega arith) k) .1
+    (upto-skip s g G (d + (s .size - g)) x (no-son-before t g (s .size - (d + (s .size - g))) (omega arith) k) .1
     (upto-own t g G x k d (omega arith) u))
 
 later-own : {s : Sheet} → Tree s → (z : ℕ → Bool → Span) (g : ℕ) (c : Bool) → g ≤ s .size → (d : ℕ) → d ≤ g
@@ -74,7 +67,7 @@ later-own {s} t z g c k zero l = let e : 0 + (s .size - g) ≡ s .size - g = ome
 later-own {s} t z g c k (suc d) l =
     let e : suc d + (s .size - g) ≡ suc (d + (s .size - g)) = omega arith in
     rw e
-    (later-skip s z g (d + (s .size - g)) c (no-son-yet t g (s .size - (d + (s .size - g))) (omega arith) k)
+    (later-skip s z g (d + (s .size - g)) c (no-son-before t g (s .size - (d + (s .size - g))) (omega arith) k)
     ∙ later-own t z g c k d (omega arith))
 
 leads-own : {s : Sheet} → Tree s → (g : ℕ) (F : ℕ → ℕ) (x : ℕ) → g ≤ s .size → Leads s g F g x x
@@ -153,7 +146,8 @@ module _ {s : Sheet} {may : ℕ → Bool → Bool} {z : ℕ → Bool → Span} (
             (λ n. compare-eq h p
             (λ x. rw x (v .share .rest))
             (λ y. rw (v .rests h (j .first) n y, v .states h (j .first) n y)
-            (subst (In (R h)) (ap (λ n. later s z h n (C h)) e ∙ later-skip s z h (s .size - suc i) (C h) (rw o (other h y)))
+            (subst (In (R h)) (ap (λ n. later s z h n (C h)) e ∙ later-skip s z h (s .size - suc i) (C h)
+            (rw o (one-parent k h y)))
             (w .left h j (omega arith)))));
         numbers = λ h j l. compare-eq h (suc i)
             (λ x. rw (x, v .ownRest) (leads-own t (suc i) f' (f' (suc i)) last))
@@ -161,7 +155,7 @@ module _ {s : Sheet} {may : ℕ → Bool → Bool} {z : ℕ → Bool → Span} (
             (λ x. rw (x, same p (q .first) up)
             (leads-son p i f f' (R p) (R' p) (f p) k same (v .share .numbers) (w .numbers p q up)))
             (λ y. rw (v .rests h (j .first) n y, same h (j .first) (omega arith))
-            (leads-skip h i f f' (R h) (f h) last (other h y) same (w .numbers h j (omega arith)))));
+            (leads-skip h i f f' (R h) (f h) last (one-parent k h y) same (w .numbers h j (omega arith)))));
         marks = λ h j l. compare-eq h (suc i)
             (λ x. rw (x, v .ownState) (leads-own t (suc i) (λ g. bit (M' g)) (bit (M' (suc i))) last))
             (λ n. compare-eq h p
@@ -169,14 +163,9 @@ module _ {s : Sheet} {may : ℕ → Bool → Bool} {z : ℕ → Bool → Span} (
             (leads-son p i (λ g. bit (M g)) (λ g. bit (M' g)) (bit (C p)) (bit (C' p)) (bit (M p)) k bits (v .share .states)
             (w .marks p q up)))
             (λ y. rw (v .states h (j .first) n y, mark h (j .first) (omega arith))
-            (leads-skip h i (λ g. bit (M g)) (λ g. bit (M' g)) (bit (C h)) (bit (M h)) last (other h y) bits (w .marks h j
+            (leads-skip h i (λ g. bit (M g)) (λ g. bit (M' g)) (bit (C h)) (bit (M h)) last (one-parent k h y) bits (w .marks h j
             (omega arith)))));
       }
-    where
-      other : (h : ℕ) → (h ≡ p → ⊥) → isSon s h (suc i) ≡ false
-      other h n = split (isSon s h (suc i))
-          (λ e. absurd (n (sym (son-of s h (suc i) (k .group .last) e .under) ∙ k .under)))
-          (λ e. e)
 
   -- past the last group
   pub parted-choice : {f : ℕ → ℕ} {M : ℕ → Bool} {R : ℕ → ℕ} {C : ℕ → Bool} → Parted s z f M R C (s .size) → Choice s may f M

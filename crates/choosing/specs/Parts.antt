@@ -6,13 +6,12 @@ use mathlib.Core.Logic.{_↔_}
 use native.Mathlib.Omega.{arith}
 use Rattle.meaning.specs.Sum.{bit}
 use Rattle.meaning.specs.Sheet.{Top, fin, inf, AtMost}
-use Rattle.meaning.specs.Arranged.{cap}
-use Rattle.sizes.specs.Span.{Span, In, plus, Kind, lap, add, eq, Makes, join, less}
-use Rattle.sizes.specs.SumLaws.{compare-le, compare-eq, bit-eq}
+use Rattle.sizes.specs.Span.{Span, In, plus, Kind, lap, add, eq, Makes, join}
+use Rattle.meaning.proofs.SumLaws.{compare-le, compare-eq, bit-eq}
 use Rattle.sizes.specs.SpanLaws.{Proper, restOf, sonOf, join-in, in-meet, meet-join}
 use Rattle.sizes.specs.JoinedLaws.{makes-first, makes-second, makes-zero}
 use Rattle.measuring.specs.Held.{endless, topOf, spanOf}
-use Rattle.measuring.specs.HeldLaws.{none-of, some-of, top-end, top-fin, join-none-left, join-none-right}
+use Rattle.measuring.specs.HeldLaws.{none-of, some-of, top-end, top-fin, cap-top, less-top, join-none-left, join-none-right}
 use Rattle.choosing.specs.Parted.{Divisible, Shared}
 
 -- The states of the later sons and of the one son, for a state c of all: `first`, the later sons in and the one out can be
@@ -82,12 +81,6 @@ at-plus-top r u v l =
     any (fin k) = tt
     any inf = tt
 
-cap-top : (u r : ℕ) → r ≤ endless → cap (topOf u) r ≡ min u r
-cap-top u r l = compare-eq u endless (λ e. rw (e, top-end) (omega arith)) (λ n. rw (top-fin n))
-
-less-top : (u r : ℕ) → r ≤ endless → less r (topOf u) ≡ r - u
-less-top u r l = compare-eq u endless (λ e. rw (e, top-end) (omega arith)) (λ n. rw (top-fin n))
-
 pub proper-of : (l u : ℕ) → l ≤ endless → Proper (spanOf l u)
 unfolding Proper
 proper-of l u b = compare-le l u (λ h. rw (some-of h) (at-top l u b .0 h)) (λ h. rw (none-of h) tt)
@@ -137,7 +130,7 @@ son-lap {v = v} {r = r} h k b = rw (some-of h, some-of k) (cap-top v r b)
 
 pub son-add : {l u m v r : ℕ} → l ≤ u → m ≤ v → r ≤ endless → sonOf add (spanOf l u) (spanOf m v) r ≡ max m (r - u)
 unfolding sonOf
-son-add {u = u} {r = r} h k b = rw (some-of h, some-of k, less-top u r b)
+son-add {u = u} {r = r} h k b = rw (some-of h, some-of k, less-top r u b)
 
 pub son-eq : {l u m v r : ℕ} → l ≤ u → m ≤ v → sonOf eq (spanOf l u) (spanOf m v) r ≡ r
 unfolding sonOf

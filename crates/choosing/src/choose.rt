@@ -3,11 +3,14 @@
 use crate::divide::divide;
 use crate::parts::at_state;
 use measuring::measure::measure_sheet;
+use measuring::pairs::PAIR_TABLE;
 use measuring::pairs::pair_at;
+use reading::tables::GROUP_CAPACITY;
 use reading::tables::GroupNo;
 ghost use Prim.Native.Nat.{_≤_};
 ghost use lib.ListN.{length};
-ghost use Rattle.measuring.specs.Tables.{sheetIn, mayIn};
+ghost use Rattle.reading.specs.SheetIn.{sheetIn};
+ghost use Rattle.measuring.specs.Tables.{mayIn};
 ghost use Rattle.choosing.specs.Chosen.{Chose, Asking};
 
 // `c`: whether the member is in the root.
@@ -23,10 +26,10 @@ pub fn choose(
     ensures { λ r. ⌜ Chose (sheetIn (now (groups .entry)) size) (mayIn (now (flags .entry))) c (now (sizes .exit)) (now
         (marks .exit)) r ⌝ }
 {
-    let mut last = [0u16; 128];
-    let mut prev = [0u16; 128];
-    let mut spans = [0u32; 512];
-    let mut after = [0u32; 512];
+    let mut last = [0u16; GROUP_CAPACITY];
+    let mut prev = [0u16; GROUP_CAPACITY];
+    let mut spans = [0u32; PAIR_TABLE];
+    let mut after = [0u32; PAIR_TABLE];
     measure_sheet(
         groups,
         size,

@@ -3,6 +3,7 @@
 use crate::parts::divided;
 use measuring::pairs::pair_at;
 use measuring::spans::kind_of;
+use reading::tables::GROUP_CAPACITY;
 use reading::tables::GroupNo;
 use reading::tables::mode_of;
 use runs::place::parent_group;
@@ -11,8 +12,8 @@ ghost use Prim.Native.Nat.{_-_, _≤_};
 ghost use lib.ListN.{length, set};
 ghost use Rattle.meaning.specs.Sum.{bit};
 ghost use Rattle.sizes.specs.Span.{In};
-ghost use Rattle.runs.specs.Told.{Grown, numberIn};
-ghost use Rattle.measuring.specs.Tables.{sheetIn};
+ghost use Rattle.reading.specs.SheetIn.{sheetIn, Tabled};
+ghost use Rattle.runs.specs.Told.{numberIn};
 ghost use Rattle.measuring.specs.Pairs.{pairIn};
 ghost use Rattle.choosing.specs.Divided.{markedIn, Folded, Room, DividedTo, Dividend};
 
@@ -67,7 +68,7 @@ fn divide_son(
     states: &mut [u8],
     g: GroupNo,
 )
-    requires { ⌜ Grown (now groups) size × Folded (sheetIn (now groups) size) (now spans) (now after) ⌝ }
+    requires { ⌜ Tabled (now groups) size × Folded (sheetIn (now groups) size) (now spans) (now after) ⌝ }
     requires { ⌜ (2 ≤ g .0) × (g .0 ≤ size) × Room size (now sizes) (now marks) (now rest) (now states) ⌝ }
     requires { ⌜ DividedTo (sheetIn (now groups) size) (pairIn (now spans)) (now sizes) (now marks) (now rest) (now states)
         (g .0 - 1) ⌝ }
@@ -100,13 +101,13 @@ pub fn divide(
     sizes: &mut [u32],
     marks: &mut [u8],
 )
-    requires { ⌜ Grown (now groups) size × Folded (sheetIn (now groups) size) (now spans) (now after) ⌝ }
+    requires { ⌜ Tabled (now groups) size × Folded (sheetIn (now groups) size) (now spans) (now after) ⌝ }
     requires { ⌜ (size ≤ length (now sizes)) × (size ≤ length (now marks)) × In r (pairIn (now spans) 1 c) ⌝ }
     ensures { λ _. ⌜ Dividend (sheetIn (now (groups .entry)) size) (pairIn (now (spans .entry))) r c (now (sizes .exit)) (now
         (marks .exit)) ⌝ }
 {
-    let mut rest = [0u32; 128];
-    let mut states = [0u8; 128];
+    let mut rest = [0u32; GROUP_CAPACITY];
+    let mut states = [0u8; GROUP_CAPACITY];
     give(sizes, marks, &mut rest, &mut states, GroupNo(1), r, c);
     let mut i: u16 = 1;
     while i < size {

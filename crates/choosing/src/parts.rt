@@ -2,10 +2,13 @@
 use measuring::spans::Kind;
 use measuring::spans::Pair;
 use measuring::spans::Span;
+use measuring::spans::larger;
+use measuring::spans::minus;
+use measuring::spans::smaller;
 ghost use mathlib.Core.Path.{_≡_};
 ghost use mathlib.Core.Bool.{true, false, cond};
 ghost use mathlib.Core.Logic.{_↔_};
-ghost use Prim.Native.Nat.{_-_, _≤_, min, max};
+ghost use Prim.Native.Nat.{_≤_};
 ghost use Rattle.sizes.specs.Span.{In, Makes, join, lap, add, eq};
 ghost use Rattle.sizes.specs.SpanLaws.{sonOf};
 ghost use Rattle.meaning.specs.Sum.{bit};
@@ -27,25 +30,6 @@ pub struct Parts {
     pub son_in: bool,
 }
 
-// r less u, cut at 0
-fn less(r: u32, u: u32) -> u32
-    ensures { λ x. ⌜ x ≡ r - u ⌝ }
-{
-    if u < r { r - u } else { 0 }
-}
-
-fn smaller(a: u32, b: u32) -> u32
-    ensures { λ x. ⌜ x ≡ min a b ⌝ }
-{
-    if a < b { a } else { b }
-}
-
-fn larger(a: u32, b: u32) -> u32
-    ensures { λ x. ⌜ x ≡ max a b ⌝ }
-{
-    if a < b { b } else { a }
-}
-
 // whether r is in two spans joined; no sum is taken, so none can wrap
 fn lap_has(a: Span, b: Span, r: u32) -> bool
     ensures { λ x. ⌜ (x ≡ true) ↔ In r (join lap (held a) (held b)) ⌝ }
@@ -59,7 +43,7 @@ fn lap_has(a: Span, b: Span, r: u32) -> bool
     if r < larger(a.least, b.least) {
         return false;
     }
-    less(r, a.most) <= b.most
+    minus(r, a.most) <= b.most
 }
 
 fn add_has(a: Span, b: Span, r: u32) -> bool
@@ -77,7 +61,7 @@ fn add_has(a: Span, b: Span, r: u32) -> bool
     if r - a.least < b.least {
         return false;
     }
-    less(r, a.most) <= b.most
+    minus(r, a.most) <= b.most
 }
 
 fn eq_has(a: Span, b: Span, r: u32) -> bool
@@ -172,7 +156,7 @@ fn son_part(k: Kind, a: Span, b: Span, r: u32) -> u32
 {
     match k {
         Kind::Lap => smaller(b.most, r),
-        Kind::Add => larger(b.least, less(r, a.most)),
+        Kind::Add => larger(b.least, minus(r, a.most)),
         Kind::Eq => r,
     }
 }

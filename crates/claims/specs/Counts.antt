@@ -1,15 +1,15 @@
 -- Sizes of sets that fit, with a condition on them, and the sheets whose table has one bound narrowed.
 use Prim.Native.Nat.{ℕ, suc, _+_, _-_, _*_, _≤_, _<_, min, max}
 use mathlib.Core.Path.{_≡_, refl, sym, ap, _∙_}
-use mathlib.Core.Bool.{Bool, true, false, cond, true≢false, false≢true}
+use mathlib.Core.Bool.{Bool, true, false, cond, true≢false}
 use mathlib.Core.List.{List}
 use mathlib.Core.Logic.{_⊎_, inl, inr, ⊎-elim}
 use native.Mathlib.Omega.{arith}
 use native.Mathlib.Nat.{le-refl}
 use borrow.Author.Tests.{eq-eqb, ne-eqb}
-use lib.ListN.{length, getD, set, length-set, replicate}
+use lib.ListN.{length, getD, set, length-set}
 use lib.Seq.{getD-set-same, getD-set-other}
-use Rattle.wire.specs.Limits.{noEnd}
+use Rattle.wire.specs.Limits.{groupCapacity, noEnd}
 use Rattle.meaning.specs.Sum.{sum, bit}
 use Rattle.meaning.specs.Sheet.{Sheet, Group, Son, Tree, Top, fin}
 use Rattle.meaning.specs.Claim.{counted}
@@ -17,19 +17,22 @@ use Rattle.meaning.specs.OfRecords.{endOf, disjointMode, coverMode, sameMode}
 use Rattle.meaning.specs.Sons.{only}
 use Rattle.meaning.specs.Shown.{above}
 use Rattle.sizes.specs.Balanced.{isSon, sons, Balanced, Choice}
-use Rattle.sizes.specs.Ranged.{Rooted, free}
+use Rattle.meaning.specs.Sheet.{Rooted}
 use Rattle.sizes.specs.Span.{smaller}
-use Rattle.sizes.specs.SumLaws.{split, compare-eq, sum-eq, son-of, son-is}
+use Rattle.meaning.proofs.SumLaws.{split, compare-eq, sum-eq, son-of, son-is}
 use Rattle.sizes.specs.Runs.{above-runs}
 use Rattle.sizes.specs.Possible.{Sizes, nowhere, sizes-choice, possible}
 use Rattle.sizes.specs.ClaimsCount.{rebound, narrowHi, narrowLo, narrowHi-sizes, narrowLo-sizes, narrowHi-choice, narrowLo-choice}
 use Rattle.sizes.specs.ClaimsMath.{Above, breakable-size, breakable-empty, empty-breaks, shown-breaks-count}
-use Rattle.runs.specs.Told.{numberIn, Grown}
-use Rattle.measuring.specs.Tables.{sheetIn, mayIn, size-in, parent-in, lo-in, hi-in, disjoint-in, cover-in, same-in}
+use Rattle.runs.specs.Told.{numberIn}
+use Rattle.reading.specs.SheetIn.{Tabled}
+use Rattle.measuring.specs.Tables.{mayIn}
+use Rattle.reading.specs.SheetIn.{sheetIn, size-in, parent-in, lo-in, hi-in, disjoint-in, cover-in, same-in}
 use Rattle.choosing.specs.Divided.{markedIn}
-use Rattle.choosing.specs.Chosen.{Found, Chose}
-use Rattle.claims.specs.Flags.{free-flag, choice-may}
-use Rattle.claims.specs.Judged.{Judged, Denial, judged-broken, judged-kept}
+use Rattle.choosing.specs.Chosen.{Chose}
+use Rattle.claims.specs.Witnessed.{Witnessed, witnessed-yes, witnessed-no, witnessed-as}
+use Rattle.claims.specs.Flags.{freeTable, free-flag}
+use Rattle.claims.specs.Judged.{Fitting, Denial, Judged}
 
 -- sizes without a condition, with at most and at least k members in group g
 abbrev pub Any : (ℕ → ℕ) → Type 0
@@ -53,26 +56,18 @@ abbrev pub counts : List ℕ → List ℕ → ℕ → ℕ
 counts sizes marks g = numberIn sizes g + bit (markedIn marks g)
 
 -- the tables hold sizes that meet the condition, or there are none
-pub record Sized (s : Sheet) (P : (ℕ → ℕ) → Type 0) (sizes marks : List ℕ) (r : Bool) : Type 0 where
-  pub found : r ≡ true → Found s free false sizes marks × P (counts sizes marks)
-  pub lacking : r ≡ false → (f : ℕ → ℕ) → Sizes s f → P f → ⊥
+abbrev pub Sized : Sheet → ((ℕ → ℕ) → Type 0) → List ℕ → List ℕ → Bool → Type 0
+Sized s P sizes marks x = Witnessed (Fitting s sizes marks × P (counts sizes marks)) ((f : ℕ → ℕ) × Sizes s f × P f) x
 
-pub chose-sized : {s : Sheet} {sizes marks : List ℕ} {x : Bool} → s .size ≤ 128 → Chose s (mayIn
-    (replicate 128 3)) false sizes marks x
+pub chose-sized : {s : Sheet} {sizes marks : List ℕ} {x : Bool} → s .size ≤ groupCapacity
+    → Chose s (mayIn freeTable) false sizes marks x
     → Sized s Any sizes marks x
 chose-sized l w = record {
-  found = λ e. let v = w .found e in (
-    record {
-      choice = choice-may (λ g q c. free-flag g (q .first) (omega (arith, q .last)) c) (v .choice);
-      top = v .top;
-      state = v .state;
-      bits = v .bits;
-    },
-    tt,
-  );
-  lacking = λ e f z u.
-      w .lacking e f nowhere
-      (choice-may (λ g q c. sym (free-flag g (q .first) (omega (arith, q .last)) c)) (sizes-choice free (λ g q. refl) z)) refl;
+  found = λ e. let v = w .found e in
+      (record { may = mayIn freeTable; choice = v .choice; top = v .top; bits = v .bits }, tt);
+  lacking = λ e z.
+      w .lacking e (z .0) nowhere
+      (sizes-choice (mayIn freeTable) (λ g q. free-flag g (q .first) (omega (arith, q .last)) false) (z .1)) refl;
 }
 
 -- two sheets that say the same of every group
@@ -168,20 +163,21 @@ module _ {s r : Sheet} (w : Same s r) where
 
 -- a condition that narrows a sheet: the sizes of the narrowed one are those of the sheet that meet it
 pub sized-narrow : {s u v : Sheet} {P : (ℕ → ℕ) → Type 0} {sizes marks : List ℕ} {x : Bool} → Same u v → s .size ≡ u .size
-    → ((f : ℕ → ℕ) (M : ℕ → Bool) → Choice v free f M → Choice s free f M × P (λ g. f g + bit (M g)))
+    → ((may : ℕ → Bool → Bool) (f : ℕ → ℕ) (M : ℕ → Bool) → Choice v may f M → Choice s may f M × P (λ g. f g + bit (M g)))
     → ((f : ℕ → ℕ) → Sizes s f → P f → Sizes v f) → Sized u Any sizes marks x → Sized s P sizes marks x
-sized-narrow w n i o z = record {
-  found = λ e. let f = z .found e .0 in let c = i _ _ (choice-same w (f .choice)) in (
-    record {
-      choice = c .0;
-      top = f .top;
-      state = f .state;
-      bits = λ g q. f .bits g (record { first = q .first; last = omega (arith, q .last, n) });
-    },
-    c .1,
-  );
-  lacking = λ e f y p. z .lacking e f (sizes-same (same-turned w) (o f y p)) tt;
-}
+sized-narrow w n i o z =
+    witnessed-as
+    (λ y. let f = y .0 in let c = i (f .may) _ _ (choice-same w (f .choice)) in (
+      record {
+        may = f .may;
+        choice = c .0;
+        top = f .top;
+        bits = λ g q. f .bits g (record { first = q .first; last = omega (arith, q .last, n) });
+      },
+      c .1,
+    ))
+    (λ y. (y .0, sizes-same (same-turned w) (o (y .0) (y .1) (y .2)), tt))
+    z
 
 -- bounds bear neither on the tree nor on its root
 tree-bound : (s : Sheet) (l : ℕ → ℕ) (h : ℕ → Top) → Tree s → Tree (rebound s l h)
@@ -263,54 +259,53 @@ module _ (t : List ℕ) (n g : ℕ) (a : 1 ≤ g) (b : g ≤ n) (l : 4 * n ≤ l
       → Sized (sheetIn (set t (4 * (g - 1) + 2) (min (getD t (4 * (g - 1) + 2) 0) k)) n) Any sizes marks x
       → Sized (sheetIn t n) (Few g k) sizes marks x
   few-sized k o z =
-      sized-narrow (same-hi k o) (size-in t n ∙ sym (size-in _ n)) (λ f M c. narrowHi-choice g k here .0 c)
+      sized-narrow (same-hi k o) (size-in t n ∙ sym (size-in _ n)) (λ may f M c. narrowHi-choice g k here .0 c)
       (λ f y p. narrowHi-sizes g k here .1 (y, p)) z
 
   pub many-sized : (k : ℕ) → {sizes marks : List ℕ} {x : Bool}
       → Sized (sheetIn (set t (4 * (g - 1) + 1) (max (getD t (4 * (g - 1) + 1) 0) k)) n) Any sizes marks x
       → Sized (sheetIn t n) (Many g k) sizes marks x
   many-sized k z =
-      sized-narrow (same-lo k) (size-in t n ∙ sym (size-in _ n)) (λ f M c. narrowLo-choice g k here .0 c)
+      sized-narrow (same-lo k) (size-in t n ∙ sym (size-in _ n)) (λ may f M c. narrowLo-choice g k here .0 c)
       (λ f y p. narrowLo-sizes g k here .1 (y, p)) z
 
   -- the narrowed table is that of a tree
   grown-bound : (u : List ℕ) (L : ℕ → ℕ) (H : ℕ → Top) → length u ≡ length t → Same (sheetIn u n) (rebound (sheetIn t n) L H)
-      → Grown t n → Grown u n
+      → Tabled t n → Tabled u n
   unfolding sheetIn
   grown-bound u L H e w v = record {
+    some = v .some;
     small = v .small;
     long = omega (arith, v .long);
     tree = tree-same (same-turned w) (tree-bound (sheetIn t n) L H (v .tree));
     rooted = rooted-same (same-turned w) (rooted-bound (sheetIn t n) L H (v .rooted));
   }
 
-  pub grown-hi : (k : ℕ) → k < noEnd → Grown t n → Grown (set t (4 * (g - 1) + 2) (min (getD t (4 * (g - 1) + 2) 0) k)) n
+  pub grown-hi : (k : ℕ) → k < noEnd → Tabled t n → Tabled (set t (4 * (g - 1) + 2) (min (getD t (4 * (g - 1) + 2) 0) k)) n
   grown-hi k o w = grown-bound _ _ _ (length-set t _ _) (same-hi k o) w
 
-  pub grown-lo : (k : ℕ) → Grown t n → Grown (set t (4 * (g - 1) + 1) (max (getD t (4 * (g - 1) + 1) 0) k)) n
+  pub grown-lo : (k : ℕ) → Tabled t n → Tabled (set t (4 * (g - 1) + 1) (max (getD t (4 * (g - 1) + 1) 0) k)) n
   grown-lo k w = grown-bound _ _ _ (length-set t _ _) (same-lo k) w
 
 -- fewer than lo: at most lo - 1, where lo is not 0
 pub sized-under : {s : Sheet} {sizes marks : List ℕ} {x : Bool} (g lo k : ℕ) → k + 1 ≡ lo → Sized s (Few g k) sizes marks x
     → Sized s (Under g lo) sizes marks x
-sized-under g lo k e z = record {
-  found = λ o. let f = z .found o in (f .0, omega (arith, f .1));
-  lacking = λ o f y p. z .lacking o f y (omega arith);
-}
+sized-under g lo k e z = witnessed-as (λ y. (y .0, omega (arith, y .1))) (λ y. (y .0, y .1, omega (arith, y .2))) z
 
 pub sized-never : {s : Sheet} {P : (ℕ → ℕ) → Type 0} {sizes marks : List ℕ} → ((f : ℕ → ℕ) → P f → ⊥)
     → Sized s P sizes marks false
-sized-never h = record { found = λ e. absurd (false≢true e); lacking = λ e f y p. h f p }
+sized-never h = witnessed-no (λ y. h (y .0) (y .2))
 
 -- more than hi: at least hi + 1, where hi is an upper end
 pub sized-over : {s : Sheet} {sizes marks : List ℕ} {x : Bool} (g h : ℕ) → (h ≡ noEnd → ⊥)
     → Sized s (Many g (h + 1)) sizes marks x
     → Sized s (Over g (endOf h)) sizes marks x
 unfolding endOf
-sized-over g h n z = record {
-  found = λ o. let f = z .found o in (f .0, rw (ne-eqb h noEnd n) (omega (arith, f .1)));
-  lacking = λ o f y p. z .lacking o f y (let q = rw (ne-eqb h noEnd n) at p in omega arith);
-}
+sized-over g h n z =
+    witnessed-as
+    (λ y. (y .0, rw (ne-eqb h noEnd n) (omega (arith, y .1))))
+    (λ y. (y .0, y .1, let q = rw (ne-eqb h noEnd n) at (y .2) in omega arith))
+    z
 
 pub over-never : {s : Sheet} {sizes marks : List ℕ} (g h : ℕ) → h ≡ noEnd → Sized s (Over g (endOf h)) sizes marks false
 unfolding endOf
@@ -319,40 +314,32 @@ over-never g h e = sized-never (λ f p. rw e at p)
 -- a count claim on the empty set
 pub empty-judged : {s : Sheet} {sizes marks : List ℕ} {x : Bool} (lo : ℕ) (hi : Top) → Tree s → 1 ≤ lo → Sized s Any sizes marks x
     → Judged s (counted 0 lo hi) sizes marks x
-empty-judged lo hi t l z = record {
-  broken = λ e. let f = z .found e .0 in record {
-    may = free;
-    choice = f .choice;
-    top = f .top;
-    bits = f .bits;
-    breaks = λ st h. empty-breaks _ lo hi l;
-  };
-  kept = λ e w. let v = possible t .0 (breakable-empty lo hi .0 w .0) in z .lacking e (v .0) (v .1) tt;
-}
+empty-judged lo hi t l z =
+    witnessed-as
+    (λ y. record { fitting = y .0; breaks = λ st h. empty-breaks _ lo hi l })
+    (λ y. let v = possible t .0 (breakable-empty lo hi .0 y .0) in (v .0, v .1, tt))
+    z
 
 pub empty-kept : {s : Sheet} {sizes marks : List ℕ} (lo : ℕ) (hi : Top) → lo ≡ 0 → Judged s (counted 0 lo hi) sizes marks false
-empty-kept lo hi e = judged-kept (λ w. let l = breakable-empty lo hi .0 w .1 in omega arith)
+empty-kept lo hi e = witnessed-no (λ w. let l = breakable-empty lo hi .0 w .1 in omega arith)
 
 -- a count claim on a group: too few, then too many
-count-denied : {s : Sheet} {sizes marks : List ℕ} (g lo : ℕ) (hi : Top) → Tree s → Group s g → Found s free false sizes marks
+count-denied : {s : Sheet} {sizes marks : List ℕ} (g lo : ℕ) (hi : Top) → Tree s → Group s g → Fitting s sizes marks
     → Under g lo (counts sizes marks) ⊎ Over g hi (counts sizes marks) → Denial s (counted g lo hi) sizes marks
 count-denied {s} {sizes} g lo hi t q f w = record {
-  may = free;
-  choice = f .choice;
-  top = f .top;
-  bits = f .bits;
+  fitting = f;
   breaks = λ st h. shown-breaks-count t (f .choice) h _ g lo hi q (above-runs (s .size) st (numberIn sizes) g (q .last)) w;
 }
 
 pub under-judged : {s : Sheet} {sizes marks : List ℕ} (g lo : ℕ) (hi : Top) → Tree s → Group s g
     → Sized s (Under g lo) sizes marks true → Judged s (counted g lo hi) sizes marks true
-under-judged g lo hi t q z = let f = z .found refl in judged-broken (count-denied g lo hi t q (f .0) (inl (f .1)))
+under-judged g lo hi t q z = let f = z .found refl in witnessed-yes (count-denied g lo hi t q (f .0) (inl (f .1)))
 
 pub over-judged : {s : Sheet} {sizes marks sizes' marks' : List ℕ} {x : Bool} (g lo : ℕ) (hi : Top) → Tree s → Group s g
     → Sized s (Under g lo) sizes' marks' false → Sized s (Over g hi) sizes marks x → Judged s (counted g lo hi) sizes marks x
-over-judged g lo hi t q y z = record {
-  broken = λ e. let f = z .found e in count-denied g lo hi t q (f .0) (inr (f .1));
-  kept = λ e w.
+over-judged {s} g lo hi t q y z = record {
+  found = λ e. let f = z .found e in count-denied g lo hi t q (f .0) (inr (f .1));
+  lacking = λ e w.
       let v = breakable-size t g lo hi q .0 w in
-      ⊎-elim (λ u. y .lacking refl (v .0) (v .1) u) (λ u. z .lacking e (v .0) (v .1) u) (v .2);
+      ⊎-elim (λ u. y .lacking refl (v .0, v .1, u)) (λ u. z .lacking e (v .0, v .1, u)) (v .2);
 }

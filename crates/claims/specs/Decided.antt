@@ -1,7 +1,7 @@
 -- The verdict on a claim: document 01, "Replies" (kinds 18 and 19). Which sets a denial shows is open but for this: they fit,
 -- and they break the claim.
 use Prim.Native.Nat.{ℕ, _≤_}
-use mathlib.Core.Path.{_≡_, ap}
+use mathlib.Core.Path.{_≡_}
 use mathlib.Core.List.{List}
 use native.Mathlib.Omega.{arith}
 use Rattle.meaning.specs.Sheet.{Sheet, Group, Tree}
@@ -9,18 +9,14 @@ use Rattle.meaning.specs.Sets.{Sets}
 use Rattle.meaning.specs.Fits.{Fits}
 use Rattle.meaning.specs.Claim.{Claim, Breaks, Breakable}
 use Rattle.meaning.specs.Shown.{shown, above}
-use Rattle.sizes.specs.Ranged.{Rooted}
+use Rattle.meaning.specs.Sheet.{Rooted}
 use Rattle.sizes.specs.Runs.{runs-first, shown-fits-above}
 use Rattle.runs.specs.Told.{numberIn, Told, told-runs}
 use Rattle.choosing.specs.Divided.{markedIn}
+use Rattle.claims.specs.Verdict.{verdictNumber}
 use Rattle.claims.specs.Judged.{Denial}
-use Rattle.claims.specs.declared.decide.Verdict.{Verdict}
-use Rattle.claims.specs.declared.decide.Verdict.the-variants.{Holds, Denied}
-
--- "verdict 1 holds or 0 denied"
-abbrev pub verdictNumber : Verdict → ℕ
-verdictNumber Holds = 1
-verdictNumber Denied = 0
+use Rattle.claims.specs.declared.verdict.Verdict.{Verdict}
+use Rattle.claims.specs.declared.verdict.Verdict.the-variants.{Holds, Denied}
 
 -- the sets that the tables show: for each group a run (first, count), and member 0 where the mark is 1
 abbrev pub setsIn : Sheet → List ℕ → List ℕ → List ℕ → Sets ℕ
@@ -36,25 +32,26 @@ pub record Shows (s : Sheet) (k : Claim) (firsts sizes marks : List ℕ) : Type 
 
 pub record Decided (s : Sheet) (k : Claim) (firsts sizes marks : List ℕ) (r : Verdict) : Type 0 where
   -- no sets that fit break the claim
-  pub holds : r ≡ Holds → Breakable s k → ⊥
-  pub denied : r ≡ Denied → Shows s k firsts sizes marks
+  pub holds : verdictNumber r ≡ 1 → Breakable s k → ⊥
+  pub denied : verdictNumber r ≡ 0 → Shows s k firsts sizes marks
 
 -- a denial with starts for its numbers
 pub denial-shows : {s : Sheet} {k : Claim} {firsts sizes marks : List ℕ} → Tree s → Rooted s → Denial s k sizes marks
     → Told s (numberIn sizes) (numberIn firsts) → Shows s k firsts sizes marks
 denial-shows {firsts = firsts} t r d w =
-    let h = told-runs t r (d .choice .others) w in
+    let f = d .fitting in
+    let h = told-runs t r (f .choice .others) w in
     record {
-      fits = shown-fits-above t (d .choice) h;
+      fits = shown-fits-above t (f .choice) h;
       breaks = d .breaks (numberIn firsts) h;
-      first = runs-first t (d .choice .others) h;
-      mark = d .bits;
+      first = runs-first t (f .choice .others) h;
+      mark = f .bits;
     }
 
 pub decided-denied : {s : Sheet} {k : Claim} {firsts sizes marks : List ℕ} → Shows s k firsts sizes marks
     → Decided s k firsts sizes marks Denied
-decided-denied w = record { holds = λ e. absurd (let n = ap verdictNumber e in omega arith); denied = λ e. w }
+decided-denied w = record { holds = λ e. absurd (omega arith); denied = λ e. w }
 
 pub decided-holds : {s : Sheet} {k : Claim} {firsts sizes marks : List ℕ} → (Breakable s k → ⊥)
     → Decided s k firsts sizes marks Holds
-decided-holds h = record { holds = λ e. h; denied = λ e. absurd (let n = ap verdictNumber e in omega arith) }
+decided-holds h = record { holds = λ e. h; denied = λ e. absurd (omega arith) }

@@ -1,158 +1,122 @@
--- A table of flags, and the place that it stands for.
-use Prim.Native.Nat.{ℕ, _-_, _*_, _/_, _%_, _≤_}
+-- Tables of flags, one for each group: a flag is a sum of 1, the member may be out of the group, and 2, it may be in it.
+use Prim.Native.Nat.{ℕ, _+_, _-_, _*_, _/_, _%_, _≤_, _<_}
 use mathlib.Core.Path.{_≡_, refl, sym, ap, _∙_}
-use mathlib.Core.Bool.{Bool, true, false, not}
-use mathlib.Core.List.{List, [], _∷_}
+use mathlib.Core.Bool.{Bool, true, false, cond, not, _&&_, _||_}
+use mathlib.Core.List.{List, [], _∷_, _++_}
 use native.Mathlib.Omega.{arith}
+use native.Mathlib.Numerals.{add-one}
 use borrow.Author.Tests.{eq-eqb, ne-eqb}
-use native.Mathlib.Nat.{le-of-eq}
-use lib.ListN.{length, set, length-set, replicate, length-replicate, getD-replicate}
-use Rattle.sizes.specs.SumLaws.{compare-eq}
-use Rattle.sizes.specs.Balanced.{Choice}
-use Rattle.meaning.specs.Sheet.{Sheet, Group}
+use lib.ListN.{length, getD, set, take, length-set, replicate, getD-replicate}
+use lib.Seq.{take-suc}
+use lib.Dec.{eqb}
+use Rattle.wire.specs.Limits.{groupCapacity}
+use Rattle.meaning.proofs.SumLaws.{compare-eq}
 use Rattle.sizes.specs.ClaimsPlace.{isIn, placeIn}
 use Rattle.runs.specs.Told.{numberIn}
 use Rattle.measuring.specs.Held.{mayFlag}
 use Rattle.measuring.specs.Tables.{mayIn}
-use Rattle.choosing.specs.Divided.{number-same, number-other}
+use Rattle.runs.specs.Told.{number-same, number-other}
 
--- the flags of all groups in the table are those of the place
-pub record Flagged (flags ins outs : List ℕ) : Type 0 where
-  pub long : 128 ≤ length flags
-  pub flag : (g : ℕ) → 1 ≤ g → g ≤ 128 → (c : Bool) → mayIn flags g c ≡ placeIn ins outs g c
+-- the flag without one of its two: to be in the group (true) or out of it (false)
+abbrev pub flagWithout : Bool → ℕ → ℕ
+flagWithout d x = cond d (x % 2) (x / 2 * 2)
 
--- the table with one group's flag changed
-pub record InOnly (t : List ℕ) (g : ℕ) (u : List ℕ) : Type 0 where
+-- u is the table t without that in the flags of the groups on the list
+pub record Barred (t : List ℕ) (d : Bool) (l : List ℕ) (u : List ℕ) : Type 0 where
   pub same : length u ≡ length t
-  pub own : numberIn u g ≡ numberIn t g / 2 * 2
-  pub others : (h : ℕ) → 1 ≤ h → (h ≡ g → ⊥) → numberIn u h ≡ numberIn t h
-
-pub record OutOnly (t : List ℕ) (g : ℕ) (u : List ℕ) : Type 0 where
-  pub same : length u ≡ length t
-  pub own : 1 ≤ g → numberIn u g ≡ numberIn t g % 2
-  pub others : (h : ℕ) → 1 ≤ h → (h ≡ g → ⊥) → numberIn u h ≡ numberIn t h
+  pub own : (g : ℕ) → 1 ≤ g → mayIn u g d ≡ mayIn t g d && not (isIn g l)
+  pub other : (g : ℕ) → 1 ≤ g → mayIn u g (not d) ≡ mayIn t g (not d)
 
 may-number : (t : List ℕ) (g : ℕ) (c : Bool) → mayIn t g c ≡ mayFlag (numberIn t g) c
 unfolding mayIn
 may-number t g c = refl
 
--- the flags of the member that must be in a group, and out of it
-in-flag : (x : ℕ) → (mayFlag (x / 2 * 2) true ≡ mayFlag x true) × (mayFlag (x / 2 * 2) false ≡ false)
-in-flag x =
-    let up : x / 2 * 2 / 2 ≡ x / 2 = omega arith in
-    let even : x / 2 * 2 % 2 ≡ 0 = omega arith in
-    (rw up, rw even)
+without-own : (d : Bool) (x : ℕ) → mayFlag (flagWithout d x) d ≡ false
+without-own true x = let e : x % 2 / 2 ≡ 0 = omega arith in rw e
+without-own false x = let e : x / 2 * 2 % 2 ≡ 0 = omega arith in rw e
 
-out-flag : (x : ℕ) → (mayFlag (x % 2) true ≡ false) × (mayFlag (x % 2) false ≡ mayFlag x false)
-out-flag x =
-    let none : x % 2 / 2 ≡ 0 = omega arith in
-    let same : x % 2 % 2 ≡ x % 2 = omega arith in
-    (rw none, rw same)
+without-other : (d : Bool) (x : ℕ) → mayFlag (flagWithout d x) (not d) ≡ mayFlag x (not d)
+without-other true x = let e : x % 2 % 2 ≡ x % 2 = omega arith in rw e
+without-other false x = let e : x / 2 * 2 / 2 ≡ x / 2 = omega arith in rw e
 
-in-own : (g : ℕ) (ins outs : List ℕ) → placeIn (g ∷ ins) outs g false ≡ false
-unfolding placeIn isIn
-in-own g ins outs = rw (eq-eqb g g refl)
+and-yes : (a : Bool) → a && true ≡ a
+and-yes true = refl
+and-yes false = refl
 
-out-own : (g : ℕ) (ins outs : List ℕ) → placeIn ins (g ∷ outs) g true ≡ false
-unfolding placeIn isIn
-out-own g ins outs = rw (eq-eqb g g refl)
+and-no : (a : Bool) → a && false ≡ false
+and-no true = refl
+and-no false = refl
 
--- the other list does not bear on a state, nor another group
-in-true : (g h : ℕ) (ins outs : List ℕ) → placeIn (g ∷ ins) outs h true ≡ placeIn ins outs h true
-unfolding placeIn
-in-true g h ins outs = refl
+-- a flag of one group
+pub barred-one : (t : List ℕ) (d : Bool) (g : ℕ) → 1 ≤ g → g ≤ length t
+    → Barred t d (g ∷ []) (set t (g - 1) (flagWithout d (numberIn t g)))
+unfolding isIn
+barred-one t d g a l =
+    let x : ℕ = flagWithout d (numberIn t g) in
+    let u : List ℕ = set t (g - 1) x in
+    record {
+      same = length-set t (g - 1) x;
+      own = λ h b. compare-eq h g
+          (λ e. rw (e, eq-eqb g g refl) (may-number u g d ∙ ap (λ y. mayFlag y d) (number-same t g x a l)
+          ∙ without-own d (numberIn t g) ∙ sym (and-no (mayIn t g d))))
+          (λ n. rw (ne-eqb h g n) (may-number u h d ∙ ap (λ y. mayFlag y d) (number-other t g h x a b n)
+          ∙ sym (may-number t h d) ∙ sym (and-yes (mayIn t h d))));
+      other = λ h b. may-number u h (not d) ∙ compare-eq h g
+          (λ e. rw e (ap (λ y. mayFlag y (not d)) (number-same t g x a l) ∙ without-other d (numberIn t g)
+          ∙ sym (may-number t g (not d))))
+          (λ n. ap (λ y. mayFlag y (not d)) (number-other t g h x a b n) ∙ sym (may-number t h (not d)));
+    }
 
-out-false : (g h : ℕ) (ins outs : List ℕ) → placeIn ins (g ∷ outs) h false ≡ placeIn ins outs h false
-unfolding placeIn
-out-false g h ins outs = refl
+-- no group
+pub barred-none : (t : List ℕ) (d : Bool) → Barred t d [] t
+unfolding isIn
+barred-none t d = record { same = refl; own = λ g a. sym (and-yes (mayIn t g d)); other = λ g a. refl }
 
-in-other : (g h : ℕ) (ins outs : List ℕ) → (h ≡ g → ⊥) → (c : Bool) → placeIn (g ∷ ins) outs h c ≡ placeIn ins outs h c
-unfolding placeIn isIn
-in-other g h ins outs n true = refl
-in-other g h ins outs n false = rw (ne-eqb h g n)
+in-append : (g : ℕ) (l r : List ℕ) → isIn g (l ++ r) ≡ isIn g l || isIn g r
+unfolding isIn
+in-append g [] r = refl
+in-append g (h ∷ l) r = rw (in-append g l r) (or-assoc (eqb g h) (isIn g l) (isIn g r))
+  where
+    or-assoc : (a b c : Bool) → (a || (b || c)) ≡ ((a || b) || c)
+    or-assoc true b c = refl
+    or-assoc false b c = refl
 
-out-other : (g h : ℕ) (ins outs : List ℕ) → (h ≡ g → ⊥) → (c : Bool) → placeIn ins (g ∷ outs) h c ≡ placeIn ins outs h c
-unfolding placeIn isIn
-out-other g h ins outs n true = rw (ne-eqb h g n)
-out-other g h ins outs n false = refl
-
--- a flag changed, a group added to the place
-pub flagged-in : (t u : List ℕ) (g : ℕ) (ins outs : List ℕ) → InOnly t g u → Flagged t ins outs → Flagged u (g ∷ ins) outs
-flagged-in t u g ins outs w f = record {
-  long = omega (arith, w .same, f .long);
-  flag = λ h i j c. may-number u h c ∙ compare-eq h g
-      (λ e. ap (λ x. mayFlag (numberIn u x) c) e ∙ ap (λ x. mayFlag x c) (w .own)
-      ∙ own c (sym (may-number t g true) ∙ ap (λ x. mayIn t x true) (sym e) ∙ f .flag h i j true
-      ∙ ap (λ x. placeIn ins outs x true) e)
-      ∙ ap (λ x. placeIn (g ∷ ins) outs x c) (sym e))
-      (λ n. ap (λ x. mayFlag x c) (w .others h i n) ∙ sym (may-number t h c) ∙ f .flag h i j c ∙ sym (in-other g h ins outs n c));
+-- one list after another
+barred-more : {t u v : List ℕ} {d : Bool} (l r : List ℕ) → Barred t d l u → Barred u d r v → Barred t d (l ++ r) v
+barred-more {t} {d = d} l r x y = record {
+  same = y .same ∙ x .same;
+  own = λ g a. y .own g a ∙ ap (λ b. b && not (isIn g r)) (x .own g a) ∙ neither (mayIn t g d) (isIn g l) (isIn g r)
+      ∙ ap (λ b. mayIn t g d && not b) (sym (in-append g l r));
+  other = λ g a. y .other g a ∙ x .other g a;
 }
   where
-    own : (c : Bool) → mayFlag (numberIn t g) true ≡ placeIn ins outs g true
-        → mayFlag (numberIn t g / 2 * 2) c ≡ placeIn (g ∷ ins) outs g c
-    own true k = in-flag (numberIn t g) .0 ∙ k ∙ sym (in-true g g ins outs)
-    own false k = in-flag (numberIn t g) .1 ∙ sym (in-own g ins outs)
+    neither : (a b c : Bool) → ((a && not b) && not c) ≡ (a && not (b || c))
+    neither true true c = refl
+    neither true false c = refl
+    neither false b c = refl
 
-pub flagged-out : (t u : List ℕ) (g : ℕ) (ins outs : List ℕ) → OutOnly t g u → Flagged t ins outs → Flagged u ins (g ∷ outs)
-flagged-out t u g ins outs w f = record {
-  long = omega (arith, w .same, f .long);
-  flag = λ h i j c. may-number u h c ∙ compare-eq h g
-      (λ e. ap (λ x. mayFlag (numberIn u x) c) e ∙ ap (λ x. mayFlag x c) (w .own (omega arith))
-      ∙ own c (sym (may-number t g false) ∙ ap (λ x. mayIn t x false) (sym e) ∙ f .flag h i j false
-      ∙ ap (λ x. placeIn ins outs x false) e)
-      ∙ ap (λ x. placeIn ins (g ∷ outs) x c) (sym e))
-      (λ n. ap (λ x. mayFlag x c) (w .others h i n) ∙ sym (may-number t h c) ∙ f .flag h i j c
-      ∙ sym (out-other g h ins outs n c));
-}
-  where
-    own : (c : Bool) → mayFlag (numberIn t g) false ≡ placeIn ins outs g false
-        → mayFlag (numberIn t g % 2) c ≡ placeIn ins (g ∷ outs) g c
-    own true k = out-flag (numberIn t g) .0 ∙ sym (out-own g ins outs)
-    own false k = out-flag (numberIn t g) .1 ∙ k ∙ sym (out-false g g ins outs)
+pub barred-next : {t u v : List ℕ} {d : Bool} (l : List ℕ) (i : ℕ) → i < length l → Barred t d (take i l) u
+    → Barred u d (getD l i 0 ∷ []) v → Barred t d (take (i + 1) l) v
+barred-next l i h x y = rw (add-one, take-suc l i 0 h) (barred-more (take i l) (getD l i 0 ∷ []) x y)
 
--- the stores
-pub in-stored : (t : List ℕ) (g : ℕ) → 1 ≤ g → g ≤ length t → InOnly t g (set t (g - 1) (numberIn t g / 2 * 2))
-in-stored t g a l = record {
-  same = length-set t (g - 1) _;
-  own = number-same t g (numberIn t g / 2 * 2) a l;
-  others = λ h b n. number-other t g h (numberIn t g / 2 * 2) a b n;
-}
+-- the table of flags that forbids nothing
+abbrev pub freeTable : List ℕ
+freeTable = replicate groupCapacity 3
 
-pub out-stored : (t : List ℕ) (g : ℕ) → 1 ≤ g → g ≤ length t → OutOnly t g (set t (g - 1) (numberIn t g % 2))
-out-stored t g a l = record {
-  same = length-set t (g - 1) _;
-  own = λ b. number-same t g (numberIn t g % 2) a l;
-  others = λ h b n. number-other t g h (numberIn t g % 2) a b n;
-}
-
-pub out-none : (t : List ℕ) → OutOnly t 0 t
-out-none t = record { same = refl; own = λ b. absurd (omega arith); others = λ h b n. refl }
-
--- no flag forbids anything
-pub free-flag : (g : ℕ) → 1 ≤ g → g ≤ 128 → (c : Bool) → mayIn (replicate 128 3) g c ≡ true
-free-flag g a l c = may-number (replicate 128 3) g c ∙ ap (λ x. mayFlag x c) (getD-replicate 128 (g - 1) 3 0 (omega arith))
-    ∙ three c
+pub free-flag : (g : ℕ) → 1 ≤ g → g ≤ groupCapacity → (c : Bool) → mayIn freeTable g c ≡ true
+free-flag g a l c =
+    may-number freeTable g c ∙ ap (λ x. mayFlag x c) (getD-replicate groupCapacity (g - 1) 3 0 (omega arith)) ∙ three c
   where
     three : (c : Bool) → mayFlag 3 c ≡ true
     three true = refl
     three false = refl
 
-pub flagged-free : Flagged (replicate 128 3) [] []
-unfolding placeIn isIn
-flagged-free = record { long = le-of-eq (sym (length-replicate {A = ℕ} 128 3)); flag = λ g a l c. free-flag g a l c ∙ free g c }
-  where
-    free : (g : ℕ) (c : Bool) → true ≡ placeIn [] [] g c
-    free g true = refl
-    free g false = refl
-
--- a choice looks at the flags of groups only
-pub choice-may : {s : Sheet} {may can : ℕ → Bool → Bool} {f : ℕ → ℕ} {M : ℕ → Bool} → ((g : ℕ) → Group s g → (c : Bool)
-    → may g c ≡ can g c)
-    → Choice s may f M → Choice s can f M
-choice-may {M = M} e w = record {
-  others = w .others;
-  one = w .one;
-  least = w .least;
-  most = w .most;
-  allowed = λ g q. sym (e g q (M g)) ∙ w .allowed g q;
-}
+-- The flags of a place: not out of the groups of one list, not in those of another.
+pub place-flags : {t u : List ℕ} (ins outs : List ℕ) → Barred freeTable false ins t → Barred t true outs u → (g : ℕ) → 1 ≤ g
+    → g ≤ groupCapacity
+    → (c : Bool) → mayIn u g c ≡ placeIn ins outs g c
+unfolding placeIn
+place-flags ins outs x y g a l true =
+    y .own g a ∙ ap (λ b. b && not (isIn g outs)) (x .other g a ∙ free-flag g a l true)
+place-flags ins outs x y g a l false =
+    y .other g a ∙ x .own g a ∙ ap (λ b. b && not (isIn g ins)) (free-flag g a l false)

@@ -1,374 +1,167 @@
--- The claim whose record stands at a place of a sheet, its names replaced by what the table of names has for them.
+-- A claim that was read, its names replaced by what the table of names has for them.
 use Prim.Native.Nat.{ℕ, zero, suc, _+_, _-_, _*_, _≤_, _<_}
-use mathlib.Core.Path.{_≡_, refl, sym, ap, _∙_, subst}
-use mathlib.Core.Bool.{true, _&&_}
-use mathlib.Core.List.{List, [], _∷_, map, List·Memᴰ, List·Memᴰ·head, List·Memᴰ·tail, List·Memᴰ·not-nil, List·Memᴰ·cases-cons}
+use mathlib.Core.Path.{_≡_, refl, sym, _∙_}
+use mathlib.Core.List.{
+  List,
+  [],
+  _∷_,
+  _++_,
+  map,
+  append-assoc,
+  append-nil,
+  List·Memᴰ,
+  List·Memᴰ·head,
+  List·Memᴰ·tail,
+  List·Memᴰ·not-nil,
+  List·Memᴰ·cases-cons,
+  Memᴰ·of-map,
+}
 use mathlib.Core.Logic.{⊎-elim}
 use native.Mathlib.Omega.{arith}
-use borrow.Author.Tests.{leb-true, eqb-true, ne-eqb}
-use lib.ListN.{length, drop}
-use lib.Dec.{leb, eqb}
+use lib.ListN.{length, take}
 use Rattle.wire.specs.Bytes.{u16At}
-use Rattle.wire.specs.Limits.{sideLimit}
-use Rattle.wire.specs.Record.{kindOf, lengthOf, refusal}
-use Rattle.wire.specs.SheetFormat.{
-  NameRecord,
-  ClaimRecord,
-  count,
-  inside,
-  apart,
-  u16s,
-  leftOf,
-  rightOf,
-  claimOf,
-  allWithin,
-  claimLength,
-  claimFields,
-  claimNames,
-  claimTests,
-}
+use Rattle.wire.specs.SheetFormat.{NameRecord, ClaimRecord, count, inside, apart, u16s}
 use Rattle.meaning.specs.Claim.{Claim, counted, within, separate}
 use Rattle.meaning.specs.OfRecords.{endOf, nameGroup, claimed}
-use Rattle.reading.proofs.Fields.{and-true, field-at, fields-at, length-at, frame-of, passes}
-use Rattle.sizes.specs.SumLaws.{compare-eq}
-use Rattle.sizes.specs.ClaimsMath.{lists}
+use Rattle.reading.specs.ClaimHeld.{leftNames, rightNames, claimRecord, ListsHeld, ClaimHeld}
+use Rattle.reading.specs.declared.claim.Lists.{Lists}
+use Rattle.reading.specs.declared.claim.Claim.{Claim as ClaimRead}
+use Rattle.reading.specs.declared.claim.Claim.the-variants as claim
 use Rattle.runs.specs.Told.{numberIn}
-use Rattle.claims.specs.Flags.{Flagged, OutOnly, flagged-out}
+use Rattle.claims.specs.Groups.{groupsAmong, AllUpTo, Listed, groups-none, groups-more, groups-all}
 
--- the groups that the n names at a place of the sheet mean
-unfoldable pub sideOf : List ℕ → ℕ → ℕ → List ℕ → List ℕ
-sideOf sheet from n names = map (numberIn names) (u16s sheet from n)
+-- what the names on a list mean, by the table of names
+abbrev pub meanings : List ℕ → List ℕ → List ℕ
+meanings names l = map (numberIn names) l
 
--- what a claim record claims, by the table of names
-unfoldable pub claimIn : List ℕ → ClaimRecord → Claim
-claimIn names (count n lo hi) = counted (numberIn names n) lo (endOf hi)
-claimIn names (inside l r) = within (map (numberIn names) l) (map (numberIn names) r)
-claimIn names (apart l r) = separate (map (numberIn names) l) (map (numberIn names) r)
+-- what a claim record claims
+unfoldable pub claimMeant : List ℕ → ClaimRecord → Claim
+claimMeant names (count n lo hi) = counted (numberIn names n) lo (endOf hi)
+claimMeant names (inside l r) = within (meanings names l) (meanings names r)
+claimMeant names (apart l r) = separate (meanings names l) (meanings names r)
 
--- n name numbers stand at the place, and the table has groups of the sheet for them, or 0
-pub record Side (sheet : List ℕ) (from n : ℕ) (names : List ℕ) (size : ℕ) : Type 0 where
-  pub long : from + 2 * n ≤ length sheet
-  pub name : (j : ℕ) → j < n → (1 ≤ u16At sheet (from + 2 * j)) × (u16At sheet (from + 2 * j) ≤ length names)
-  pub group : (j : ℕ) → j < n → numberIn names (u16At sheet (from + 2 * j)) ≤ size
-
--- a claim that passed its tests stands at the place, in a sheet of `count` names whose groups are in the table
-pub record Askable (sheet : List ℕ) (at : ℕ) (names : List ℕ) (size : ℕ) : Type 0 where
+-- held of a sheet with `count` names, for which the table of names has groups of the sheet, or 0
+pub record AskableBy (Held : ℕ → Type 0) (names : List ℕ) (size : ℕ) : Type 0 where
   pub count : ℕ
-  pub passed : refusal (claimTests count [] (drop at sheet)) ≡ 0
+  pub held : Held count
   pub long : count ≤ length names
   pub known : (n : ℕ) → 1 ≤ n → n ≤ count → numberIn names n ≤ size
 
--- the list of a side, from one of its names on
-pub side-none : (sheet : List ℕ) (from : ℕ) (names : List ℕ) → sideOf sheet from 0 names ≡ []
-unfolding sideOf u16s
-side-none sheet from names = refl
+-- a claim of such a sheet, and the two lists of one
+abbrev pub Askable : List ℕ → ClaimRead → List ℕ → ℕ → Type 0
+Askable sheet c names size = AskableBy (λ n. ClaimHeld sheet n c) names size
 
-pub side-more : (sheet : List ℕ) (from n : ℕ) (names : List ℕ)
-    → sideOf sheet from (suc n) names ≡ numberIn names (u16At sheet from) ∷ sideOf sheet (from + 2) n names
-unfolding sideOf u16s
-side-more sheet from n names = refl
+abbrev pub AskableLists : List ℕ → Lists → List ℕ → ℕ → Type 0
+AskableLists sheet l names size = AskableBy (λ n. ListsHeld sheet n l) names size
 
-pub side-from : (sheet : List ℕ) (from n k : ℕ) (names : List ℕ) → k < n
-    → sideOf sheet (from + 2 * k) (n - k) names
-    ≡ numberIn names (u16At sheet (from + 2 * k)) ∷ sideOf sheet (from + 2 * (k + 1)) (n - (k + 1)) names
-side-from sheet from n k names l =
-    let e : n - k ≡ suc (n - (k + 1)) = omega arith in
-    let o : from + 2 * k + 2 ≡ from + 2 * (k + 1) = omega arith in
-    ap (λ m. sideOf sheet (from + 2 * k) m names) e ∙ side-more sheet (from + 2 * k) (n - (k + 1)) names
-    ∙ ap (λ m. numberIn names (u16At sheet (from + 2 * k)) ∷ sideOf sheet m (n - (k + 1)) names) o
+-- n name numbers stand at the place of the sheet
+pub record Side (sheet : List ℕ) (from n : ℕ) (names : List ℕ) : Type 0 where
+  pub long : from + 2 * n ≤ length sheet
+  pub name : (j : ℕ) → j < n → (1 ≤ u16At sheet (from + 2 * j)) × (u16At sheet (from + 2 * j) ≤ length names)
 
--- what is on the list
-pub side-has : (sheet : List ℕ) (from n : ℕ) (names : List ℕ) (j : ℕ) → j < n
-    → List·Memᴰ (numberIn names (u16At sheet (from + 2 * j))) (sideOf sheet from n names)
-side-has sheet from zero names j l = absurd (omega arith)
-side-has sheet from (suc n) names zero l =
-    let e : from + 2 * 0 ≡ from = omega arith in
-    rw (side-more sheet from n names, e) (List·Memᴰ·head refl)
-side-has sheet from (suc n) names (suc j) l =
-    let e : from + 2 * suc j ≡ from + 2 + 2 * j = omega arith in
-    rw (side-more sheet from n names, e) (List·Memᴰ·tail (side-has sheet (from + 2) n names j (omega arith)))
+-- the claim speaks of groups of a sheet of n groups, or of none
+abbrev pub SpeaksUpTo : ℕ → Claim → Type 0
+SpeaksUpTo n (counted g lo hi) = g ≤ n
+SpeaksUpTo n (within l r) = AllUpTo n l × AllUpTo n r
+SpeaksUpTo n (separate l r) = AllUpTo n l × AllUpTo n r
 
-pub has-side : (sheet : List ℕ) (from n : ℕ) (names : List ℕ) (g : ℕ) → List·Memᴰ g (sideOf sheet from n names)
-    → (j : ℕ) × (j < n) × (g ≡ numberIn names (u16At sheet (from + 2 * j)))
-has-side sheet from zero names g m = absurd (List·Memᴰ·not-nil (rw (side-none sheet from names) at m))
-has-side sheet from (suc n) names g m =
+-- what is so of the fields at their places is so of each on the list
+fields-all : (P : ℕ → Type 0) (s : List ℕ) (i n : ℕ) → ((j : ℕ) → j < n → P (u16At s (i + 2 * j)))
+    → (x : ℕ) → List·Memᴰ x (u16s s i n) → P x
+unfolding u16s
+fields-all P s i zero h x m = absurd (List·Memᴰ·not-nil m)
+fields-all P s i (suc n) h x m =
     ⊎-elim
-    (λ e. (0, omega arith, let o : from + 2 * 0 ≡ from = omega arith in rw o e))
-    (λ i. let w = has-side sheet (from + 2) n names g i in
-    (suc (w .0), omega arith, let o : from + 2 * suc (w .0) ≡ from + 2 + 2 * w .0 = omega arith in rw o (w .2)))
-    (List·Memᴰ·cases-cons (rw (side-more sheet from n names) at m))
+    (λ (e : x ≡ u16At s i). let o : i + 2 * 0 ≡ i = omega arith in rw e (rw o at (h 0 (omega arith))))
+    (λ k. fields-all P s (i + 2) n
+    (λ j l. let o : i + 2 * suc j ≡ i + 2 + 2 * j = omega arith in rw o at (h (suc j) (omega arith))) x k)
+    (List·Memᴰ·cases-cons m)
 
--- names that are all from 1 to `names`
-all-within : (s : List ℕ) (names i n : ℕ) → allWithin names (u16s s i n) ≡ true → (j : ℕ) → j < n
-    → (1 ≤ u16At s (i + 2 * j)) × (u16At s (i + 2 * j) ≤ names)
-unfolding allWithin u16s
-all-within s names i zero e j l = absurd (omega arith)
-all-within s names i (suc n) e zero l =
-    let a = and-true (leb 1 (u16At s i) && leb (u16At s i) names) (allWithin names (u16s s (i + 2) n)) e in
-    let b = and-true (leb 1 (u16At s i)) (leb (u16At s i) names) (a .0) in
-    let o : i + 2 * 0 ≡ i = omega arith in
-    rw o (leb-true _ _ (b .0), leb-true _ _ (b .1))
-all-within s names i (suc n) e (suc j) l =
-    let a = and-true (leb 1 (u16At s i) && leb (u16At s i) names) (allWithin names (u16s s (i + 2) n)) e in
-    let o : i + 2 * suc j ≡ i + 2 + 2 * j = omega arith in
-    rw o (all-within s names (i + 2) n (a .1) j (omega arith))
+-- names that the table has groups for
+module _ {Held : ℕ → Type 0} {names : List ℕ} {size : ℕ} (w : AskableBy Held names size) (l : List ℕ)
+    (h : (x : ℕ) → List·Memᴰ x l → (1 ≤ x) × (x ≤ w .count)) where
+  pub meanings-known : AllUpTo size (meanings names l)
+  meanings-known g m =
+      let v = Memᴰ·of-map (numberIn names) l m in
+      let x = h (v .0) (v .1) in
+      rw (← v .2) (w .known (v .0) (x .0) (x .1))
 
--- what the tests of a claim show
-pub record Tested (sheet : List ℕ) (at names : ℕ) : Type 0 where
-  pub low : 4 ≤ u16At sheet (at + 2)
-  pub high : u16At sheet (at + 2) ≤ 6
-  pub room : at + 2 + u16At sheet at ≤ length sheet
-  pub sized : claimLength (drop at sheet) ≡ true
-  pub fields : claimFields (drop at sheet) ≡ true
-  pub named : claimNames names (drop at sheet) ≡ true
+  -- the groups that a table lists for them
+  pub meanings-listed : (t : List ℕ) (n : ℕ) → n ≤ length t → take n t ≡ groupsAmong (meanings names l) → Listed t n size
+  meanings-listed t n a e = record { long = a; groups = rw e (groups-all size (meanings names l) meanings-known) }
 
-tested : (sheet : List ℕ) (at names : ℕ) → refusal (claimTests names [] (drop at sheet)) ≡ 0 → Tested sheet at names
-unfolding claimTests
-tested sheet at names e =
-    let f = passes _ _ _ e (λ z. omega arith) in
-    let k = passes _ _ _ (f .1) (λ z. omega arith) in
-    let l = passes _ _ _ (k .1) (λ z. omega arith) in
-    let m = passes _ _ _ (l .1) (λ z. omega arith) in
-    let n = passes _ _ _ (m .1) (λ z. omega arith) in
-    let a = and-true (leb 4 (kindOf (drop at sheet))) (leb (kindOf (drop at sheet)) 6) (k .0) in
-    record {
-      low = rw (field-at sheet at 2) at (leb-true 4 (kindOf (drop at sheet)) (a .0));
-      high = rw (field-at sheet at 2) at (leb-true (kindOf (drop at sheet)) 6 (a .1));
-      room = frame-of sheet at (f .0) .1;
-      sized = l .0;
-      fields = m .0;
-      named = n .0;
-    }
+map-same : (f h : ℕ → ℕ) (l : List ℕ) → ((x : ℕ) → List·Memᴰ x l → f x ≡ h x) → map f l ≡ map h l
+map-same f h [] e = refl
+map-same f h (x ∷ l) e = rw (e x (List·Memᴰ·head refl), map-same f h l (λ y m. e y (List·Memᴰ·tail m)))
 
-module _ {sheet : List ℕ} {at names : ℕ} (w : Tested sheet at names) where
-  -- kind 4
-  tested-count : u16At sheet (at + 2) ≡ 4
-      → (at + 10 ≤ length sheet) × (1 ≤ u16At sheet (at + 4)) × (u16At sheet (at + 4) ≤ names)
-  unfolding claimLength claimNames allWithin
-  tested-count e =
-      let k = field-at sheet at 2 ∙ e in
-      let l = eqb-true (u16At (drop at sheet) 0) 8 (rw k at (w .sized)) in
-      let n = rw k at (w .named) in
-      let x = u16At (drop at sheet) 4 in
-      let a = and-true (leb 1 x && leb x names) true n in
-      let c = and-true (leb 1 x) (leb x names) (a .0) in
-      let y = field-at sheet at 4 in
-      (omega (arith, w .room, length-at sheet at), rw y at (leb-true 1 x (c .0)), rw y at (leb-true x names (c .1)))
+-- the two lists of a claim
+module _ {sheet : List ℕ} {l : Lists} {names : List ℕ} {size : ℕ} (w : AskableLists sheet l names size) where
+  pub left-named : (x : ℕ) → List·Memᴰ x (leftNames sheet l) → (1 ≤ x) × (x ≤ w .count)
+  left-named = fields-all (λ x. (1 ≤ x) × (x ≤ w .count)) sheet (l .at) (l .m) (w .held .left)
 
-  -- kinds 5 and 6: m left names, n right names
-  tested-sides : (u16At sheet (at + 2) ≡ 4 → ⊥)
-      → (at + 8 + 2 * (u16At sheet (at + 4) + u16At sheet (at + 6)) ≤ length sheet) × (1 ≤ u16At sheet (at + 4))
-      × (u16At sheet (at + 4) ≤ 8) × (u16At sheet (at + 6) ≤ 8)
-      × (allWithin names (u16s sheet (at + 8) (u16At sheet (at + 4))) ≡ true)
-      × (allWithin names (u16s sheet (at + 8 + 2 * u16At sheet (at + 4)) (u16At sheet (at + 6))) ≡ true)
-  unfolding claimFields claimNames leftOf rightOf
-  tested-sides n =
-      let k = ne-eqb (kindOf (drop at sheet)) 4 (λ e. n (sym (field-at sheet at 2) ∙ e)) in
-      let x = u16At (drop at sheet) 4 in
-      let y = u16At (drop at sheet) 6 in
-      let f = rw k at (w .fields) in
-      let a = and-true (leb 1 x && leb x sideLimit && leb 1 y && leb y sideLimit) (eqb (6 + 2 * (x + y)) (lengthOf
-      (drop at sheet))) f in
-      let c = and-true (leb 1 x && leb x sideLimit && leb 1 y) (leb y sideLimit) (a .0) in
-      let d = and-true (leb 1 x && leb x sideLimit) (leb 1 y) (c .0) in
-      let e = and-true (leb 1 x) (leb x sideLimit) (d .0) in
-      let g = and-true (allWithin names (leftOf (drop at sheet))) (allWithin names (rightOf (drop at sheet))) (rw k at
-      (w .named)) in
-      let i = field-at sheet at 4 in
-      let j = field-at sheet at 6 in
-      let z = eqb-true (6 + 2 * (x + y)) (lengthOf (drop at sheet)) (a .1) in
-      let o : at + (8 + 2 * u16At sheet (at + 4)) ≡ at + 8 + 2 * u16At sheet (at + 4) = omega arith in (
-        omega (arith, w .room, length-at sheet at),
-        omega (arith, leb-true 1 x (e .0)),
-        omega (arith, leb-true x sideLimit (e .1)),
-        omega (arith, leb-true y sideLimit (c .1)),
-        rw (fields-at sheet at 8 x, i) at (g .0),
-        rw (fields-at sheet at (8 + 2 * x) y, i, j, o) at (g .1),
-      )
+  pub right-named : (x : ℕ) → List·Memᴰ x (rightNames sheet l) → (1 ≤ x) × (x ≤ w .count)
+  right-named = fields-all (λ x. (1 ≤ x) × (x ≤ w .count)) sheet (l .at + 2 * l .m) (l .n) (w .held .right)
 
--- a side whose name numbers are all from 1 to `count`
-side-of : {sheet : List ℕ} {at : ℕ} {names : List ℕ} {size : ℕ} (w : Askable sheet at names size) (from n : ℕ)
-    → from + 2 * n ≤ length sheet → allWithin (w .count) (u16s sheet from n) ≡ true → Side sheet from n names size
-side-of {sheet} w from n l e = record {
-  long = l;
-  name = λ j i. let a = all-within sheet (w .count) from n e j i in (a .0, omega (arith, a .1, w .long));
-  group = λ j i. let a = all-within sheet (w .count) from n e j i in w .known (u16At sheet (from + 2 * j)) (a .0) (a .1);
-}
+  side : (from n : ℕ) → from + 2 * n ≤ length sheet
+      → ((j : ℕ) → j < n → (1 ≤ u16At sheet (from + 2 * j)) × (u16At sheet (from + 2 * j) ≤ w .count)) → Side sheet from n names
+  side from n a h = record { long = a; name = λ j i. let x = h j i in (x .0, omega (arith, x .1, w .long)) }
 
-module _ {sheet : List ℕ} {at : ℕ} {names : List ℕ} {size : ℕ} (w : Askable sheet at names size) where
-  known : Tested sheet at (w .count)
-  known = tested sheet at (w .count) (w .passed)
+  pub left-side : Side sheet (l .at) (l .m) names
+  left-side = side (l .at) (l .m) (omega (arith, w .held .long)) (w .held .left)
 
-  pub ask-room : at + 10 ≤ length sheet
-  ask-room =
-      compare-eq (u16At sheet (at + 2)) 4
-      (λ e. tested-count known e .0)
-      (λ n. let t = tested-sides known n in omega (arith, t .0, t .1))
+  pub right-side : Side sheet (l .at + 2 * l .m) (l .n) names
+  right-side = side (l .at + 2 * l .m) (l .n) (omega (arith, w .held .long)) (w .held .right)
 
-  pub ask-count : u16At sheet (at + 2) ≡ 4
-      → (1 ≤ u16At sheet (at + 4)) × (u16At sheet (at + 4) ≤ length names) × (numberIn names (u16At sheet (at + 4)) ≤ size)
-  ask-count e =
-      let t = tested-count known e in
-      (t .1, omega (arith, t .2, w .long), w .known (u16At sheet (at + 4)) (t .1) (t .2))
+  -- what they speak of, and that name records which agree with the table mean the same
+  lists-speak : AllUpTo size (meanings names (leftNames sheet l)) × AllUpTo size (meanings names (rightNames sheet l))
+  lists-speak = (meanings-known w _ left-named, meanings-known w _ right-named)
 
-  pub ask-left : (u16At sheet (at + 2) ≡ 4 → ⊥) → Side sheet (at + 8) (u16At sheet (at + 4)) names size
-  ask-left n =
-      let t = tested-sides known n in
-      side-of w (at + 8) (u16At sheet (at + 4)) (omega (arith, t .0)) (t .4)
+  lists-named : (ns : List NameRecord) → ((n : ℕ) → 1 ≤ n → n ≤ w .count → numberIn names n ≡ nameGroup ns n)
+      → (meanings names (leftNames sheet l) ≡ map (nameGroup ns) (leftNames sheet l))
+      × (meanings names (rightNames sheet l) ≡ map (nameGroup ns) (rightNames sheet l))
+  lists-named ns h = (
+    map-same _ _ _ (λ x m. let n = left-named x m in h x (n .0) (n .1)),
+    map-same _ _ _ (λ x m. let n = right-named x m in h x (n .0) (n .1)),
+  )
 
-  pub ask-right : (u16At sheet (at + 2) ≡ 4 → ⊥)
-      → Side sheet (at + 8 + 2 * u16At sheet (at + 4)) (u16At sheet (at + 6)) names size
-  ask-right n =
-      let t = tested-sides known n in
-      side-of w (at + 8 + 2 * u16At sheet (at + 4)) (u16At sheet (at + 6)) (omega (arith, t .0)) (t .5)
+-- The claim that is asked about speaks of groups of the sheet, or of none.
+pub asked-speaks : (sheet : List ℕ) (c : ClaimRead) {names : List ℕ} {size : ℕ} → Askable sheet c names size
+    → SpeaksUpTo size (claimMeant names (claimRecord sheet c))
+unfolding claimMeant
+asked-speaks sheet (claim.Count k) w = w .known (k .name .0) (w .held .0) (w .held .1)
+asked-speaks sheet (claim.Inside l) w = lists-speak w
+asked-speaks sheet (claim.Apart l) w = lists-speak w
 
-  pub ask-end : (u16At sheet (at + 2) ≡ 4 → ⊥) → at + 8 + 2 * u16At sheet (at + 4) ≤ length sheet
-  ask-end n = let t = tested-sides known n in omega (arith, t .0)
+-- Where the table of names agrees with the name records, it is the claim that is written down.
+pub claim-named : (sheet : List ℕ) (c : ClaimRead) {names : List ℕ} {size : ℕ} (w : Askable sheet c names size)
+    (ns : List NameRecord) → ((n : ℕ) → 1 ≤ n → n ≤ w .count → numberIn names n ≡ nameGroup ns n)
+    → claimMeant names (claimRecord sheet c) ≡ claimed ns (claimRecord sheet c)
+unfolding claimMeant claimed
+claim-named sheet (claim.Count k) w ns h = rw (h (k .name .0) (w .held .0) (w .held .1))
+claim-named sheet (claim.Inside l) w ns h = let e = lists-named w ns h in rw (e .0, e .1)
+claim-named sheet (claim.Apart l) w ns h = let e = lists-named w ns h in rw (e .0, e .1)
 
-  -- the claim, by its kind
-  pub claim-count : u16At sheet (at + 2) ≡ 4 → claimIn names (claimOf (drop at sheet))
-      ≡ counted (numberIn names (u16At sheet (at + 4))) (u16At sheet (at + 6)) (endOf (u16At sheet (at + 8)))
-  unfolding claimIn claimOf
-  claim-count e =
-      rw (field-at sheet at 2, field-at sheet at 4, field-at sheet at 6, field-at sheet at 8, e)
-
-  pub claim-sides : (u16At sheet (at + 2) ≡ 4 → ⊥) → claimIn names (claimOf (drop at sheet))
-      ≡ lists (eqb (u16At sheet (at + 2)) 6) (sideOf sheet (at + 8) (u16At sheet (at + 4)) names)
-      (sideOf sheet (at + 8 + 2 * u16At sheet (at + 4)) (u16At sheet (at + 6)) names)
-  unfolding claimIn claimOf leftOf rightOf sideOf
-  claim-sides n =
-      let i = field-at sheet at 4 in
-      let j = field-at sheet at 6 in
-      let o : at + (8 + 2 * u16At sheet (at + 4)) ≡ at + 8 + 2 * u16At sheet (at + 4) = omega arith in
-      let low = known .low in
-      let high = known .high in
-      compare-eq (u16At sheet (at + 2)) 5
-      (λ e. rw (
-        field-at sheet at 2,
-        e,
-        i,
-        j,
-        fields-at sheet at 8 (u16At sheet (at + 4)),
-        fields-at sheet at
-            (8 + 2 * u16At sheet (at + 4)) (u16At sheet (at + 6)),
-        o,
-      ))
-      (λ k. let e : u16At sheet (at + 2) ≡ 6 = omega arith in
-      rw (
-        field-at sheet at 2,
-        e,
-        i,
-        j,
-        fields-at sheet at 8 (u16At sheet (at + 4)),
-        fields-at sheet at (8 + 2 * u16At sheet
-            (at + 4)) (u16At sheet (at + 6)),
-        o,
-      ))
-
--- The table of names and the name records: where they agree, the claim is the one that is written down.
-all-named : (ns : List NameRecord) (names : List ℕ) (q : ℕ) → ((n : ℕ) → 1 ≤ n → n ≤ q → numberIn names n ≡ nameGroup ns n)
-    → (s : List ℕ) (i n : ℕ) → allWithin q (u16s s i n) ≡ true → map (numberIn names) (u16s s i n) ≡ map (nameGroup ns)
-    (u16s s i n)
-unfolding u16s allWithin
-all-named ns names q h s i zero e = refl
-all-named ns names q h s i (suc n) e =
-    let x = u16At s i in
-    let a = and-true (leb 1 x && leb x q) (allWithin q (u16s s (i + 2) n)) e in
-    let c = and-true (leb 1 x) (leb x q) (a .0) in
-    rw (h x (leb-true 1 x (c .0)) (leb-true x q (c .1)), all-named ns names q h s (i + 2) n (a .1))
-
-pub claim-named : {sheet : List ℕ} {at : ℕ} {names : List ℕ} {size : ℕ} (w : Askable sheet at names size) (ns : List NameRecord)
-    → ((n : ℕ) → 1 ≤ n → n ≤ w .count → numberIn names n ≡ nameGroup ns n)
-    → claimIn names (claimOf (drop at sheet)) ≡ claimed ns (claimOf (drop at sheet))
-unfolding claimIn claimed claimOf leftOf rightOf
-claim-named {sheet} {at} {names} w ns h =
-    let t = tested sheet at (w .count) (w .passed) in
-    compare-eq (u16At sheet (at + 2)) 4
-    (λ e. let c = tested-count t e in
-    rw (field-at sheet at 2, e, field-at sheet at 4, h (u16At sheet (at + 4)) (c .1) (c .2)))
-    (λ n. let c = tested-sides t n in
-    let i = field-at sheet at 4 in
-    let j = field-at sheet at 6 in
-    let o : at + (8 + 2 * u16At sheet (at + 4)) ≡ at + 8 + 2 * u16At sheet (at + 4) = omega arith in
-    let l = all-named ns names (w .count) h sheet (at + 8) (u16At sheet (at + 4)) (c .4) in
-    let r = all-named ns names (w .count) h sheet (at + 8 + 2 * u16At sheet (at + 4)) (u16At sheet (at + 6)) (c .5) in
-    let low = t .low in
-    let high = t .high in
-    compare-eq (u16At sheet (at + 2)) 5
-    (λ e. rw (
-      field-at sheet at 2,
-      e,
-      i,
-      j,
-      fields-at sheet at 8 (u16At sheet (at + 4)),
-      fields-at sheet at
-          (8 + 2 * u16At sheet (at + 4)) (u16At sheet (at + 6)),
-      o,
-      l,
-      r,
-    ))
-    (λ k. let e : u16At sheet (at + 2) ≡ 6 = omega arith in
-    rw (
-      field-at sheet at 2,
-      e,
-      i,
-      j,
-      fields-at sheet at 8 (u16At sheet (at + 4)),
-      fields-at sheet at (8 + 2 * u16At sheet
-          (at + 4)) (u16At sheet (at + 6)),
-      o,
-      l,
-      r,
-    )))
-
--- one more name of the right side, from the last one on
-pub keep-more : (sheet : List ℕ) (from n k j : ℕ) (names t u : List ℕ) → j + 1 ≡ k → k ≤ n
-    → OutOnly t (numberIn names (u16At sheet (from + 2 * j))) u → Flagged t [] (sideOf sheet (from + 2 * k) (n - k) names)
-    → Flagged u [] (sideOf sheet (from + 2 * j) (n - j) names)
-keep-more sheet from n k j names t u e l o f =
-    subst (Flagged u []) (sym (side-from sheet from n j names (omega arith)))
-    (flagged-out t u (numberIn names (u16At sheet (from + 2 * j))) [] _ o
-    (subst (λ i. Flagged t [] (sideOf sheet (from + 2 * i) (n - i) names)) (sym e) f))
-
-pub keep-none : (sheet : List ℕ) (from n : ℕ) (names t : List ℕ) → Flagged t [] []
-    → Flagged t [] (sideOf sheet (from + 2 * n) (n - n) names)
-keep-none sheet from n names t f =
-    let e : n - n ≡ 0 = omega arith in
-    subst (Flagged t []) (sym (ap (λ m. sideOf sheet (from + 2 * n) m names) e ∙ side-none sheet (from + 2 * n) names)) f
-
-pub keep-all : (sheet : List ℕ) (from n k : ℕ) (names t : List ℕ) → k ≡ 0 → Flagged t [] (sideOf sheet (from + 2 * k)
-    (n - k) names)
-    → Flagged t [] (sideOf sheet from n names)
-keep-all sheet from n k names t e f =
-    let a : from + 2 * k ≡ from = omega arith in
-    let b : n - k ≡ n = omega arith in
-    rw (a, b) at f
-
--- the same side for a larger sheet, and one name of it
-pub side-larger : {sheet : List ℕ} {from n : ℕ} {names : List ℕ} {size more : ℕ} → size ≤ more → Side sheet from n names size
-    → Side sheet from n names more
-side-larger l w = record { long = w .long; name = w .name; group = λ j i. omega (arith, w .group j i) }
-
-pub side-one : {sheet : List ℕ} {from n : ℕ} {names : List ℕ} {size : ℕ} (j : ℕ) → j < n → Side sheet from n names size
-    → Side sheet (from + 2 * j) 1 names size
-side-one {sheet} {from} {names = names} j l w = record {
-  long = omega (arith, w .long);
-  name = λ i k. let e : from + 2 * j + 2 * i ≡ from + 2 * j = omega arith in rw e (w .name j l);
-  group = λ i k. let e : from + 2 * j + 2 * i ≡ from + 2 * j = omega arith in rw e (w .group j l);
-}
-
--- the one name
-pub one-name : {sheet : List ℕ} {from : ℕ} {names : List ℕ} {size : ℕ} → Side sheet from 1 names size
-    → (from + 2 ≤ length sheet) × (1 ≤ u16At sheet from) × (u16At sheet from ≤ length names)
-    × (numberIn names (u16At sheet from) ≤ size)
-one-name {sheet} {from} {names} {size} w =
+-- The groups of the names one after another: of all of them, of one more, of no more.
+pub meant-first : (sheet : List ℕ) (from n : ℕ) (names : List ℕ)
+    → groupsAmong (meanings names (u16s sheet (from + 2 * 0) (n - 0))) ≡ groupsAmong (meanings names (u16s sheet from n))
+meant-first sheet from n names =
     let e : from + 2 * 0 ≡ from = omega arith in
-    let a = rw e at (w .name 0 (omega arith)) in
-    (omega (arith, w .long), a .0, a .1, rw e at (w .group 0 (omega arith)))
+    let o : n - 0 ≡ n = omega arith in
+    rw (e, o)
 
--- the groups of a side are groups of the sheet, or 0
-pub side-known : {sheet : List ℕ} {from n : ℕ} {names : List ℕ} {size : ℕ} → Side sheet from n names size → (g : ℕ)
-    → List·Memᴰ g (sideOf sheet from n names) → g ≤ size
-side-known {sheet} {from} {n} {names} w g m =
-    let v = has-side sheet from n names g m in
-    rw (v .2) (w .group (v .0) (v .1))
+pub meant-next : (sheet : List ℕ) (from n i : ℕ) (names l t r : List ℕ) → i < n
+    → t ≡ l ++ groupsAmong (numberIn names (u16At sheet (from + 2 * i)) ∷ [])
+    → l ++ groupsAmong (meanings names (u16s sheet (from + 2 * i) (n - i))) ≡ r
+    → t ++ groupsAmong (meanings names (u16s sheet (from + 2 * (i + 1)) (n - (i + 1)))) ≡ r
+unfolding u16s
+meant-next sheet from n i names l t r h x e =
+    let o : n - i ≡ suc (n - (i + 1)) = omega arith in
+    let p : from + 2 * i + 2 ≡ from + 2 * (i + 1) = omega arith in
+    rw (x, append-assoc, ← p) (rw (o, groups-more) at e)
+
+pub meant-last : (sheet : List ℕ) (from n i : ℕ) (names l r : List ℕ) → n ≤ i
+    → l ++ groupsAmong (meanings names (u16s sheet (from + 2 * i) (n - i))) ≡ r → l ≡ r
+unfolding u16s
+meant-last sheet from n i names l r h e =
+    let o : n - i ≡ 0 = omega arith in
+    sym (append-nil l) ∙ (rw (o, groups-none) at e)

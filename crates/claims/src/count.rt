@@ -1,18 +1,26 @@
 // Claims of kind 4 (count): the claim is broken where the sheet with one bound narrowed is possible.
+use crate::places::FREE;
 use choosing::choose::choose;
+use reading::tables::GROUP_CAPACITY;
 use reading::tables::GroupNo;
+use reading::tables::Meant;
 use reading::tables::hi_of;
 use reading::tables::lo_of;
 use reading::tables::set_hi;
 use reading::tables::set_lo;
 ghost use mathlib.Core.Path.{_≡_};
 ghost use Prim.Native.Nat.{_≤_, _<_, min, max};
+ghost use Rattle.meaning.specs.Sheet.{Top};
 ghost use Rattle.meaning.specs.Claim.{counted};
 ghost use Rattle.meaning.specs.OfRecords.{endOf};
-ghost use Rattle.measuring.specs.Tables.{sheetIn};
+ghost use Rattle.reading.specs.Meant.{meantNumber, Numbered};
+ghost use Rattle.reading.specs.SheetIn.{sheetIn};
 ghost use Rattle.choosing.specs.Chosen.{Asking};
 ghost use Rattle.claims.specs.Counts.{Sized, Any, Few, Many, Under, Over};
 ghost use Rattle.claims.specs.Judged.{Judged};
+
+// the bound that stands for no upper end
+const NO_END: u16 = 65535;
 
 fn smaller(a: u16, b: u16) -> u16
     ensures { λ r. ⌜ r ≡ min a b ⌝ }
@@ -31,7 +39,7 @@ fn any_sets(groups: &[u16], size: u16, sizes: &mut [u32], marks: &mut [u8]) -> b
     requires { ⌜ Asking (now groups) size (now sizes) (now marks) ⌝ }
     ensures { λ r. ⌜ Sized (sheetIn (now (groups .entry)) size) Any (now (sizes .exit)) (now (marks .exit)) r ⌝ }
 {
-    let flags = [3u8; 128];
+    let flags = [FREE; GROUP_CAPACITY];
     choose(groups, size, &flags, false, sizes, marks)
 }
 
@@ -94,7 +102,7 @@ fn under(
     few_sets(groups, size, g, lo - 1, sizes, marks)
 }
 
-// whether some sets that fit have more members in a group than hi, 65535 for no upper end
+// whether some sets that fit have more members in a group than hi, `NO_END` for no upper end
 fn over(
     groups: &mut [u16],
     size: u16,
@@ -108,35 +116,62 @@ fn over(
         (marks .exit)) r ⌝ }
     ensures { λ _. ⌜ now (groups .exit) ≡ now (groups .entry) ⌝ }
 {
-    if hi == 65535 {
+    if hi == NO_END {
         return false;
     }
     many_sets(groups, size, g, hi + 1, sizes, marks)
 }
 
-// Whether some sets that fit break the claim that group g, 0 for the empty set, has from lo to hi members.
-pub fn judge_count(
+// Whether some sets that fit break the claim that a group has from lo to hi members.
+fn judge_group(
     groups: &mut [u16],
     size: u16,
-    g: u16,
+    g: GroupNo,
     lo: u16,
     hi: u16,
     sizes: &mut [u32],
     marks: &mut [u8],
 ) -> bool
-    requires { ⌜ Asking (now groups) size (now sizes) (now marks) × (g ≤ size) ⌝ }
-    ensures { λ r. ⌜ Judged (sheetIn (now (groups .entry)) size) (counted g lo (endOf hi)) (now (sizes .exit)) (now
+    requires { ⌜ Asking (now groups) size (now sizes) (now marks) × (1 ≤ g .0) × (g .0 ≤ size) ⌝ }
+    ensures { λ r. ⌜ Judged (sheetIn (now (groups .entry)) size) (counted (g .0) lo (endOf hi)) (now (sizes .exit)) (now
         (marks .exit)) r ⌝ }
     ensures { λ _. ⌜ now (groups .exit) ≡ now (groups .entry) ⌝ }
 {
-    if g == 0 {
-        if lo == 0 {
-            return false;
-        }
-        return any_sets(groups, size, sizes, marks);
-    }
-    if under(groups, size, GroupNo(g), lo, sizes, marks) {
+    if under(groups, size, g, lo, sizes, marks) {
         return true;
     }
-    over(groups, size, GroupNo(g), hi, sizes, marks)
+    over(groups, size, g, hi, sizes, marks)
+}
+
+// Whether some sets that fit break the claim that the empty set has lo members or more.
+fn judge_empty(groups: &[u16], size: u16, lo: u16, sizes: &mut [u32], marks: &mut [u8]) -> bool
+    requires { ⌜ Asking (now groups) size (now sizes) (now marks) ⌝ }
+    ensures { λ r. ⌜ ((hi : Top) → Judged (sheetIn (now (groups .entry)) size) (counted 0 lo hi) (now (sizes .exit)) (now
+        (marks .exit)) r) ⌝ }
+{
+    if lo == 0 {
+        return false;
+    }
+    any_sets(groups, size, sizes, marks)
+}
+
+// Whether some sets that fit break the claim that what a name means has from lo to hi members.
+pub fn judge_count(
+    groups: &mut [u16],
+    size: u16,
+    m: Meant,
+    lo: u16,
+    hi: u16,
+    sizes: &mut [u32],
+    marks: &mut [u8],
+) -> bool
+    requires { ⌜ Asking (now groups) size (now sizes) (now marks) × Numbered m × (meantNumber m ≤ size) ⌝ }
+    ensures { λ r. ⌜ Judged (sheetIn (now (groups .entry)) size) (counted (meantNumber m) lo (endOf hi)) (now (sizes .exit)) (now
+        (marks .exit)) r ⌝ }
+    ensures { λ _. ⌜ now (groups .exit) ≡ now (groups .entry) ⌝ }
+{
+    match m {
+        Meant::Empty => judge_empty(groups, size, lo, sizes, marks),
+        Meant::Group(g) => judge_group(groups, size, g, lo, hi, sizes, marks),
+    }
 }

@@ -1,76 +1,87 @@
 // The verdict on one claim, and the sets of a denial.
 use crate::count::judge_count;
-use crate::places::named_group;
-use crate::sides::judge_sides;
+use crate::lists::judge_lists;
+use crate::names::groups_meant;
+use crate::verdict::Verdict;
+use reading::claim::Claim;
+use reading::claim::Lists;
+use reading::tables::GROUP_CAPACITY;
+use reading::tables::meant_by;
 use runs::place::place_runs;
-use wire::bytes::word;
 ghost use mathlib.Core.Path.{_≡_};
 ghost use Prim.Native.Nat.{_≤_};
-ghost use lib.ListN.{length, drop};
-ghost use Rattle.wire.specs.SheetFormat.{claimOf};
-ghost use Rattle.measuring.specs.Tables.{sheetIn};
+ghost use lib.ListN.{length};
+ghost use Rattle.reading.specs.ClaimHeld.{leftNames, rightNames, claimRecord};
+ghost use Rattle.sizes.specs.ClaimsMath.{lists};
+ghost use Rattle.reading.specs.SheetIn.{sheetIn};
 ghost use Rattle.choosing.specs.Chosen.{Asking};
-ghost use Rattle.claims.specs.Named.{Askable, claimIn};
+ghost use Rattle.claims.specs.Named.{meanings, claimMeant, Askable, AskableLists};
 ghost use Rattle.claims.specs.Judged.{Judged};
 ghost use Rattle.claims.specs.Decided.{Decided};
 
-pub enum Verdict {
-    Holds,
-    Denied,
+// Whether some sets that fit break the claim of kind 5 or 6 on two lists of names.
+fn judge_names(
+    apart: bool,
+    sheet: &[u8],
+    l: Lists,
+    names: &[u16],
+    groups: &[u16],
+    size: u16,
+    sizes: &mut [u32],
+    marks: &mut [u8],
+) -> bool
+    requires { ⌜ Asking (now groups) size (now sizes) (now marks) × AskableLists (now sheet) l (now names) size ⌝ }
+    ensures { λ r. ⌜ Judged (sheetIn (now (groups .entry)) size)
+        (lists apart (meanings (now (names .entry)) (leftNames (now (sheet .entry)) l)) (meanings (now (names .entry))
+        (rightNames (now (sheet .entry)) l)))
+        (now (sizes .exit)) (now (marks .exit)) r ⌝ }
+{
+    let mut left = [0u16; GROUP_CAPACITY];
+    let mut right = [0u16; GROUP_CAPACITY];
+    let m = groups_meant(sheet, l.at, l.m, names, &mut left);
+    let n = groups_meant(sheet, l.at + 2 * (l.m as usize), l.n, names, &mut right);
+    judge_lists(apart, groups, size, &left, m, &right, n, sizes, marks)
 }
 
-// Whether some sets that fit break the claim whose record stands at a place of the sheet.
+// Whether some sets that fit break the claim.
 fn judge(
     sheet: &[u8],
-    at: usize,
+    c: Claim,
     names: &[u16],
     groups: &mut [u16],
     size: u16,
     sizes: &mut [u32],
     marks: &mut [u8],
 ) -> bool
-    requires { ⌜ Asking (now groups) size (now sizes) (now marks) × Askable (now sheet) at (now names) size ⌝ }
-    ensures { λ r. ⌜ Judged (sheetIn (now (groups .entry)) size) (claimIn (now (names .entry)) (claimOf (drop at (now
-        (sheet .entry)))))
+    requires { ⌜ Asking (now groups) size (now sizes) (now marks) × Askable (now sheet) c (now names) size ⌝ }
+    ensures { λ r. ⌜ Judged (sheetIn (now (groups .entry)) size) (claimMeant (now (names .entry)) (claimRecord (now
+        (sheet .entry)) c))
         (now (sizes .exit)) (now (marks .exit)) r ⌝ }
     ensures { λ _. ⌜ now (groups .exit) ≡ now (groups .entry) ⌝ }
 {
-    let kind = word(sheet, at + 2);
-    let m = word(sheet, at + 4);
-    let n = word(sheet, at + 6);
-    if kind == 4 {
-        return judge_count(
-            groups,
-            size,
-            named_group(sheet, at + 4, names),
-            n,
-            word(sheet, at + 8),
-            sizes,
-            marks,
-        );
+    match c {
+        Claim::Count(k) => {
+            let name = k.name;
+            judge_count(
+                groups,
+                size,
+                meant_by(names, name),
+                k.lo,
+                k.hi,
+                sizes,
+                marks,
+            )
+        }
+        Claim::Inside(l) => judge_names(false, sheet, l, names, groups, size, sizes, marks),
+        Claim::Apart(l) => judge_names(true, sheet, l, names, groups, size, sizes, marks),
     }
-    let left = at + 8;
-    let right = left + 2 * (m as usize);
-    judge_sides(
-        kind == 6,
-        sheet,
-        left,
-        m,
-        right,
-        n,
-        names,
-        groups,
-        size,
-        sizes,
-        marks,
-    )
 }
 
-// The verdict on the claim whose record stands at a place of the sheet. Where it is denied, sets that fit and break it are
-// left in `firsts`, `sizes` and `marks`: with each group the first member and the count of a run, and the mark of member 0.
+// The verdict on a claim. Where it is denied, sets that fit and break it are left in `firsts`, `sizes` and `marks`: with each
+// group the first member and the count of a run, and the mark of member 0.
 pub fn decide(
     sheet: &[u8],
-    at: usize,
+    c: Claim,
     names: &[u16],
     groups: &mut [u16],
     size: u16,
@@ -78,15 +89,15 @@ pub fn decide(
     sizes: &mut [u32],
     marks: &mut [u8],
 ) -> Verdict
-    requires { ⌜ Asking (now groups) size (now sizes) (now marks) × Askable (now sheet) at (now names) size
+    requires { ⌜ Asking (now groups) size (now sizes) (now marks) × Askable (now sheet) c (now names) size
         × (size ≤ length (now firsts)) ⌝ }
-    ensures { λ r. ⌜ Decided (sheetIn (now (groups .entry)) size) (claimIn (now (names .entry)) (claimOf (drop at (now
-        (sheet .entry)))))
+    ensures { λ r. ⌜ Decided (sheetIn (now (groups .entry)) size) (claimMeant (now (names .entry)) (claimRecord (now
+        (sheet .entry)) c))
         (now (firsts .exit)) (now (sizes .exit)) (now (marks .exit)) r ⌝ }
     ensures { λ _. ⌜ now (groups .exit) ≡ now (groups .entry) ⌝ }
 {
-    if judge(sheet, at, names, groups, size, sizes, marks) {
-        let mut ends = [0u32; 128];
+    if judge(sheet, c, names, groups, size, sizes, marks) {
+        let mut ends = [0u32; GROUP_CAPACITY];
         place_runs(groups, size, sizes, firsts, &mut ends);
         return Verdict::Denied;
     }

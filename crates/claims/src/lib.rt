@@ -1,7 +1,10 @@
 // Claims: whether a claim holds, and sets that fit and break it where it does not.
-// `places` sets the flags of a question, `sides` and `count` ask the questions of each kind of claim, `decide` gives the
-// verdict and the sets of a denial.
+// `names` turns the names of a claim into groups, `places` asks for a member in all groups of one list and in none of another,
+// `lists` and `count` ask the questions of each kind of claim, `decide` gives the verdict and the sets of a denial, `verdict`
+// has what a verdict is.
 pub mod count;
 pub mod decide;
+pub mod lists;
+pub mod names;
 pub mod places;
-pub mod sides;
+pub mod verdict;

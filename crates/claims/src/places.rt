@@ -1,58 +1,73 @@
-// The flags of a place: a flag is a sum of 1, the member may be out of the group, and 2, it may be in it.
+// A place: a member in all groups of one list and in none of another. A list of groups is a table of their numbers, read
+// through `group_at`, and how many of them it has.
+use choosing::choose::choose;
+use reading::tables::GROUP_CAPACITY;
 use reading::tables::GroupNo;
-use reading::tables::NameNo;
-use reading::tables::group_of_name;
-use wire::bytes::word;
 ghost use mathlib.Core.Path.{_≡_};
-ghost use mathlib.Core.List.{[]};
-ghost use Prim.Native.Nat.{_+_, _≤_};
-ghost use lib.ListN.{length};
-ghost use Rattle.wire.specs.Bytes.{u16At};
-ghost use Rattle.runs.specs.Told.{numberIn};
-ghost use Rattle.claims.specs.Flags.{Flagged, InOnly, OutOnly};
-ghost use Rattle.claims.specs.Named.{Side, sideOf};
+ghost use mathlib.Core.List.{[], _∷_};
+ghost use Prim.Native.Nat.{_≤_, _<_};
+ghost use lib.ListN.{length, getD, take};
+ghost use Rattle.reading.specs.SheetIn.{sheetIn};
+ghost use Rattle.choosing.specs.Chosen.{Asking};
+ghost use Rattle.claims.specs.Groups.{Listed};
+ghost use Rattle.claims.specs.Flags.{flagWithout, Barred};
+ghost use Rattle.claims.specs.Places.{PlaceJudged};
 
-// the group of the name whose number stands at a place of the sheet, 0 for the empty set
-pub fn named_group(sheet: &[u8], at: usize, names: &[u16]) -> u16
-    requires { ⌜ (at + 2 ≤ length (now sheet)) × (1 ≤ u16At (now sheet) at) × (u16At (now sheet) at ≤ length (now names)) ⌝ }
-    ensures { λ r. ⌜ r ≡ numberIn (now (names .entry)) (u16At (now (sheet .entry)) at) ⌝ }
+// A flag is a sum of 1, the member may be out of the group, and 2, it may be in it.
+pub const FREE: u8 = 3;
+
+pub fn group_at(list: &[u16], i: usize) -> GroupNo
+    requires { ⌜ i < length (now list) ⌝ }
+    ensures { λ r. ⌜ r .0 ≡ getD (now (list .entry)) i 0 ⌝ }
 {
-    group_of_name(names, NameNo(word(sheet, at)))
+    GroupNo(list[i])
 }
 
-// the member has to be in the group
-pub fn only_in(flags: &mut [u8], g: GroupNo)
+// the flag without one of its two: to be in the group (true) or out of it (false)
+fn without(f: u8, d: bool) -> u8
+    ensures { λ r. ⌜ r ≡ flagWithout d f ⌝ }
+{
+    if d { f % 2 } else { f / 2 * 2 }
+}
+
+// the member may not be in the group (true), or out of it (false)
+fn bar(flags: &mut [u8], d: bool, g: GroupNo)
     requires { ⌜ (1 ≤ g .0) × (g .0 ≤ length (now flags)) ⌝ }
-    ensures { λ _. ⌜ InOnly (now (flags .entry)) (g .0) (now (flags .exit)) ⌝ }
+    ensures { λ _. ⌜ Barred (now (flags .entry)) d (g .0 ∷ []) (now (flags .exit)) ⌝ }
 {
     let i = g.0 as usize;
-    let f = flags[i - 1];
-    flags[i - 1] = f / 2 * 2;
+    flags[i - 1] = without(flags[i - 1], d);
 }
 
-// the member has to be out of the group; 0 stands for no group
-fn only_out(flags: &mut [u8], g: u16)
-    requires { ⌜ g ≤ length (now flags) ⌝ }
-    ensures { λ _. ⌜ OutOnly (now (flags .entry)) g (now (flags .exit)) ⌝ }
+// the same for all groups of a list
+fn bar_all(flags: &mut [u8], d: bool, list: &[u16], n: usize)
+    requires { ⌜ Listed (now list) n (length (now flags)) ⌝ }
+    ensures { λ _. ⌜ Barred (now (flags .entry)) d (take n (now (list .entry))) (now (flags .exit)) ⌝ }
 {
-    let i = g as usize;
-    if i == 0 {
-        return;
+    for i in 0..n {
+        bar(flags, d, group_at(list, i));
     }
-    let f = flags[i - 1];
-    flags[i - 1] = f % 2;
 }
 
-// the member has to be out of all groups that the n names at a place mean
-pub fn keep_out(sheet: &[u8], from: usize, n: u16, names: &[u16], flags: &mut [u8])
-    requires { ⌜ Side (now sheet) from n (now names) (length (now flags)) ⌝ }
-    requires { ⌜ Flagged (now flags) [] [] ⌝ }
-    ensures { λ _. ⌜ Flagged (now (flags .exit)) [] (sideOf (now (sheet .entry)) from n (now (names .entry))) ⌝ }
+// Whether some sets that fit have a member in all m groups of one list and in none of the n groups of another. It is then
+// member 0 of the sets in the tables.
+pub fn ask_place(
+    groups: &[u16],
+    size: u16,
+    ins: &[u16],
+    m: usize,
+    outs: &[u16],
+    n: usize,
+    sizes: &mut [u32],
+    marks: &mut [u8],
+) -> bool
+    requires { ⌜ Asking (now groups) size (now sizes) (now marks) ⌝ }
+    requires { ⌜ Listed (now ins) m size × Listed (now outs) n size ⌝ }
+    ensures { λ r. ⌜ PlaceJudged (sheetIn (now (groups .entry)) size) (take m (now (ins .entry))) (take n (now (outs .entry)))
+        (now (sizes .exit)) (now (marks .exit)) r ⌝ }
 {
-    let mut k = n;
-    while 0 < k {
-        k -= 1;
-        let at = from + 2 * (k as usize);
-        only_out(flags, named_group(sheet, at, names));
-    }
+    let mut flags = [FREE; GROUP_CAPACITY];
+    bar_all(&mut flags, false, ins, m);
+    bar_all(&mut flags, true, outs, n);
+    choose(groups, size, &flags, 0 < m, sizes, marks)
 }

@@ -1,6 +1,8 @@
-pub mod LoadedLaws
-pub mod RegisterLaws
+pub mod ReplyLaws
 pub mod RangesLaws
+pub mod RegisterLaws
 pub mod ShownAlike
-pub mod VerdictLaws
 pub mod ClaimLaws
+pub mod Alike
+pub mod Exits
+pub mod Settled

@@ -11,16 +11,8 @@ use Rattle.meaning.specs.Sets.{Sets, count, numbered}
 use Rattle.meaning.specs.Fits.{Meets, Fits}
 use Rattle.meaning.specs.Claim.{Claim, counted, within, separate, named, union, countNamed, Says, Breaks}
 use Rattle.meaning.specs.Shown.{shown, inRun, above}
-use Rattle.sizes.specs.SumLaws.{sum-eq, son-parent}
-
--- every number on the list is at most n; every group that a claim speaks of is
-abbrev pub AllUpTo : ℕ → List ℕ → Type 0
-AllUpTo n l = (g : ℕ) → List·Memᴰ g l → g ≤ n
-
-abbrev pub SpeaksUpTo : ℕ → Claim → Type 0
-SpeaksUpTo n (counted g lo hi) = g ≤ n
-SpeaksUpTo n (within l r) = AllUpTo n l × AllUpTo n r
-SpeaksUpTo n (separate l r) = AllUpTo n l × AllUpTo n r
+use Rattle.meaning.proofs.SumLaws.{sum-eq, son-parent}
+use Rattle.claims.specs.Named.{AllUpTo, SpeaksUpTo}
 
 module _ (n m : ℕ) (h k : ℕ → ℕ → Bool) (e : (g : ℕ) → g ≤ m → (x : ℕ) → h g x ≡ k g x) where
   named-alike : (g : ℕ) → g ≤ m → (x : ℕ) → named (numbered n h) g x ≡ named (numbered n k) g x

@@ -8,15 +8,17 @@ use lib.ListN.{length}
 use lib.Dec.{eqb}
 use Rattle.wire.specs.Limits.{verdictBytes, shownBytes}
 use Rattle.wire.specs.Bytes.{u16At, u32At}
-use Rattle.wire.specs.Record.{read, refused}
-use Rattle.wire.specs.SheetFormat.{Records, readSheet}
+use Rattle.wire.specs.SheetFormat.{readSheet}
 use Rattle.meaning.specs.Sheet.{Sheet, Group}
 use Rattle.meaning.specs.Sets.{Sets}
-use Rattle.meaning.specs.Fits.{Fits, Possible}
+use Rattle.meaning.specs.Fits.{Fits}
 use Rattle.meaning.specs.Claim.{Claim, Breaks, Breakable}
 use Rattle.meaning.specs.OfRecords.{sheetOf, claimAt}
 use Rattle.meaning.specs.Shown.{shown, above}
-use Rattle.group_sheet.specs.Reply.{Refused, Replied}
+use Rattle.claims.specs.Verdict.{verdictNumber}
+use Rattle.claims.specs.declared.verdict.Verdict.{Verdict}
+use Rattle.claims.specs.declared.verdict.Verdict.the-variants.{Holds, Denied}
+use Rattle.group_sheet.specs.Reply.{Call, Refused, OnceRead, OncePossible, OnceRoom}
 
 -- bytes of a denial that shows sets of n groups
 abbrev pub denialBytes : ℕ → ℕ
@@ -27,65 +29,52 @@ abbrev pub shownAt : ℕ → ℕ
 shownAt g = verdictBytes + shownBytes * (g - 1)
 
 -- the numbers of group g's record
-abbrev pub firstIn : List ℕ → ℕ → ℕ
-firstIn out g = u32At out (shownAt g + 4)
+abbrev pub shownFirst : List ℕ → ℕ → ℕ
+shownFirst out g = u32At out (shownAt g + 4)
 
-abbrev pub countIn : List ℕ → ℕ → ℕ
-countIn out g = u32At out (shownAt g + 8)
+abbrev pub shownCount : List ℕ → ℕ → ℕ
+shownCount out g = u32At out (shownAt g + 8)
 
-abbrev pub markIn : List ℕ → ℕ → ℕ
-markIn out g = u16At out (shownAt g + 12)
+abbrev pub shownMark : List ℕ → ℕ → ℕ
+shownMark out g = u16At out (shownAt g + 12)
 
 -- the sets that a denial shows, read off the buffer at exit
-abbrev pub setsIn : Sheet → List ℕ → Sets ℕ
-setsIn s out = shown (firstIn out) (countIn out) (λ g. eqb (markIn out g) 1) (above (s .size) (firstIn out) (countIn out))
+abbrev pub shownSets : Sheet → List ℕ → Sets ℕ
+shownSets s out = shown (shownFirst out) (shownCount out) (λ g. eqb (shownMark out g) 1) (above (s .size) (shownFirst out) (shownCount out))
 
 -- the verdict's record
-pub record VerdictIn (v : ℕ) (out : List ℕ) : Type 0 where
+pub record VerdictIn (v : Verdict) (out : List ℕ) : Type 0 where
   pub sized : u16At out 0 ≡ verdictBytes - 2
   pub kind : u16At out 2 ≡ 18
-  pub verdict : u16At out 4 ≡ v
+  pub verdict : u16At out 4 ≡ verdictNumber v
 
 -- the record of group g
 pub record ShownIn (out : List ℕ) (g : ℕ) : Type 0 where
   pub sized : u16At out (shownAt g) ≡ shownBytes - 2
   pub kind : u16At out (shownAt g + 2) ≡ 19
-  pub first : 1 ≤ firstIn out g
-  pub mark : markIn out g ≤ 1
+  pub first : 1 ≤ shownFirst out g
+  pub mark : shownMark out g ≤ 1
 
 -- A denial. Its sets are open but for this: they fit, and they break the claim.
-pub record DenialIn (s : Sheet) (c : Claim) (out : List ℕ) : Type 0 where
-  pub verdict : VerdictIn 0 out
+pub record DenialIn (s : Sheet) (k : Claim) (out : List ℕ) : Type 0 where
+  pub verdict : VerdictIn Denied out
   pub records : (g : ℕ) → Group s g → ShownIn out g
-  pub fits : Fits s (setsIn s out)
-  pub breaks : Breaks c (setsIn s out)
+  pub fits : Fits s (shownSets s out)
+  pub breaks : Breaks k (shownSets s out)
 
--- the claim number is 0 or above Q
-abbrev pub NoClaim : Records → ℕ → Type 0
-NoClaim d k = (k ≡ 0) ⊎ (length (d .claims) < k)
+-- 9: the claim number k is 0 or above the number n of claims
+pub record OnceNumbered (k n : ℕ) (c : Call) (P : Type 0) : Type 0 where
+  pub unnumbered : (k ≡ 0) ⊎ (n < k) → Refused 9 0 c
+  pub numbered : 1 ≤ k → k ≤ n → P
 
--- claim k of the sheet, on the condition that there is one
-pub record Asked (sheet : List ℕ) (k : ℕ) (d : Records) : Type 0 where
-  pub readable : readSheet sheet ≡ read d
-  pub possible : Possible (sheetOf (d .groups))
-  pub first : 1 ≤ k
-  pub last : k ≤ length (d .claims)
+-- the claim holds where no finite sets fit and break it, and is denied where some do
+pub record VerdictOn (s : Sheet) (k : Claim) (c : Call) : Type 0 where
+  pub holds : (Breakable s k → ⊥) → OnceRoom verdictBytes c (VerdictIn Holds)
+  pub denied : Breakable s k → OnceRoom (denialBytes (s .size)) c (DenialIn s k)
 
-pub record ClaimVerdict (sheet : List ℕ) (k : ℕ) (before : List ℕ) (r : ℕ) (after : List ℕ) : Type 0 where
-  -- 1 to 7
-  pub unreadable : (n m : ℕ) → readSheet sheet ≡ refused n m → Refused n m before r after
-  -- 8: no finite sets fit
-  pub impossible : (d : Records) → readSheet sheet ≡ read d → (Possible (sheetOf (d .groups)) → ⊥) → Refused 8 0 before r after
-  -- 9: the claim number is 0 or above Q
-  pub unnumbered : (d : Records) → readSheet sheet ≡ read d → Possible (sheetOf (d .groups)) → NoClaim d k → Refused 9 0 before r after
-  -- the claim holds: no finite sets fit and break it (14: the buffer is shorter than this verdict)
-  pub holdsShort : (d : Records) → Asked sheet k d → (Breakable (sheetOf (d .groups)) (claimAt d k) → ⊥) →
-      length before < verdictBytes → Refused 14 0 before r after
-  pub holds : (d : Records) → Asked sheet k d → (Breakable (sheetOf (d .groups)) (claimAt d k) → ⊥) →
-      verdictBytes ≤ length before → Replied verdictBytes before r after × VerdictIn 1 after
-  -- the claim is denied: some finite sets fit and break it
-  pub deniedShort : (d : Records) → Asked sheet k d → Breakable (sheetOf (d .groups)) (claimAt d k) →
-      length before < denialBytes (length (d .groups)) → Refused 14 0 before r after
-  pub denied : (d : Records) → Asked sheet k d → Breakable (sheetOf (d .groups)) (claimAt d k) →
-      denialBytes (length (d .groups)) ≤ length before →
-      Replied (denialBytes (length (d .groups))) before r after × DenialIn (sheetOf (d .groups)) (claimAt d k) after
+abbrev pub ClaimVerdict : List ℕ → ℕ → Call → Type 0
+ClaimVerdict sheet k c =
+    OnceRead (readSheet sheet) c (λ d.
+    OncePossible (sheetOf (d .groups)) c
+    (OnceNumbered k (length (d .claims)) c
+    (VerdictOn (sheetOf (d .groups)) (claimAt d k) c)))

@@ -1,123 +1,106 @@
 // The verdict on one claim.
+use crate::fitting::some_fit;
 use crate::pairs::pack;
-use crate::verdict::give_denial;
-use crate::verdict::give_holds;
-use claims::decide::Verdict;
 use claims::decide::decide;
-use measuring::measure::measure_sheet;
-use ranging::narrow::possible;
+use claims::verdict::Verdict;
+use claims::verdict::verdict_number;
+use reading::claim::Claim;
+use reading::claim::claim_in;
 use reading::load::Loaded;
 use reading::load::load_sheet;
-use reading::records::Head;
+use reading::tables::PLACE_TABLE;
 use reading::tables::CLAIM_TABLE;
+use reading::tables::GROUP_CAPACITY;
 use reading::tables::GROUP_TABLE;
 use reading::tables::LABEL_TABLE;
 use reading::tables::NAME_TABLE;
-ghost use mathlib.Core.Path.{_≡_};
-ghost use mathlib.Core.Bool.{true};
-ghost use mathlib.Core.Logic.{_↔_};
-ghost use lib.ListN.{drop};
-ghost use Rattle.wire.specs.SheetFormat.{claimOf};
-ghost use Rattle.meaning.specs.Fits.{Possible};
-ghost use Rattle.measuring.specs.Tables.{sheetIn};
-ghost use Rattle.claims.specs.Named.{Askable, claimIn};
-ghost use Rattle.group_sheet.specs.RangesGiven.{Tabled};
-ghost use Rattle.group_sheet.specs.ClaimReply.{ClaimVerdict};
-ghost use Rattle.group_sheet.specs.ClaimGiven.{VerdictGiven, Claimable, ClaimGiven};
+use replies::SHOWN_BYTES;
+use replies::VERDICT_BYTES;
+use replies::put_sets;
+use replies::put_verdict;
+ghost use Rattle.reading.specs.ClaimHeld.{claimRecord};
+ghost use Rattle.reading.specs.SheetIn.{sheetIn, Tabled};
+ghost use Rattle.claims.specs.Named.{Askable, claimMeant};
+ghost use Rattle.group_sheet.specs.Reply.{call};
+ghost use Rattle.group_sheet.specs.ClaimReply.{VerdictOn, ClaimVerdict};
 
-// whether some sets fit the sheet whose groups are in the table
-fn some_fit(groups: &[u16], size: u16) -> bool
-    requires { ⌜ Tabled (now groups) size ⌝ }
-    ensures { λ r. ⌜ (r ≡ true) ↔ Possible (sheetIn (now (groups .entry)) size) ⌝ }
-{
-    let flags = [3u8; 128];
-    let mut last = [0u16; 128];
-    let mut prev = [0u16; 128];
-    let mut spans = [0u32; 512];
-    let mut after = [0u32; 512];
-    measure_sheet(
-        groups,
-        size,
-        &flags,
-        &mut last,
-        &mut prev,
-        &mut spans,
-        &mut after,
-    );
-    possible(&spans)
-}
-
-// the verdict on the claim whose record stands at a place of the sheet
-fn judge(
+// The verdict on a claim, with sets where it is denied, into a buffer with room for this verdict.
+fn give_verdict(
     sheet: &[u8],
-    at: usize,
+    c: Claim,
     names: &[u16],
     groups: &mut [u16],
     size: u16,
     reply: &mut [u8],
 ) -> u64
-    requires { ⌜ Tabled (now groups) size × Askable (now sheet) at (now names) size ⌝ }
-    ensures { λ r. ⌜ VerdictGiven (sheetIn (now (groups .entry)) size) size (claimIn (now (names .entry)) (claimOf (drop at (now (sheet .entry)))))
-        (now (reply .entry)) r (now (reply .exit)) ⌝ }
+    requires { ⌜ Tabled (now groups) size × Askable (now sheet) c (now names) size ⌝ }
+    ensures { λ r. ⌜ VerdictOn (sheetIn (now (groups .entry)) size) (claimMeant (now (names .entry)) (claimRecord (now
+        (sheet .entry)) c))
+        (call (now (reply .entry)) r (now (reply .exit))) ⌝ }
 {
-    let mut firsts = [0u32; 128];
-    let mut sizes = [0u32; 128];
-    let mut marks = [0u8; 128];
-    match decide(
+    let mut firsts = [0u32; GROUP_CAPACITY];
+    let mut sizes = [0u32; GROUP_CAPACITY];
+    let mut marks = [0u8; GROUP_CAPACITY];
+    let v = decide(
         sheet,
-        at,
+        c,
         names,
         groups,
         size,
         &mut firsts,
         &mut sizes,
         &mut marks,
-    ) {
-        Verdict::Holds => give_holds(reply),
-        Verdict::Denied => give_denial(reply, size, &firsts, &sizes, &marks),
+    );
+    match v {
+        Verdict::Holds => {
+            if reply.len() < VERDICT_BYTES {
+                return pack(14, 0); // no room to say that it holds
+            }
+            put_verdict(reply, verdict_number(v));
+            pack(0, 6)
+        }
+        Verdict::Denied => {
+            let bytes = VERDICT_BYTES + SHOWN_BYTES * size as usize;
+            if reply.len() < bytes {
+                return pack(14, 0); // no room for the sets
+            }
+            put_verdict(reply, verdict_number(v));
+            put_sets(reply, size, &firsts, &sizes, &marks);
+            pack(0, 6 + 14 * size as u32)
+        }
     }
-}
-
-// the answer on a claim's number, under a sheet whose records are in the tables
-fn answer(
-    sheet: &[u8],
-    claim: u32,
-    head: Head,
-    groups: &mut [u16],
-    names: &[u16],
-    claims: &[usize],
-    reply: &mut [u8],
-) -> u64
-    requires { ⌜ Claimable (now sheet) (head .groups) (head .claims) (now groups) (now names) (now claims) ⌝ }
-    ensures { λ r. ⌜ ClaimGiven (now (sheet .entry)) claim (head .groups) (head .claims) (now (groups .entry)) (now (names .entry))
-        (now (claims .entry)) (now (reply .entry)) r (now (reply .exit)) ⌝ }
-{
-    let size = head.groups;
-    if !some_fit(groups, size) {
-        return pack(8, 0);
-    }
-    if claim == 0 {
-        return pack(9, 0);
-    }
-    let count = head.claims as u32;
-    if count < claim {
-        return pack(9, 0);
-    }
-    let k = claim as usize;
-    let at = claims[k - 1];
-    judge(sheet, at, names, groups, size, reply)
 }
 
 #[no_mangle]
 pub extern "C" fn sheet_claim(sheet: &[u8], claim: u32, reply: &mut [u8]) -> u64
-    ensures { λ r. ⌜ ClaimVerdict (now (sheet .entry)) claim (now (reply .entry)) r (now (reply .exit)) ⌝ }
+    ensures { λ r. ⌜ ClaimVerdict (now (sheet .entry)) claim (call (now (reply .entry)) r (now (reply .exit))) ⌝ }
 {
     let mut groups = [0u16; GROUP_TABLE];
     let mut names = [0u16; NAME_TABLE];
     let mut labels = [0usize; LABEL_TABLE];
-    let mut claims = [0usize; CLAIM_TABLE];
-    match load_sheet(sheet, &mut groups, &mut names, &mut labels, &mut claims) {
+    let mut claims = [0u16; CLAIM_TABLE];
+    let mut places = [0usize; PLACE_TABLE];
+    match load_sheet(
+        sheet,
+        &mut groups,
+        &mut names,
+        &mut labels,
+        &mut claims,
+        &mut places,
+    ) {
         Loaded::Refused(n, record) => pack(n, record),
-        Loaded::Sheet(head) => answer(sheet, claim, head, &mut groups, &names, &claims, reply),
+        Loaded::Sheet(head) => {
+            if !some_fit(&groups, head.groups) {
+                return pack(8, 0);
+            }
+            if claim == 0 {
+                return pack(9, 0); // there is no claim 0
+            }
+            if (head.claims as u32) < claim {
+                return pack(9, 0);
+            }
+            let c = claim_in(&claims, &places, claim as usize - 1);
+            give_verdict(sheet, c, &names, &mut groups, head.groups, reply)
+        }
     }
 }

@@ -1,33 +1,39 @@
 // Ranges with an arrangement.
+use crate::fitting::measure;
 use crate::pairs::pack;
-use measuring::measure::measure_sheet;
+use measuring::pairs::PAIR_TABLE;
 use ranging::arrange::arrange;
 use ranging::narrow::narrow;
-use ranging::narrow::possible;
+use ranging::tables::SPAN_TABLE;
 use reading::load::Loaded;
 use reading::load::load_sheet;
 use reading::tables::CLAIM_TABLE;
+use reading::tables::GROUP_CAPACITY;
 use reading::tables::GROUP_TABLE;
 use reading::tables::LABEL_TABLE;
 use reading::tables::NAME_TABLE;
+use reading::tables::PLACE_TABLE;
+use replies::RANGE_BYTES;
 use replies::put_ranges;
 ghost use mathlib.Core.Path.{_≡_};
 ghost use Prim.Native.Nat.{_*_, _≤_};
 ghost use lib.ListN.{length};
-ghost use Rattle.group_sheet.specs.RangesReply.{Ranges};
-ghost use Rattle.group_sheet.specs.RangesGiven.{Tabled, Placed, RangesPlaced, RangesGiven};
+ghost use Rattle.reading.specs.SheetIn.{sheetIn, Tabled};
+ghost use Rattle.group_sheet.specs.Reply.{call};
+ghost use Rattle.group_sheet.specs.RangesReply.{RangesUnder, Ranges};
+ghost use Rattle.group_sheet.specs.RangesGiven.{RangesReady, RangesWritten};
 
 // the ranges and the arrangement of a possible sheet, into a buffer with room for them
 fn put(groups: &[u16], size: u16, spans: &[u32], after: &[u32], reply: &mut [u8])
-    requires { ⌜ Placed (now groups) size (now spans) (now after) (now reply) ⌝ }
-    ensures { λ _. ⌜ RangesPlaced (now (groups .entry)) size (now (reply .entry)) (now (reply .exit)) ⌝ }
+    requires { ⌜ RangesReady (now groups) size (now spans) (now after) (now reply) ⌝ }
+    ensures { λ _. ⌜ RangesWritten (now (groups .entry)) size (now (reply .entry)) (now (reply .exit)) ⌝ }
 {
-    let mut ranges = [0u32; 256];
-    let mut rest = [0u32; 256];
+    let mut ranges = [0u32; SPAN_TABLE];
+    let mut rest = [0u32; SPAN_TABLE];
     narrow(groups, size, spans, after, &mut ranges, &mut rest);
-    let mut sizes = [0u32; 128];
-    let mut firsts = [0u32; 128];
-    let mut ends = [0u32; 128];
+    let mut sizes = [0u32; GROUP_CAPACITY];
+    let mut firsts = [0u32; GROUP_CAPACITY];
+    let mut ends = [0u32; GROUP_CAPACITY];
     arrange(
         groups,
         size,
@@ -43,26 +49,14 @@ fn put(groups: &[u16], size: u16, spans: &[u32], after: &[u32], reply: &mut [u8]
 // the reply under a sheet whose groups are in the table
 fn answer(groups: &[u16], size: u16, reply: &mut [u8]) -> u64
     requires { ⌜ Tabled (now groups) size ⌝ }
-    ensures { λ r. ⌜ RangesGiven (now (groups .entry)) size (now (reply .entry)) r (now (reply .exit)) ⌝ }
+    ensures { λ r. ⌜ RangesUnder (sheetIn (now (groups .entry)) size) (call (now (reply .entry)) r (now (reply .exit))) ⌝ }
 {
-    let flags = [3u8; 128];
-    let mut last = [0u16; 128];
-    let mut prev = [0u16; 128];
-    let mut spans = [0u32; 512];
-    let mut after = [0u32; 512];
-    measure_sheet(
-        groups,
-        size,
-        &flags,
-        &mut last,
-        &mut prev,
-        &mut spans,
-        &mut after,
-    );
-    if !possible(&spans) {
+    let mut spans = [0u32; PAIR_TABLE];
+    let mut after = [0u32; PAIR_TABLE];
+    if !measure(groups, size, &mut spans, &mut after) {
         return pack(8, 0);
     }
-    let bytes = 20 * size as usize;
+    let bytes = RANGE_BYTES * size as usize;
     if reply.len() < bytes {
         return pack(14, 0);
     }
@@ -72,13 +66,21 @@ fn answer(groups: &[u16], size: u16, reply: &mut [u8]) -> u64
 
 #[no_mangle]
 pub extern "C" fn sheet_ranges(sheet: &[u8], reply: &mut [u8]) -> u64
-    ensures { λ r. ⌜ Ranges (now (sheet .entry)) (now (reply .entry)) r (now (reply .exit)) ⌝ }
+    ensures { λ r. ⌜ Ranges (now (sheet .entry)) (call (now (reply .entry)) r (now (reply .exit))) ⌝ }
 {
     let mut groups = [0u16; GROUP_TABLE];
     let mut names = [0u16; NAME_TABLE];
     let mut labels = [0usize; LABEL_TABLE];
-    let mut claims = [0usize; CLAIM_TABLE];
-    match load_sheet(sheet, &mut groups, &mut names, &mut labels, &mut claims) {
+    let mut claims = [0u16; CLAIM_TABLE];
+    let mut places = [0usize; PLACE_TABLE];
+    match load_sheet(
+        sheet,
+        &mut groups,
+        &mut names,
+        &mut labels,
+        &mut claims,
+        &mut places,
+    ) {
         Loaded::Refused(n, record) => pack(n, record),
         Loaded::Sheet(head) => answer(&groups, head.groups, reply),
     }

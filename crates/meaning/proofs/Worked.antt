@@ -5,53 +5,57 @@ use mathlib.Core.Bool.{Bool, true, false, cond, _||_, false≢true}
 use mathlib.Core.List.{List, [], _∷_}
 use mathlib.Core.Logic.{_↔_, _⊎_, inl, inr, ⊎-elim}
 use native.Mathlib.Omega.{arith}
-use borrow.Author.Tests.{ltb-true, ltb-false, leb-true, leb-false, lt-ltb, le-leb}
+use borrow.Author.Tests.{ltb-true, ltb-false, leb-true, le-leb}
 use lib.Dec.{leb, ltb, eqb}
 use Rattle.wire.specs.SheetFormat.{GroupRecord, NameRecord, count, inside, apart}
 use Rattle.meaning.specs.Sum.{sum, bit}
 use native.Mathlib.Nat.{le-of-eq}
 use Rattle.meaning.proofs.SumLaws.{split, not-true-false, true-not-false, bit-le, bit-le-true, bit-most, true-bit, or-true, or-left, sum-le, sum-eq, sum-add, sum-zero, sum-tight}
 use Rattle.meaning.specs.Sheet.{Sheet, Group, Son, Top, fin, inf, AtMost}
-use Rattle.meaning.specs.Sets.{Sets, Distinct, numbered}
+use Rattle.meaning.specs.Sets.{Sets, numbered}
 use Rattle.meaning.specs.Sets as sets
 use Rattle.meaning.specs.Fits.{Meets, Fits, Possible, Attains, groupsOf}
 use Rattle.meaning.specs.Claim.{Claim, Breakable, countNamed}
 use Rattle.meaning.specs.OfRecords.{sheetOf, claimed, endOf}
 
 -- a group record: parent, lo, hi, mode
-abbrev row : ℕ → ℕ → ℕ → ℕ → GroupRecord
-row p l h m = record { parent = p; lo = l; hi = h; mode = m }
+abbrev group : ℕ → ℕ → ℕ → ℕ → GroupRecord
+group p l h m = record { parent = p; lo = l; hi = h; mode = m }
 
 -- Disjoint root with the given hi, sons with lo 2 and 2.
 abbrev pub pair : ℕ → Sheet
-pair h = sheetOf (row 0 0 h 1 ∷ row 1 2 65535 0 ∷ row 1 2 65535 0 ∷ [])
+pair h = sheetOf (group 0 0 h 1 ∷ group 1 2 65535 0 ∷ group 1 2 65535 0 ∷ [])
 
 -- 'Cover' leaf with the given lo.
 abbrev pub leaf : ℕ → Sheet
-leaf l = sheetOf (row 0 l 65535 2 ∷ [])
+leaf l = sheetOf (group 0 l 65535 2 ∷ [])
 
 -- 'Same' with 'disjoint', two sons; one son.
 abbrev pub twins : Sheet
-twins = sheetOf (row 0 0 65535 5 ∷ row 1 0 65535 0 ∷ row 1 0 65535 0 ∷ [])
+twins = sheetOf (group 0 0 65535 5 ∷ group 1 0 65535 0 ∷ group 1 0 65535 0 ∷ [])
 
 abbrev pub single : Sheet
-single = sheetOf (row 0 0 65535 5 ∷ row 1 0 65535 0 ∷ [])
+single = sheetOf (group 0 0 65535 5 ∷ group 1 0 65535 0 ∷ [])
 
 -- Root 5 to 5, no mode, sons A 0 to 5, B 5 to 5.
 abbrev pub forced : Sheet
-forced = sheetOf (row 0 5 5 0 ∷ row 1 0 5 0 ∷ row 1 5 5 0 ∷ [])
+forced = sheetOf (group 0 5 5 0 ∷ group 1 0 5 0 ∷ group 1 5 5 0 ∷ [])
 
 -- 'Cover' root with the given lo, sons with hi 3 and 2.
 abbrev pub shared : ℕ → Sheet
-shared l = sheetOf (row 0 l 65535 2 ∷ row 1 0 3 0 ∷ row 1 0 2 0 ∷ [])
+shared l = sheetOf (group 0 l 65535 2 ∷ group 1 0 3 0 ∷ group 1 0 2 0 ∷ [])
 
 -- Root without upper end.
 abbrev pub endless : Sheet
-endless = sheetOf (row 0 0 65535 0 ∷ [])
+endless = sheetOf (group 0 0 65535 0 ∷ [])
 
 -- names 1 to 3 for groups 1 to 3
 abbrev names : List NameRecord
 names = record { group = 1; label = 82 ∷ [] } ∷ record { group = 2; label = 65 ∷ [] } ∷ record { group = 3; label = 66 ∷ [] } ∷ []
+
+-- the claim holds: some sets fit, and none of them break it
+abbrev pub Holds : Sheet → Claim → Type 0
+Holds s c = Possible s × (Breakable s c → ⊥)
 
 -- the worked sheets, each as document 01 has it
 pub record Worked : Type 0 where
@@ -62,11 +66,11 @@ pub record Worked : Type 0 where
   pub twins-empty : (g : ℕ) → Group twins g → (k : ℕ) → Attains twins g k ↔ (k ≡ 0)
   pub single-any : (g : ℕ) → Group single g → (k : ℕ) → Attains single g k
   pub single-equal : (A : Sets ℕ) → Fits single A → sets.count A 2 ≡ sets.count A 1
-  pub forced-inside : Breakable forced (claimed names (inside (2 ∷ []) (3 ∷ []))) → ⊥
-  pub shared-five : Breakable (shared 5) (claimed names (apart (2 ∷ []) (3 ∷ []))) → ⊥
+  pub forced-inside : Holds forced (claimed names (inside (2 ∷ []) (3 ∷ [])))
+  pub shared-five : Holds (shared 5) (claimed names (apart (2 ∷ []) (3 ∷ [])))
   pub shared-four : Breakable (shared 4) (claimed names (apart (2 ∷ []) (3 ∷ [])))
   pub endless-below : Breakable endless (claimed names (count 1 0 65534))
-  pub endless-any : Breakable endless (claimed names (count 1 0 65535)) → ⊥
+  pub endless-any : Holds endless (claimed names (count 1 0 65535))
 
 -- the only sons of these sheets
 three : (s : Sheet) → s .size ≡ 3 → s .parent 1 ≡ 0 → s .parent 2 ≡ 1 → s .parent 3 ≡ 1 → (p g : ℕ) → Son s p g
@@ -102,13 +106,6 @@ module _ {s : Sheet} {A : Sets ℕ} (w : Fits s A) where
       rw (← (sum-add (λ i. bit (groupsOf A i g)) (λ i. bit (groupsOf A i h)) (A .bound)))
       (sum-le _ _ (A .bound) (λ i l. q (groupsOf A i) (w .rules i l)))
 
-  over-two : (p g h : ℕ) → ((M : ℕ → Bool) → Meets s M → bit (M p) ≤ bit (M g) + bit (M h))
-      → sets.count A p ≤ sets.count A g + sets.count A h
-  unfolding sets.count
-  over-two p g h q =
-      rw (← (sum-add (λ i. bit (groupsOf A i g)) (λ i. bit (groupsOf A i h)) (A .bound)))
-      (sum-le _ _ (A .bound) (λ i l. q (groupsOf A i) (w .rules i l)))
-
   as-one : (p g : ℕ) → ((M : ℕ → Bool) → Meets s M → M g ≡ M p) → sets.count A g ≡ sets.count A p
   unfolding sets.count
   as-one p g q = sum-eq _ _ (A .bound) (λ i l. ap bit (q (groupsOf A i) (w .rules i l)))
@@ -121,9 +118,11 @@ module _ {s : Sheet} {A : Sets ℕ} (w : Fits s A) where
 two-apart : {s : Sheet} {M : ℕ → Bool} → Meets s M → (p g h : ℕ) → Son s p g → Son s p h → (g ≡ h → ⊥) → s .disjoint p ≡ true
     → bit (M g) + bit (M h) ≤ bit (M p)
 two-apart {M = M} w p g h a b d e =
+    let first : M g ≡ true → M p ≡ true = w .inside p g a in
+    let second : M h ≡ true → M p ≡ true = w .inside p h b in
     split (M g)
-    (λ x. split (M h) (λ y. absurd (d (w .apart p g h a b e x y))) (λ y. rw (x, y, w .inside p g a x) (omega arith)))
-    (λ x. split (M h) (λ y. rw (x, y, w .inside p h b y) (omega arith)) (λ y. rw (x, y) zero-le))
+    (λ x. split (M h) (λ y. absurd (d (w .apart p g h a b e x y))) (λ y. rw (x, y, first x) (omega arith)))
+    (λ x. split (M h) (λ y. rw (x, y, second y) (omega arith)) (λ y. rw (x, y) zero-le))
 
 -- a 'cover' group with two sons, as bits
 two-cover : {s : Sheet} {M : ℕ → Bool} → Meets s M → (p g h : ℕ) → Group s p → ((k : ℕ) → Son s p k → (k ≡ g) ⊎ (k ≡ h))
@@ -131,9 +130,10 @@ two-cover : {s : Sheet} {M : ℕ → Bool} → Meets s M → (p g h : ℕ) → G
 two-cover {M = M} w p g h q only e =
     split (M p)
     (λ x. let c = w .covered p q e x in
+    let held : M (c .0) ≡ true = c .2 in
     rw x
-    (⊎-elim (λ (k : c .0 ≡ g). let y : M g ≡ true = rw k at (c .2) in rw y (omega arith))
-    (λ (k : c .0 ≡ h). let y : M h ≡ true = rw k at (c .2) in rw y (omega arith))
+    (⊎-elim (λ (k : c .0 ≡ g). let y : M g ≡ true = rw k at held in rw y (omega arith))
+    (λ (k : c .0 ≡ h). let y : M h ≡ true = rw k at held in rw y (omega arith))
     (only (c .0) (c .1))))
     (λ x. rw x zero-le)
 
@@ -166,9 +166,9 @@ unfolding everybody sets.count sum
 count-everybody zero g = refl
 count-everybody (suc n) g = omega (arith, count-everybody n g)
 
--- the root has the numbers below 4, its sons those below a and those from b on
-overlap : ℕ → ℕ → Sets ℕ
-overlap a b = numbered 4 (λ g m. cond (eqb g 2) (ltb m a) (cond (eqb g 3) (leb b m) true))
+-- the root has the numbers below n, its sons those below a and those from b on
+overlap : ℕ → ℕ → ℕ → Sets ℕ
+overlap n a b = numbered n (λ g m. cond (eqb g 2) (ltb m a) (cond (eqb g 3) (leb b m) true))
 
 pair-sons : (h p g : ℕ) → Son (pair h) p g → (p ≡ 1) × ((g ≡ 2) ⊎ (g ≡ 3))
 pair-sons h = three (pair h) refl refl refl refl
@@ -187,7 +187,7 @@ no-pair w =
 some-pair : Possible (pair 4)
 unfolding overlap endOf sets.count sum
 some-pair = (
-  overlap 2 2,
+  overlap 4 2 2,
   record {
     distinct = record { once = λ i j k l e. e };
     rules = λ i l. record {
@@ -202,8 +202,8 @@ some-pair = (
           (λ (v : h ≡ 3). u ∙ sym v) (pair-sons 4 p h b .1))
           (pair-sons 4 p g a .1);
     };
-    least = each (λ g. pair 4 .lo g ≤ sets.count (overlap 2 2) g) (pair 4) refl (omega arith) (omega arith) (omega arith);
-    most = each (λ g. AtMost (sets.count (overlap 2 2) g) (pair 4 .hi g)) (pair 4) refl (omega arith) tt tt;
+    least = each (λ g. pair 4 .lo g ≤ sets.count (overlap 4 2 2) g) (pair 4) refl (omega arith) (omega arith) (omega arith);
+    most = each (λ g. AtMost (sets.count (overlap 4 2 2) g) (pair 4 .hi g)) (pair 4) refl (omega arith) (omega arith) (omega arith);
   },
 )
   where
@@ -236,25 +236,42 @@ twins-nobody A w =
 twins-sets : Fits twins (numbered 0 (λ g m. false))
 twins-sets = empty-fits twins (each (λ g. twins .lo g ≡ 0) twins refl refl refl refl)
 
--- everybody in both groups
-single-sets : (k : ℕ) → Fits single (everybody k)
-unfolding everybody endOf
-single-sets k = record {
+-- everybody in every group fits where no group is 'cover' and a 'disjoint' group has one son at most
+everybody-fits : (s : Sheet) (n : ℕ) → ((p : ℕ) → Group s p → s .cover p ≡ true → ⊥)
+    → ((p g h : ℕ) → Son s p g → Son s p h → s .disjoint p ≡ true → g ≡ h)
+    → ((g : ℕ) → Group s g → (s .lo g ≤ n) × AtMost n (s .hi g)) → Fits s (everybody n)
+unfolding everybody
+everybody-fits s n no-cover one-son bounds = record {
   distinct = record { once = λ i j a b e. e };
   rules = λ i l. record {
     inside = λ p g a e. refl;
     equal = λ p g a e x. refl;
-    covered = λ p q e. absurd (each-two (λ p. single .cover p ≡ true → ⊥) single (omega arith) false≢true false≢true p q e);
-    apart = λ p g h a b e x y. only-son g h (a .group) (b .group) (omega (arith, a .above, a .under)) (omega (arith, b .above, b .under));
+    covered = λ p q e. absurd (no-cover p q e);
+    apart = λ p g h a b e x y. one-son p g h a b e;
   };
-  least = each-two (λ g. single .lo g ≤ sets.count (everybody k) g) single (omega arith) zero-le zero-le;
-  most = each-two (λ g. AtMost (sets.count (everybody k) g) (single .hi g)) single (omega arith) tt tt;
+  least = λ g q. rw (count-everybody n g) (bounds g q .0);
+  most = λ g q. rw (count-everybody n g) (bounds g q .1);
 }
+
+-- everybody in both groups
+single-sets : (k : ℕ) → Fits single (everybody k)
+unfolding endOf
+single-sets k =
+    everybody-fits single k (each-two (λ p. single .cover p ≡ true → ⊥) single (omega arith) false≢true false≢true)
+    (λ p g h a b e. only-son g h (a .group) (b .group) (omega (arith, a .above, a .under)) (omega (arith, b .above, b .under)))
+    (each-two (λ g. (single .lo g ≤ k) × AtMost k (single .hi g)) single (omega arith) (zero-le, tt) (zero-le, tt))
   where
     only-son : (g h : ℕ) → Group single g → Group single h → 1 ≤ single .parent g → 1 ≤ single .parent h → g ≡ h
     only-son g h a b =
         each-two (λ g. 1 ≤ single .parent g → 1 ≤ single .parent h → g ≡ h) single (omega arith) (λ c d. absurd (omega arith))
         (λ c. each-two (λ h. 1 ≤ single .parent h → 2 ≡ h) single (omega arith) (λ d. absurd (omega arith)) (λ d. refl) h b) g a
+
+forced-sets : Fits forced (everybody 5)
+unfolding endOf
+forced-sets =
+    everybody-fits forced 5 (each (λ p. forced .cover p ≡ true → ⊥) forced refl false≢true false≢true false≢true)
+    (λ p g h a b e. absurd (false≢true (rw (three forced refl refl refl refl p g a .0) at e)))
+    (each (λ g. (forced .lo g ≤ 5) × (AtMost 5 (forced .hi g))) forced refl (omega arith) (omega arith) (omega arith))
 
 -- B has as many as the root and is part of it, so it is the root
 inside-forced : (A : Sets ℕ) → Fits forced A → (i : ℕ) → i < A .bound → groupsOf A i 2 ≡ true → groupsOf A i 3 ≡ true
@@ -286,38 +303,47 @@ shared-nobody A w i l x y =
     )) i l in
     omega (arith, bit-most (groupsOf A i 1), true-bit x, true-bit y)
 
-shared-sets : Fits (shared 4) (overlap 3 2)
-unfolding overlap endOf sets.count sum
-shared-sets = record {
+-- sets of l members, 3 of them in the first son, those from b on in the second
+shared-sets : (l b : ℕ) → b ≤ 3 → ((g : ℕ) → Group (shared l) g → shared l .lo g ≤ sets.count (overlap l 3 b) g)
+    → ((g : ℕ) → Group (shared l) g → AtMost (sets.count (overlap l 3 b) g) (shared l .hi g)) → Fits (shared l) (overlap l 3 b)
+unfolding overlap
+shared-sets l b h least most = record {
   distinct = record { once = λ i j k l e. e };
-  rules = λ i l. record {
-    inside = λ p g k e. rw (shared-sons 4 p g k .0);
-    equal = λ p g k e. absurd (false≢true (rw (shared-sons 4 p g k .0) at e));
+  rules = λ i k. record {
+    inside = λ p g o e. rw (shared-sons l p g o .0);
+    equal = λ p g o e. absurd (false≢true (rw (shared-sons l p g o .0) at e));
     covered =
         each
-        (λ p. shared 4 .cover p ≡ true → overlap 3 2 .has p i ≡ true → (g : ℕ) × Son (shared 4) p g × (overlap 3 2 .has g i ≡ true))
-        (shared 4) refl
-        (λ e x. split (ltb i 3) (λ y. (2, omega arith, y)) (λ y. (3, omega arith, le-leb 2 i (omega (arith, ltb-false i 3 y)))))
+        (λ p. shared l .cover p ≡ true → overlap l 3 b .has p i ≡ true → (g : ℕ) × Son (shared l) p g × (overlap l 3 b .has g i ≡ true))
+        (shared l) refl
+        (λ e x. split (ltb i 3) (λ y. (2, omega arith, y)) (λ y. (3, omega arith, le-leb b i (omega (arith, ltb-false i 3 y)))))
         (λ e. absurd (false≢true e)) (λ e. absurd (false≢true e));
-    apart = λ p g h a b e. absurd (false≢true (rw (shared-sons 4 p g a .0) at e));
+    apart = λ p g h o j e. absurd (false≢true (rw (shared-sons l p g o .0) at e));
   };
-  least = each (λ g. shared 4 .lo g ≤ sets.count (overlap 3 2) g) (shared 4) refl (omega arith) (omega arith) (omega arith);
-  most = each (λ g. AtMost (sets.count (overlap 3 2) g) (shared 4 .hi g)) (shared 4) refl tt (omega arith) (omega arith);
+  least = least;
+  most = most;
 }
 
+shared-four-sets : Fits (shared 4) (overlap 4 3 2)
+unfolding overlap endOf sets.count sum
+shared-four-sets =
+    shared-sets 4 2 (omega arith)
+    (each (λ g. shared 4 .lo g ≤ sets.count (overlap 4 3 2) g) (shared 4) refl (omega arith) (omega arith) (omega arith))
+    (each (λ g. AtMost (sets.count (overlap 4 3 2) g) (shared 4 .hi g)) (shared 4) refl tt (omega arith) (omega arith))
+
+shared-five-sets : Fits (shared 5) (overlap 5 3 3)
+unfolding overlap endOf sets.count sum
+shared-five-sets =
+    shared-sets 5 3 (omega arith)
+    (each (λ g. shared 5 .lo g ≤ sets.count (overlap 5 3 3) g) (shared 5) refl (omega arith) (omega arith) (omega arith))
+    (each (λ g. AtMost (sets.count (overlap 5 3 3) g) (shared 5 .hi g)) (shared 5) refl tt (omega arith) (omega arith))
+
 endless-sets : (n : ℕ) → Fits endless (everybody n)
-unfolding everybody endOf
-endless-sets n = record {
-  distinct = record { once = λ i j a b e. e };
-  rules = λ i l. record {
-    inside = λ p g a e. refl;
-    equal = λ p g a e x. refl;
-    covered = λ p q e. absurd (each-two (λ p. endless .cover p ≡ true → ⊥) endless (omega arith) false≢true false≢true p q e);
-    apart = λ p g h a b e x y. omega (arith, a .group, b .group);
-  };
-  least = each-two (λ g. endless .lo g ≤ sets.count (everybody n) g) endless (omega arith) zero-le zero-le;
-  most = λ g q. let one : g ≡ 1 = omega (arith, q) in rw one tt;
-}
+unfolding endOf
+endless-sets n =
+    everybody-fits endless n (each-two (λ p. endless .cover p ≡ true → ⊥) endless (omega arith) false≢true false≢true)
+    (λ p g h a b e. omega (arith, a .group, b .group))
+    (λ g q. let one : g ≡ 1 = omega (arith, q) in rw one (zero-le, tt))
 
 -- a count of a named group is the group's count
 count-named : {X : Type 0} (A : Sets X) (g : ℕ) → countNamed A (suc g) ≡ sets.count A (suc g)
@@ -327,7 +353,7 @@ count-named A g = refl
 -- the member that both sons share
 shared-break : Breakable (shared 4) (claimed names (apart (2 ∷ []) (3 ∷ [])))
 unfolding claimed overlap
-shared-break = (overlap 3 2, shared-sets, λ says. says 2 (omega arith) refl refl)
+shared-break = (overlap 4 3 2, shared-four-sets, λ says. says 2 (omega arith) refl refl)
 
 -- one name alone
 alone : (b : Bool) → (b || false) ≡ true → b ≡ true
@@ -349,9 +375,15 @@ worked = record {
   );
   single-any = λ g q k. (everybody k, single-sets k, count-everybody k g);
   single-equal = λ A w. as-one w 1 2 (λ M m. both-ways _ _ (m .inside 1 2 (omega arith)) (m .equal 1 2 (omega arith) refl));
-  forced-inside = λ w. w .2 (λ i l x. or-left _ false (inside-forced (w .0) (w .1) i l (alone _ x)));
-  shared-five = λ w. w .2 (λ i l x y. shared-nobody (w .0) (w .1) i l (alone _ x) (alone _ y));
+  forced-inside = (
+    (everybody 5, forced-sets),
+    λ w. w .2 (λ i l x. or-left _ false (inside-forced (w .0) (w .1) i l (alone _ x))),
+  );
+  shared-five = (
+    (overlap 5 3 3, shared-five-sets),
+    λ w. w .2 (λ i l x y. shared-nobody (w .0) (w .1) i l (alone _ x) (alone _ y)),
+  );
   shared-four = shared-break;
   endless-below = (everybody 65535, endless-sets 65535, λ says. omega (arith, says .1, count-named (everybody 65535) 0, count-everybody 65535 1));
-  endless-any = λ w. w .2 (zero-le, tt);
+  endless-any = ((everybody 0, endless-sets 0), λ w. w .2 (zero-le, tt));
 }

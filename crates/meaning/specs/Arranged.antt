@@ -2,7 +2,7 @@
 -- bounds: the least and the greatest count of a group, before any parent has narrowed them.
 use Prim.Native.Nat.{ℕ, zero, suc, _+_, _-_, min}
 use mathlib.Core.Path.{_≡_}
-use mathlib.Core.Bool.{Bool, true, false, cond, _&&_}
+use mathlib.Core.Bool.{cond, _&&_}
 use lib.Dec.{ltb}
 use Rattle.meaning.specs.Sum.{sum}
 use Rattle.meaning.specs.Sheet.{Sheet, Son, Top, fin, inf}

@@ -1,7 +1,7 @@
 -- What records mean: the sheet of its group records, the claim of a claim record, the sets that a register lists.
 -- Document 01, "Records of a sheet", "Meaning" and "Registers".
 use Prim.Native.Nat.{ℕ, _-_, _/_, _%_}
-use mathlib.Core.Bool.{Bool, true, false, cond, _&&_, _||_}
+use mathlib.Core.Bool.{Bool, false, cond, _&&_, _||_}
 use mathlib.Core.List.{List, [], _∷_, map}
 use lib.ListN.{length, getD}
 use lib.Dec.{eqb}
@@ -60,10 +60,14 @@ unfoldable pub listed : List Row → ℕ → ℕ → Bool
 listed [] g x = false
 listed (r ∷ rs) g x = eqb (r .member) x && inGroup r g || listed rs g x
 
+-- past the last row
+abbrev pub noRow : Row
+noRow = record { member = 0; bits = [] }
+
 -- the sets that a register lists: one member for each row
 abbrev pub listedSets : List Row → Sets ℕ
 listedSets rs = record {
   bound = length rs;
-  who = λ i. getD rs i (record { member = 0; bits = [] }) .member;
+  who = λ i. getD rs i noRow .member;
   has = listed rs;
 }

@@ -4,12 +4,12 @@ use mathlib.Core.Path.{_≡_}
 use mathlib.Core.List.{List}
 use native.Mathlib.Omega.{arith}
 use lib.ListN.{length}
-use Rattle.wire.specs.Limits.{boundLimit, modeLimit, noEnd}
+use Rattle.wire.specs.Limits.{boundLimit, noEnd}
 use Rattle.wire.specs.Record.{read}
 use Rattle.wire.specs.SheetFormat.{Records, readSheet}
-use Rattle.wire.specs.Encoding.{Right, WithinLimits}
+use Rattle.wire.specs.Encoding.{Right, SheetWithin}
 use Rattle.wire.specs.Facts.{read-right, ParentRight, root-parent, group-at, parent-at, name-at, end-at}
-use Rattle.meaning.specs.Sheet.{Group, Tree}
+use Rattle.meaning.specs.Sheet.{Group, Tree, Rooted}
 use Rattle.meaning.specs.OfRecords.{groupAt, sheetOf, nameGroup}
 
 module _ {d : Records} (R : Right d) (g : ℕ) (G : Group (sheetOf (d .groups)) g) where
@@ -24,9 +24,6 @@ module _ {d : Records} (R : Right d) (g : ℕ) (G : Group (sheetOf (d .groups)) 
   pub lo-most : groupAt (d .groups) g .lo ≤ boundLimit
   lo-most = group-at R (g - 1) _ (omega arith) .lo
 
-  pub mode-most : groupAt (d .groups) g .mode ≤ modeLimit
-  mode-most = group-at R (g - 1) _ (omega arith) .mode
-
 pub root-under-none : {d : Records} → Right d → groupAt (d .groups) 1 .parent ≡ 0
 root-under-none R = root-parent R _
 
@@ -37,11 +34,15 @@ pub name-group-most : {d : Records} → Right d → (n : ℕ) → 1 ≤ n → n 
     → nameGroup (d .names) n ≤ length (d .groups)
 name-group-most R n h k = name-at R (n - 1) _ (omega arith) .group
 
-pub hi-most : {d : Records} → WithinLimits d → (g : ℕ) → Group (sheetOf (d .groups)) g → groupAt (d .groups) g .hi ≤ noEnd
+pub hi-most : {d : Records} → SheetWithin d → (g : ℕ) → Group (sheetOf (d .groups)) g → groupAt (d .groups) g .hi ≤ noEnd
 hi-most w g G = end-at w (g - 1) _ (omega arith)
 
 pub tree-of-right : {d : Records} → Right d → Tree (sheetOf (d .groups))
 tree-of-right R = record { before = λ g G. parent-below R g G }
+
+-- group 1 of a readable sheet is its one root
+pub rooted-of-right : {d : Records} → Right d → Rooted (sheetOf (d .groups))
+rooted-of-right R = record { one = root-group R; top = root-under-none R; rest = λ g G two. parent-group R g G two }
 
 -- every readable sheet is a tree
 pub tree-of-readable : (b : List ℕ) (d : Records) → readSheet b ≡ read d → Tree (sheetOf (d .groups))

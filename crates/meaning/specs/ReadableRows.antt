@@ -8,19 +8,16 @@ use native.Mathlib.Omega.{arith}
 use native.Mathlib.Decide.{decLe}
 use lib.ListN.{length, getD}
 use borrow.Author.Tests.{eq-eqb, ne-eqb}
+use Rattle.wire.specs.Edition.{Edition}
 use Rattle.wire.specs.Record.{read}
 use Rattle.wire.specs.RegisterFormat.{Row, inGroup, readRegister}
 use Rattle.wire.specs.Encoding.{Each, RowRight}
 use Rattle.wire.specs.RowFacts.{members-rise}
 use Rattle.wire.specs.RoundTripRegister.{register-read}
 use Rattle.meaning.specs.Sets.{Distinct}
-use Rattle.meaning.specs.OfRecords.{listed, listedSets}
+use Rattle.meaning.specs.OfRecords.{listed, noRow, listedSets}
 
--- past the last row
-abbrev pub noRow : Row
-noRow = record { member = 0; bits = [] }
-
-pub distinct-of-right : {groups : ℕ} {rs : List Row} → Each (RowRight groups) [] rs → Distinct (listedSets rs)
+pub distinct-of-right : {e : Edition} {groups : ℕ} {rs : List Row} → Each (RowRight e groups) [] rs → Distinct (listedSets rs)
 distinct-of-right {rs} right =
     record {
       once = λ i j hi hj e.
@@ -31,8 +28,9 @@ distinct-of-right {rs} right =
           (λ h. absurd (omega (arith, members-rise right noRow j i (omega arith) hi)));
     }
 
-pub distinct-of-readable : (groups : ℕ) (b : List ℕ) (rs : List Row) → readRegister groups b ≡ read rs → Distinct (listedSets rs)
-distinct-of-readable groups b rs e = distinct-of-right (register-read groups b rs e .right)
+pub distinct-of-readable : (e : Edition) (groups : ℕ) (b : List ℕ) (rs : List Row) → readRegister e groups b ≡ read rs
+    → Distinct (listedSets rs)
+distinct-of-readable e groups b rs x = distinct-of-right (register-read e groups b rs x .right)
 
 -- who has no row is in no group
 unlisted : (rs : List Row) (g x : ℕ) → ((i : ℕ) → i < length rs → getD rs i noRow .member ≡ x → ⊥) → listed rs g x ≡ false

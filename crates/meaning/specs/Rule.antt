@@ -1,7 +1,7 @@
 -- The six rules of a register, and when sets break one at a group: document 01, "Registers".
 use Prim.Native.Nat.{ℕ, _<_}
 use mathlib.Core.Path.{_≡_}
-use mathlib.Core.Bool.{Bool, true, false}
+use mathlib.Core.Bool.{true, false}
 use Rattle.meaning.specs.Sheet.{Sheet, Group, Son, AtMost}
 use Rattle.meaning.specs.Sets.{Sets, count}
 use mathlib.Core.Logic.{_↔_}

@@ -3,14 +3,13 @@ use Prim.Native.Nat.{ℕ, _-_, _*_, _≤_, _<_}
 use mathlib.Core.Bool.{Bool}
 use mathlib.Core.List.{List}
 use lib.ListN.{length}
-use Rattle.wire.specs.Limits.{groupLimit}
-use Rattle.meaning.specs.Sheet.{Sheet, Group, Son, Tree}
+use Rattle.meaning.specs.Sheet.{Sheet, Group, Son}
+use Rattle.reading.specs.SheetIn.{sheetIn, Tabled}
 use Rattle.sizes.specs.Span.{Span}
 use Rattle.sizes.specs.Fold.{later}
 use Rattle.measuring.specs.Held.{Alike}
-use Rattle.measuring.specs.Tables.{sheetIn}
 use Rattle.measuring.specs.Links.{Links}
-use Rattle.measuring.specs.Pairs.{pairIn}
+use Rattle.measuring.specs.Pairs.{pairFields, pairIn}
 
 -- h is g or a group below it
 pub data Within (s : Sheet) : ℕ → ℕ → Type 0 where
@@ -42,14 +41,12 @@ pub record Done (s : Sheet) (z : ℕ → Bool → Span) (g i : ℕ) (spans after
   pub followed : (h : ℕ) → Under s g i h → Followed s z after' h
   pub stays : Stays s z spans after spans' after'
 
--- the table of n groups is that of a tree, and it and the tables beside it are long enough
+-- the tables beside that of n groups are long enough
 pub record Long (groups : List ℕ) (n : ℕ) (flags last prev : List ℕ) : Type 0 where
-  pub small : n ≤ groupLimit
-  pub groups-long : 4 * n ≤ length groups
+  pub tabled : Tabled groups n
   pub flags-long : n ≤ length flags
   pub last-long : n ≤ length last
   pub prev-long : n ≤ length prev
-  pub tree : Tree (sheetIn groups n)
 
 -- the tables that are read, the links among them
 pub record Readable (groups : List ℕ) (n : ℕ) (flags last prev : List ℕ) : Type 0 where
@@ -58,8 +55,8 @@ pub record Readable (groups : List ℕ) (n : ℕ) (flags last prev : List ℕ) :
 
 -- the tables of spans are long enough
 pub record Lent (n : ℕ) (spans after : List ℕ) : Type 0 where
-  pub spans-long : 4 * n ≤ length spans
-  pub after-long : 4 * n ≤ length after
+  pub spans-long : pairFields * n ≤ length spans
+  pub after-long : pairFields * n ≤ length after
 
 -- all groups are measured
 pub record AllDone (s : Sheet) (z : ℕ → Bool → Span) (spans after : List ℕ) : Type 0 where

@@ -7,18 +7,19 @@ use native.Mathlib.Omega.{arith}
 use borrow.Author.Tests.{eq-eqb, ne-eqb, lt-ltb}
 use lib.Dec.{ltb, eqb}
 use lib.ListN.{getD}
-use Rattle.wire.specs.Limits.{noEnd, groupLimit}
-use Rattle.meaning.specs.Sheet.{Sheet, Group, Son, Tree}
+use Rattle.wire.specs.Limits.{noEnd}
+use Rattle.meaning.specs.Sheet.{Sheet, Group, Son, Tree, Rooted}
 use Rattle.meaning.specs.OfRecords.{endOf, disjointMode, coverMode, sameMode}
 use Rattle.meaning.specs.Sons.{sonCount}
+use Rattle.reading.specs.Tables.{groupFields, groupIn}
+use Rattle.reading.specs.SheetIn.{sheetIn, Tabled, size-in, lo-in, hi-in, disjoint-in, cover-in, same-in}
 use Rattle.sizes.specs.Span.{Span, Kind, meet}
-use Rattle.sizes.specs.Fold.{kindOf, shut, start, joined, later, own}
-use Rattle.sizes.specs.Ranged.{Rooted}
+use Rattle.sizes.specs.Fold.{kindOf, shut, start, joined, later, own, Measured}
 use Rattle.sizes.specs.Bounds.{topWeight, Small, span-small, later-small}
 use Rattle.sizes.specs.MeasuredLaws.{spans-measured}
-use Rattle.sizes.specs.SumLaws.{compare-eq, compare-le, true-not-false, son-is}
-use Rattle.measuring.specs.Held.{Alike, Room, RoomBoth, room, shutBy}
-use Rattle.measuring.specs.Tables.{sheetIn, mayIn, spansIn, size-in, lo-in, hi-in, disjoint-in, cover-in, same-in}
+use Rattle.meaning.proofs.SumLaws.{compare-eq, compare-le, true-not-false, son-is}
+use Rattle.measuring.specs.Held.{Alike, Room, RoomBoth, shutBy}
+use Rattle.measuring.specs.Tables.{mayIn, spansIn}
 use Rattle.measuring.specs.Links.{linkIn, sonBelow, Links}
 use Rattle.measuring.specs.LinksLaws.{count-by, below-gap, below-son, last-is, last-son, next-is, later-last, later-next}
 use Rattle.measuring.specs.Pairs.{pairIn, PairPut}
@@ -122,9 +123,9 @@ done-son s z g i t₀ a₀ t a t' a' a'' k d e m w =
     group h u = within-group (u .is .group) (u .at)
 
 -- the spans of g are put when all below it are measured
-pub done-put : (s : Sheet) (z : ℕ → Bool → Span) (g : ℕ) (t₀ a₀ t a t' : List ℕ) → Done s z g 0 t₀ a₀ t a → PairPut t g (z g) t'
+pub done-put : {s : Sheet} {z : ℕ → Bool → Span} {g : ℕ} {t₀ a₀ t a t' : List ℕ} → Done s z g 0 t₀ a₀ t a → PairPut t g (z g) t'
     → Done s z g 0 t₀ a₀ t' a
-done-put s z g t₀ a₀ t a t' d w =
+done-put {s} {z} d w =
     record {
       spanned = λ h u. put-spanned s z w h (within-group (u .is .group) (u .at)) (d .spanned h u);
       followed = d .followed;
@@ -159,17 +160,17 @@ shut-cases true d c n a b x y w =
     (λ k. rw (ne-eqb a 0 h, ne-eqb b 0 k, lt-ltb 1 n (w h k))))
 
 pub shut-in : (t : List ℕ) (n g a b : ℕ) → Group (sheetIn t n) g → a ≡ sonBelow (sheetIn t n) g (suc n)
-    → b ≡ sonBelow (sheetIn t n) g a → shut (sheetIn t n) g ≡ shutBy (getD t (4 * (g - 1) + 3) 0) a b
+    → b ≡ sonBelow (sheetIn t n) g a → shut (sheetIn t n) g ≡ shutBy (groupIn t (g - 1) .mode) a b
 unfolding shut shutBy
 shut-in t n g a b k d e =
     let s = sheetIn t n in
     let w = count-by s g a b (d ∙ ap (λ m. sonBelow s g (suc m)) (sym (size-in t n))) e in
-    let m : ℕ = getD t (4 * (g - 1) + 3) 0 in
+    let m : ℕ = groupIn t (g - 1) .mode in
     rw (same-in t n g k, disjoint-in t n g k, cover-in t n g k)
     (shut-cases (sameMode m) (disjointMode m) (coverMode m) (sonCount s g) a b (w .0) (w .1) (w .2))
 
 pub shut-linked : (t : List ℕ) (n g : ℕ) (last prev : List ℕ) → Links (sheetIn t n) last prev n → Group (sheetIn t n) g
-    → shut (sheetIn t n) g ≡ shutBy (getD t (4 * (g - 1) + 3) 0) (linkIn last g) (linkIn prev (linkIn last g))
+    → shut (sheetIn t n) g ≡ shutBy (groupIn t (g - 1) .mode) (linkIn last g) (linkIn prev (linkIn last g))
 shut-linked t n g last prev w k =
     shut-in t n g (linkIn last g) (linkIn prev (linkIn last g)) k (last-is t n last prev w g k)
     (next-is t n last prev w g k (linkIn last g) (last-son t n last prev w g k))
@@ -178,33 +179,24 @@ shut-linked t n g last prev w k =
 pub small-in : (t : List ℕ) (n : ℕ) → ((i : ℕ) → getD t i 0 ≤ noEnd) → Small (sheetIn t n) noEnd
 small-in t n f =
     record {
-      lo = λ g k. rw (lo-in t n g k) (f (4 * (g - 1) + 1));
-      hi = λ g k. rw (hi-in t n g k) (field (getD t (4 * (g - 1) + 2) 0) (f (4 * (g - 1) + 2)));
+      lo = λ g k. rw (lo-in t n g k) (f (groupFields * (g - 1) + 1));
+      hi = λ g k. rw (hi-in t n g k) (field (groupIn t (g - 1) .hi) (f (groupFields * (g - 1) + 2)));
     }
   where
     field : (h : ℕ) → h ≤ noEnd → topWeight (endOf h) ≤ noEnd
     field h l = compare-eq h noEnd (λ e. rw e (unfold endOf in omega arith)) (λ e. unfold endOf in rw (ne-eqb h noEnd e) l)
 
 -- so there is room for every sum
-module _ (t : List ℕ) (n : ℕ) (f : List ℕ) (w : Tree (sheetIn t n)) (l : n ≤ groupLimit) (b : (i : ℕ) → getD t i 0 ≤ noEnd) where
-  pub room-span : (g : ℕ) → Group (sheetIn t n) g → (c : Bool) → Room (spansIn t n f g c)
+module _ {t : List ℕ} {n : ℕ} {may : ℕ → Bool → Bool} {z : ℕ → Bool → Span} (w : Tabled t n)
+    (b : (i : ℕ) → getD t i 0 ≤ noEnd) (m : Measured (sheetIn t n) may z) where
+  pub room-span : (g : ℕ) → Group (sheetIn t n) g → (c : Bool) → Room (z g c)
   room-span g k c =
-      let s = sheetIn t n in
-      omega (
-        arith,
-        span-small s (mayIn f) (spansIn t n f) noEnd w (spans-measured s (mayIn f) w) (small-in t n b) g k c,
-        size-in t n,
-      )
+      omega (arith, span-small (sheetIn t n) may z noEnd (w .tree) m (small-in t n b) g k c, size-in t n, w .small)
 
-  pub room-later : (g k : ℕ) (c : Bool) → k ≤ n → Room (later (sheetIn t n) (spansIn t n f) g k c)
+  pub room-later : (g k : ℕ) (c : Bool) → k ≤ n → Room (later (sheetIn t n) z g k c)
   room-later g k c h =
-      let s = sheetIn t n in
-      omega (
-        arith,
-        later-small s (mayIn f) (spansIn t n f) noEnd w (spans-measured s (mayIn f) w) (small-in t n b) g k c
-            (rw (size-in t n) h),
-        size-in t n,
-      )
+      let l = rw (← size-in t n) at h in
+      omega (arith, later-small (sheetIn t n) may z noEnd (w .tree) m (small-in t n b) g k c l, size-in t n, w .small)
 
 -- The walk over the sons of g has come to son i, or is through at 0: the sons after i are measured and joined.
 pub record AtSon (s : Sheet) (z : ℕ → Bool → Span) (g i : ℕ) (sum : Bool → Span)
@@ -213,7 +205,10 @@ pub record AtSon (s : Sheet) (z : ℕ → Bool → Span) (g i : ℕ) (sum : Bool
   pub done : Done s z g i spans after spans' after'
   pub joins : Alike sum (later s z g (s .size - i))
 
-module _ (t : List ℕ) (n : ℕ) (f last prev : List ℕ) (w : Readable t n f last prev) (g : ℕ) (k : Group (sheetIn t n) g) where
+module _ {t : List ℕ} {n : ℕ} {f last prev : List ℕ} (w : Readable t n f last prev) {g : ℕ} (k : Group (sheetIn t n) g) where
+  measured : Measured (sheetIn t n) (mayIn f) (spansIn t n f)
+  measured = spans-measured (sheetIn t n) (mayIn f) (w .long .tabled .tree)
+
   same-last : linkIn last g ≡ sonBelow (sheetIn t n) g (suc (sheetIn t n .size))
   same-last = last-is t n last prev (w .links) g k ∙ ap (λ m. sonBelow (sheetIn t n) g (suc m)) (sym (size-in t n))
 
@@ -227,12 +222,12 @@ module _ (t : List ℕ) (n : ℕ) (f last prev : List ℕ) (w : Readable t n f l
         joins = λ c. h c ∙ sym (rw d (later-last (sheetIn t n) (spansIn t n f) g c));
       }
 
-  pub at-next : (i j : ℕ) (sum sum' y : Bool → Span) (t₀ a₀ t₁ a₁ t₂ a₂ a₃ : List ℕ)
+  pub at-next : {i j : ℕ} {sum : Bool → Span} (sum' y : Bool → Span) {t₀ a₀ t₁ a₁ t₂ a₂ a₃ : List ℕ}
       → AtSon (sheetIn t n) (spansIn t n f) g i sum t₀ a₀ t₁ a₁ → 1 ≤ i
       → Done (sheetIn t n) (spansIn t n f) i 0 t₁ a₁ t₂ a₂ → Spanned (spansIn t n f) t₂ i → PairPut a₂ i sum a₃
       → Alike y (pairIn t₂ i) → Alike sum' (joined (kindOf (sheetIn t n) g) sum y) → j ≡ linkIn prev i
       → AtSon (sheetIn t n) (spansIn t n f) g j sum' t₀ a₀ t₂ a₃
-  at-next i j sum sum' y t₀ a₀ t₁ a₁ t₂ a₂ a₃ a l d m p v q e =
+  at-next {i} {j} sum' y {t₀} {a₀} {t₁} {a₁} {t₂} {a₂} {a₃} a l d m p v q e =
       let s = sheetIn t n in
       let son = a .chain l in
       let b : j ≡ sonBelow s g i = e ∙ next-is t n last prev (w .links) g k i (a .chain) in
@@ -244,10 +239,10 @@ module _ (t : List ℕ) (n : ℕ) (f last prev : List ℕ) (w : Readable t n f l
             ∙ sym (rw b (later-next s (spansIn t n f) g i son c));
       }
 
-  pub at-end : (i : ℕ) (sum : Bool → Span) (t₀ a₀ t₁ a₁ : List ℕ)
-      → AtSon (sheetIn t n) (spansIn t n f) g i sum t₀ a₀ t₁ a₁ → i ≡ 0
+  pub at-end : {i : ℕ} {sum : Bool → Span} {t₀ a₀ t₁ a₁ : List ℕ} → AtSon (sheetIn t n) (spansIn t n f) g i sum t₀ a₀ t₁ a₁
+      → i ≡ 0
       → Done (sheetIn t n) (spansIn t n f) g 0 t₀ a₀ t₁ a₁ × Alike sum (later (sheetIn t n) (spansIn t n f) g n)
-  at-end i sum t₀ a₀ t₁ a₁ a e =
+  at-end {i} a e =
       let m : sheetIn t n .size - i ≡ n = omega (arith, size-in t n) in
       (rw e at (a .done), λ c. a .joins c ∙ ap (λ m. later (sheetIn t n) (spansIn t n f) g m c) m)
 
@@ -258,17 +253,17 @@ module _ (t : List ℕ) (n : ℕ) (f last prev : List ℕ) (w : Readable t n f l
       e c
       ∙ ap (λ u. meet u (own (sheetIn t n) (mayIn f) g c))
       (h c ∙ ap (λ m. later (sheetIn t n) (spansIn t n f) g m c) (sym (size-in t n)))
-      ∙ sym (spans-measured (sheetIn t n) (mayIn f) (w .long .tree) .at g k c)
+      ∙ sym (measured .at g k c)
 
   -- there is room for the sons joined so far, and for one more
   module _ (b : (i : ℕ) → getD t i 0 ≤ noEnd) where
-    pub room-sum : (i : ℕ) (sum : Bool → Span) (t₀ a₀ t₁ a₁ : List ℕ) → AtSon (sheetIn t n) (spansIn t n f) g i sum t₀ a₀ t₁ a₁
+    pub room-sum : {i : ℕ} {sum : Bool → Span} {t₀ a₀ t₁ a₁ : List ℕ} → AtSon (sheetIn t n) (spansIn t n f) g i sum t₀ a₀ t₁ a₁
         → RoomBoth sum
-    room-sum i sum t₀ a₀ t₁ a₁ a c =
+    room-sum {i} a c =
         rw (a .joins c)
-        (room-later t n f (w .long .tree) (w .long .small) b g (sheetIn t n .size - i) c (omega (arith, size-in t n)))
+        (room-later (w .long .tabled) b measured g (sheetIn t n .size - i) c (omega (arith, size-in t n)))
 
-    pub room-son : (i : ℕ) (y : Bool → Span) (u : List ℕ) → Group (sheetIn t n) i → Alike y (pairIn u i)
+    pub room-son : {i : ℕ} {y : Bool → Span} (u : List ℕ) → Group (sheetIn t n) i → Alike y (pairIn u i)
         → Spanned (spansIn t n f) u i
         → RoomBoth y
-    room-son i y u j v m c = rw (v c ∙ m c) (room-span t n f (w .long .tree) (w .long .small) b i j c)
+    room-son {i} u j v m c = rw (v c ∙ m c) (room-span (w .long .tabled) b measured i j c)

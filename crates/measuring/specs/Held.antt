@@ -3,8 +3,10 @@ use Prim.Native.Nat.{ℕ, _/_, _%_, _≤_}
 use mathlib.Core.Path.{_≡_}
 use mathlib.Core.Bool.{Bool, true, false, cond}
 use lib.Dec.{leb, eqb}
+use Rattle.wire.specs.Limits.{noGreatest}
 use Rattle.meaning.specs.Sheet.{Top, fin, inf}
 use Rattle.meaning.specs.OfRecords.{disjointMode, coverMode, sameMode}
+use Rattle.reading.specs.SheetIn.{sizeLimit}
 use Rattle.sizes.specs.Span.{Span, none, span, Kind, lap, add, eq}
 use Rattle.sizes.specs.Bounds.{weight}
 use Rattle.measuring.specs.declared.spans.Span.{Span as SpanCode}
@@ -12,9 +14,9 @@ use Rattle.measuring.specs.declared.spans.Pair.{Pair as PairCode}
 use Rattle.measuring.specs.declared.spans.Kind.{Kind as KindCode}
 use Rattle.measuring.specs.declared.spans.Kind.the-variants.{Lap, Add, Eq}
 
--- the number that stands for no upper end
+-- the number that stands for no upper end, in tables as in a reply
 abbrev pub endless : ℕ
-endless = 4294967295
+endless = noGreatest
 
 unfoldable pub topOf : ℕ → Top
 topOf m = cond (eqb m endless) inf (fin m)
@@ -41,14 +43,11 @@ kindHeld Add = add
 kindHeld Eq = eq
 
 -- ends that leave room for one sum
-abbrev pub room : ℕ
-room = 1000000000
-
 abbrev pub EndRoom : ℕ → Type 0
-EndRoom m = (m ≡ endless → ⊥) → m ≤ room
+EndRoom m = (m ≡ endless → ⊥) → m ≤ sizeLimit
 
 abbrev pub Room : Span → Type 0
-Room s = weight s ≤ room
+Room s = weight s ≤ sizeLimit
 
 abbrev pub RoomBoth : (Bool → Span) → Type 0
 RoomBoth f = (c : Bool) → Room (f c)

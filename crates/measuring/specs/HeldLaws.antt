@@ -7,11 +7,16 @@ use borrow.Author.Tests.{le-leb, lt-leb, lt-ltb, ne-eqb}
 use Rattle.wire.specs.Limits.{noEnd}
 use Rattle.meaning.specs.Sheet.{Top, fin, inf}
 use Rattle.meaning.specs.OfRecords.{endOf}
-use Rattle.sizes.specs.Span.{Span, none, span, plus, smaller, larger, make, meet, hull, Kind, lap, add, eq, join}
+use Rattle.meaning.specs.Arranged.{cap}
+use Rattle.reading.specs.SheetIn.{sizeLimit}
+use Rattle.sizes.specs.Span.{Span, none, span, plus, less, smaller, larger, make, meet, hull, Kind, lap, add, eq, join}
 use Rattle.sizes.specs.Fold.{ownTo}
 use Rattle.sizes.specs.Bounds.{weight-least, weight-most}
-use Rattle.sizes.specs.SumLaws.{compare-le, compare-eq}
-use Rattle.measuring.specs.Held.{endless, topOf, spanOf, room, EndRoom, Room, Alike}
+use Rattle.meaning.proofs.SumLaws.{compare-le, compare-eq}
+use Rattle.measuring.specs.Held.{endless, topOf, spanOf, EndRoom, Room, Alike}
+
+pub span-eq : {l m u v : ℕ} → l ≡ m → u ≡ v → spanOf l u ≡ spanOf m v
+span-eq d e = rw (d, e)
 
 pub none-of : {l m : ℕ} → m < l → spanOf l m ≡ none
 unfolding spanOf
@@ -50,6 +55,13 @@ top-max {a} {b} h k =
     (λ d. let m : max a b ≡ endless = omega arith in rw (m, d, top-end, top-fin e))
     (λ d. rw (top-fin e, top-fin d, top-fin {m = max a b} (λ z. omega arith))))
 
+-- a number cut at an upper end, and less an upper end
+pub cap-top : (m n : ℕ) → n ≤ endless → cap (topOf m) n ≡ min m n
+cap-top m n h = compare-eq m endless (λ e. rw (e, top-end) (omega arith)) (λ e. rw (top-fin e))
+
+pub less-top : (n m : ℕ) → n ≤ endless → less n (topOf m) ≡ n - m
+less-top n m h = compare-eq m endless (λ e. rw (e, top-end) (omega arith)) (λ e. rw (top-fin e))
+
 -- a span is made by writing its ends down
 pub make-of : (l m : ℕ) → l ≤ endless → make l (topOf m) ≡ spanOf l m
 unfolding spanOf
@@ -74,11 +86,11 @@ unfolding hull
 hull-of l u m v a b h k = rw (some-of h, some-of k, some-of {l = min l m} {m = max u v} (omega arith), top-max a b)
 
 -- a span with room has ends with room
-pub room-least : {l m : ℕ} → l ≤ m → Room (spanOf l m) → l ≤ room
-room-least {l} {m} h r = weight-least l (topOf m) room (rw (some-of h) at r)
+pub room-least : {l m : ℕ} → l ≤ m → Room (spanOf l m) → l ≤ sizeLimit
+room-least {l} {m} h r = weight-least l (topOf m) sizeLimit (rw (some-of h) at r)
 
 pub room-most : {l m : ℕ} → l ≤ m → Room (spanOf l m) → EndRoom m
-room-most {l} {m} h r e = weight-most l m room (rw (some-of h, top-fin e) at r)
+room-most {l} {m} h r e = weight-most l m sizeLimit (rw (some-of h, top-fin e) at r)
 
 -- the sum of upper ends, in the three cases that the code takes
 pub plus-left : (a b : ℕ) → a ≡ endless → topOf endless ≡ plus (topOf a) (topOf b)
@@ -91,7 +103,8 @@ plus-left a b e = rw (e, top-end) (any (topOf b))
 pub plus-right : (a b : ℕ) → (a ≡ endless → ⊥) → b ≡ endless → topOf endless ≡ plus (topOf a) (topOf b)
 plus-right a b n e = rw (e, top-end, top-fin n)
 
-pub plus-both : (a b : ℕ) → (a ≡ endless → ⊥) → (b ≡ endless → ⊥) → a ≤ room → b ≤ room → topOf (a + b) ≡ plus (topOf a) (topOf b)
+pub plus-both : (a b : ℕ) → (a ≡ endless → ⊥) → (b ≡ endless → ⊥) → a ≤ sizeLimit → b ≤ sizeLimit
+    → topOf (a + b) ≡ plus (topOf a) (topOf b)
 plus-both a b n k h j = rw (top-fin n, top-fin k, top-fin {m = a + b} (λ e. omega arith))
 
 -- joined spans, by their ends
@@ -100,16 +113,10 @@ pub lap-of : (l u m v n w : ℕ) → n ≡ max l m → (topOf w ≡ plus (topOf 
 unfolding join
 lap-of l u m v n w d e a b h k = rw (some-of h, some-of k, some-of {l = n} {m = w} (omega arith), e .0, d)
 
-pub add-of : (l u m v w : ℕ) → (topOf w ≡ plus (topOf u) (topOf v)) × (w ≡ min (u + v) endless) → l ≤ room → m ≤ room
+pub add-of : (l u m v w : ℕ) → (topOf w ≡ plus (topOf u) (topOf v)) × (w ≡ min (u + v) endless) → l ≤ sizeLimit → m ≤ sizeLimit
     → l ≤ u → m ≤ v → spanOf (l + m) w ≡ join add (spanOf l u) (spanOf m v)
 unfolding join
 add-of l u m v w e a b h k = rw (some-of h, some-of k, some-of {l = l + m} {m = w} (omega arith), e .0)
-
-pub join-eq-meet : (a b : Span) → join eq a b ≡ meet a b
-unfolding join meet
-join-eq-meet none b = refl
-join-eq-meet (span l u) none = refl
-join-eq-meet (span l u) (span m v) = refl
 
 -- nothing is joined to nothing
 pub join-none-left : (q : Kind) (a b : Span) → a ≡ none → join q a b ≡ none

@@ -1,22 +1,33 @@
 -- Links after a store, the chain of a group's sons, and the fold over them along the chain.
-use Prim.Native.Nat.{ℕ, zero, suc, _+_, _-_, _*_, _≤_, _<_}
+use Prim.Native.Nat.{ℕ, zero, suc, _+_, _-_, _≤_, _<_}
 use mathlib.Core.Path.{_≡_, refl, sym, ap, _∙_, subst}
 use mathlib.Core.Bool.{Bool, true, false}
 use mathlib.Core.List.{List}
 use native.Mathlib.Omega.{arith}
-use native.Mathlib.Nat.{le-refl, le-trans, le-of-eq}
+use native.Mathlib.Nat.{le-refl}
 use native.Mathlib.Numerals.{add-one}
 use lib.ListN.{length, getD, set, length-set}
 use lib.Seq.{getD-set-same, getD-set-other}
 use Rattle.meaning.specs.Sum.{sum, bit}
 use Rattle.meaning.specs.Sheet.{Sheet, Group, Son, Tree}
 use Rattle.meaning.specs.Sons.{isSon, sonCount}
+use Rattle.reading.specs.Tables.{groupIn}
+use Rattle.reading.specs.SheetIn.{sheetIn, size-in, group-in, parent-in}
 use Rattle.sizes.specs.Span.{Span}
 use Rattle.sizes.specs.Fold.{kindOf, shut, start, joined, later}
-use Rattle.sizes.specs.SumLaws.{split, compare-eq, compare-le, below-suc, true-not-false, not-true-false, son-of, son-is}
+use Rattle.meaning.proofs.SumLaws.{
+  split,
+  compare-eq,
+  compare-le,
+  below-suc,
+  true-not-false,
+  not-true-false,
+  son-of,
+  son-is,
+  no-son-before,
+}
 use Rattle.sizes.specs.RuleSteps.{no-son}
 use Rattle.sizes.specs.LaterLaws.{later-none, later-son, later-skip}
-use Rattle.measuring.specs.Tables.{sheetIn, size-in, parent-in}
 use Rattle.measuring.specs.Links.{linkIn, sonBelow, Linked, Links}
 
 -- a link at its place
@@ -96,11 +107,7 @@ pub below-nil : (s : Sheet) (p n : ℕ) → ((j : ℕ) → j < n → isSon s p j
 below-nil s p zero f = below-none s p
 below-nil s p (suc n) f = below-miss s p n (f n (le-refl (suc n))) ∙ below-nil s p n (λ j l. f j (omega arith))
 
--- sons come after their parent
-pub son-after : (s : Sheet) (p j : ℕ) → Tree s → j ≤ p → j ≤ s .size → isSon s p j ≡ false
-son-after s p j t l k =
-    not-true-false (isSon s p j) (λ e. let w = son-of s p j k e in omega (arith, t .before j (w .group)))
-
+-- number 0 is no group and has no sons
 pub son-of-none : (s : Sheet) (j : ℕ) → j ≤ s .size → isSon s 0 j ≡ false
 son-of-none s j k = not-true-false (isSon s 0 j) (λ e. let w = son-of s 0 j k e in omega arith)
 
@@ -114,7 +121,7 @@ links-more s last prev last' prev' n t l w k =
       sons = λ q i j.
           compare-eq q (suc n)
           (λ e. rw e (k .own
-          ∙ sym (below-nil s (suc n) (suc (suc n)) (λ j h. son-after s (suc n) j t (omega arith) (omega arith)))))
+          ∙ sym (below-nil s (suc n) (suc (suc n)) (λ j h. no-son-before t (suc n) j (omega arith) (omega arith)))))
           (λ e. compare-eq q (s .parent (suc n))
           (λ d. let son : Son s q (suc n) = omega arith in
           sym (below-hit s q (suc n) (son-is son) ∙ sym (k .parents (omega arith)) ∙ rw d))
@@ -210,19 +217,11 @@ module _ (s : Sheet) (z : ℕ → Bool → Span) (p : ℕ) where
 
 -- the links of the sheet in a table
 module _ (t : List ℕ) (n : ℕ) where
-  pub group-in : (g : ℕ) → 1 ≤ g → g ≤ n → Group (sheetIn t n) g
-  group-in g a b = record { first = a; last = le-trans b (le-of-eq (sym (size-in t n))) }
-
-  pub parent-before : (g p : ℕ) → Tree (sheetIn t n) → 1 ≤ g → g ≤ n → p ≡ getD t (4 * (g - 1)) 0 → p < g
-  parent-before g p w a b e =
-      let k = group-in g a b in
-      omega (arith, w .before g k, parent-in t n g k)
-
   pub links-step : (last prev last' prev' : List ℕ) (m p : ℕ) → Tree (sheetIn t n) → m < n
-      → p ≡ getD t (4 * (m + 1 - 1)) 0 → Links (sheetIn t n) last prev m → Linked last prev (m + 1) p last' prev'
+      → p ≡ groupIn t (m + 1 - 1) .parent → Links (sheetIn t n) last prev m → Linked last prev (m + 1) p last' prev'
       → Links (sheetIn t n) last' prev' (m + 1)
   links-step last prev last' prev' m p w l e k h =
-      let d = parent-in t n (m + 1) (group-in (m + 1) (omega arith) (omega arith)) in
+      let d = parent-in t n (m + 1) (group-in t n (omega arith) (omega arith)) in
       let q : p ≡ sheetIn t n .parent (m + 1) = e ∙ sym d in
       rw add-one
       (links-more (sheetIn t n) last prev last' prev' m w (omega (arith, size-in t n)) k

@@ -8,11 +8,16 @@ use lib.ListN.{length, getD, set, length-set}
 use lib.Seq.{getD-set-same, getD-set-other}
 use Rattle.sizes.specs.Span.{Span}
 use Rattle.measuring.specs.Held.{spanOf, Alike}
+use Rattle.measuring.specs.HeldLaws.{span-eq}
 
--- the spans of group g, four numbers a group
+-- numbers of a pair
+abbrev pub pairFields : ℕ
+pairFields = 4
+
+-- the spans of group g
 unfoldable pub pairIn : List ℕ → ℕ → Bool → Span
-pairIn t g false = spanOf (getD t (4 * (g - 1)) 0) (getD t (4 * (g - 1) + 1) 0)
-pairIn t g true = spanOf (getD t (4 * (g - 1) + 2) 0) (getD t (4 * (g - 1) + 3) 0)
+pairIn t g false = spanOf (getD t (pairFields * (g - 1)) 0) (getD t (pairFields * (g - 1) + 1) 0)
+pairIn t g true = spanOf (getD t (pairFields * (g - 1) + 2) 0) (getD t (pairFields * (g - 1) + 3) 0)
 
 -- u is t with the spans p at group g
 pub record PairPut (t : List ℕ) (g : ℕ) (p : Bool → Span) (u : List ℕ) : Type 0 where
@@ -47,7 +52,7 @@ module _ (t : List ℕ) (k a b c d : ℕ) where
       → getD (stored t k a b c d) j 0 ≡ getD t j 0
   stored-out j w x y z = off-1 j z y x ∙ getD-set-other t k j a 0 w
 
-  module _ (l : k + 4 ≤ length t) where
+  module _ (l : k + pairFields ≤ length t) where
     stored-0 : getD (stored t k a b c d) k 0 ≡ a
     stored-0 = off-1 k (λ e. omega arith) (λ e. omega arith) (λ e. omega arith) ∙ getD-set-same t k a 0 (omega arith)
 
@@ -60,30 +65,35 @@ module _ (t : List ℕ) (k a b c d : ℕ) where
     stored-3 : getD (stored t k a b c d) (k + 3) 0 ≡ d
     stored-3 = getD-set-same three (k + 3) d 0 (simp length-set (omega arith))
 
-span-eq : {l m u v : ℕ} → l ≡ m → u ≡ v → spanOf l u ≡ spanOf m v
-span-eq d e = rw (d, e)
-
-pub stored-put : (t : List ℕ) (g a b c d : ℕ) (p : Bool → Span) → 1 ≤ g → 4 * g ≤ length t → p false ≡ spanOf a b
-    → p true ≡ spanOf c d → PairPut t g p (stored t (4 * (g - 1)) a b c d)
+pub stored-put : (t : List ℕ) (g a b c d : ℕ) (p : Bool → Span) → 1 ≤ g → pairFields * g ≤ length t → p false ≡ spanOf a b
+    → p true ≡ spanOf c d → PairPut t g p (stored t (pairFields * (g - 1)) a b c d)
 unfolding pairIn
 stored-put t g a b c d p l r e f = record { put = at; others = other }
   where
-    at : (q : Bool) → pairIn (stored t (4 * (g - 1)) a b c d) g q ≡ p q
+    at : (q : Bool) → pairIn (stored t (pairFields * (g - 1)) a b c d) g q ≡ p q
     at false =
-        span-eq (stored-0 t (4 * (g - 1)) a b c d (omega arith)) (stored-1 t (4 * (g - 1)) a b c d (omega arith)) ∙ sym e
+        span-eq
+        (stored-0 t (pairFields * (g - 1)) a b c d (omega arith))
+        (stored-1 t (pairFields * (g - 1)) a b c d (omega arith))
+        ∙ sym e
     at true =
-        span-eq (stored-2 t (4 * (g - 1)) a b c d (omega arith)) (stored-3 t (4 * (g - 1)) a b c d (omega arith)) ∙ sym f
+        span-eq
+        (stored-2 t (pairFields * (g - 1)) a b c d (omega arith))
+        (stored-3 t (pairFields * (g - 1)) a b c d (omega arith))
+        ∙ sym f
 
-    out : (h : ℕ) → 1 ≤ h → (h ≡ g → ⊥) → (j : ℕ) → 4 * (h - 1) ≤ j → j < 4 * (h - 1) + 4
-        → getD (stored t (4 * (g - 1)) a b c d) j 0 ≡ getD t j 0
+    out : (h : ℕ) → 1 ≤ h → (h ≡ g → ⊥) → (j : ℕ) → pairFields * (h - 1) ≤ j → j < pairFields * (h - 1) + pairFields
+        → getD (stored t (pairFields * (g - 1)) a b c d) j 0 ≡ getD t j 0
     out h i n j k m =
-        stored-out t (4 * (g - 1)) a b c d j
+        stored-out t (pairFields * (g - 1)) a b c d j
         (λ e. n (omega arith)) (λ e. n (omega arith)) (λ e. n (omega arith)) (λ e. n (omega arith))
 
-    other : (h : ℕ) → 1 ≤ h → (h ≡ g → ⊥) → (q : Bool) → pairIn (stored t (4 * (g - 1)) a b c d) h q ≡ pairIn t h q
+    other : (h : ℕ) → 1 ≤ h → (h ≡ g → ⊥) → (q : Bool) → pairIn (stored t (pairFields * (g - 1)) a b c d) h q ≡ pairIn t h q
     other h i n false =
-        span-eq (out h i n (4 * (h - 1)) (omega arith) (omega arith)) (out h i n (4 * (h - 1) + 1) (omega arith) (omega arith))
+        span-eq
+        (out h i n (pairFields * (h - 1)) (omega arith) (omega arith))
+        (out h i n (pairFields * (h - 1) + 1) (omega arith) (omega arith))
     other h i n true =
         span-eq
-        (out h i n (4 * (h - 1) + 2) (omega arith) (omega arith))
-        (out h i n (4 * (h - 1) + 3) (omega arith) (omega arith))
+        (out h i n (pairFields * (h - 1) + 2) (omega arith) (omega arith))
+        (out h i n (pairFields * (h - 1) + 3) (omega arith) (omega arith))

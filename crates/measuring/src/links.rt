@@ -2,10 +2,9 @@
 use reading::tables::GroupNo;
 use reading::tables::parent_of;
 ghost use mathlib.Core.Path.{_≡_};
-ghost use Prim.Native.Nat.{_*_, _≤_, _<_};
+ghost use Prim.Native.Nat.{_≤_, _<_};
 ghost use lib.ListN.{length};
-ghost use Rattle.meaning.specs.Sheet.{Tree};
-ghost use Rattle.measuring.specs.Tables.{sheetIn};
+ghost use Rattle.reading.specs.SheetIn.{sheetIn, Tabled};
 ghost use Rattle.measuring.specs.Links.{linkIn, Linked, Links};
 
 // the group's link in the table; none for the group numbered 0
@@ -38,8 +37,7 @@ fn link_one(last: &mut [u16], prev: &mut [u16], g: GroupNo, p: GroupNo)
 
 // Links the sons of all groups.
 pub fn link_sons(groups: &[u16], size: u16, last: &mut [u16], prev: &mut [u16])
-    requires { ⌜ (4 * size ≤ length (now groups)) × (size ≤ length (now last)) × (size ≤ length (now prev)) ⌝ }
-    requires { ⌜ Tree (sheetIn (now groups) size) ⌝ }
+    requires { ⌜ Tabled (now groups) size × (size ≤ length (now last)) × (size ≤ length (now prev)) ⌝ }
     ensures { λ _. ⌜ Links (sheetIn (now (groups .entry)) size) (now (last .exit)) (now (prev .exit)) size ⌝ }
 {
     let mut n: u16 = 0;

@@ -1,5 +1,5 @@
 // A group is measured from its sons, and the sons, one after another, from their own. The chain of calls follows the tree
-// down: at most two frames for each group on the way, 256 for 128 groups.
+// down: at most two frames for each group on the way.
 use crate::links::link_at;
 use crate::links::link_sons;
 use crate::pairs::pair_at;
@@ -18,12 +18,13 @@ ghost use mathlib.Core.Path.{_≡_};
 ghost use Prim.Native.Nat.{_-_, _*_, _≤_};
 ghost use lib.ListN.{length, getD};
 ghost use Rattle.meaning.specs.Sheet.{Group};
+ghost use Rattle.reading.specs.Tables.{groupFields};
+ghost use Rattle.reading.specs.SheetIn.{sheetIn};
 ghost use Rattle.sizes.specs.Span as sizes;
 ghost use Rattle.sizes.specs.Fold as fold;
 ghost use Rattle.measuring.specs.Held.{pairOf, Alike, RoomBoth, shutBy};
-ghost use Rattle.measuring.specs.Tables.{sheetIn, mayIn, spansIn};
+ghost use Rattle.measuring.specs.Tables.{mayIn, spansIn};
 ghost use Rattle.measuring.specs.Links.{Links};
-ghost use Rattle.sizes.specs.Ranged.{Rooted};
 ghost use Rattle.measuring.specs.Done.{Long, Readable, Lent, Done, Spanned, AllDone};
 
 // whether the sons alone must make up a group of this mode, with its last son and the one before that, 0 for none
@@ -43,7 +44,7 @@ fn is_shut(mode: u16, son: u16, other: u16) -> bool
 
 // the intervals of a group before any son is joined
 fn start_of(groups: &[u16], size: u16, last: &[u16], prev: &[u16], g: GroupNo) -> Pair
-    requires { ⌜ (4 * size ≤ length (now groups)) × (size ≤ length (now last)) × (size ≤ length (now prev)) ⌝ }
+    requires { ⌜ (groupFields * size ≤ length (now groups)) × (size ≤ length (now last)) × (size ≤ length (now prev)) ⌝ }
     requires { ⌜ Group (sheetIn (now groups) size) (g .0) ⌝ }
     requires { ⌜ Links (sheetIn (now groups) size) (now last) (now prev) size ⌝ }
     ensures { λ r. ⌜ Alike (pairOf r) (fold.start (fold.shut (sheetIn (now (groups .entry)) size) (g .0))) ⌝ }
@@ -63,7 +64,7 @@ fn flag_at(flags: &[u8], g: GroupNo) -> u8
 
 // What the sons leave, met with the group's own bounds.
 fn finish(groups: &[u16], size: u16, flags: &[u8], below: Pair, g: GroupNo) -> Pair
-    requires { ⌜ (4 * size ≤ length (now groups)) × (size ≤ length (now flags)) ⌝ }
+    requires { ⌜ (groupFields * size ≤ length (now groups)) × (size ≤ length (now flags)) ⌝ }
     requires { ⌜ Group (sheetIn (now groups) size) (g .0) ⌝ }
     ensures { λ r. ⌜ Alike (pairOf r) (λ c. sizes.meet (pairOf below c)
         (fold.own (sheetIn (now (groups .entry)) size) (mayIn (now (flags .entry))) (g .0) c)) ⌝ }
@@ -76,7 +77,7 @@ fn finish(groups: &[u16], size: u16, flags: &[u8], below: Pair, g: GroupNo) -> P
 
 // One more son of g, with intervals z, joined to the sons after it.
 fn join_son(groups: &[u16], size: u16, g: GroupNo, sum: Pair, z: Pair) -> Pair
-    requires { ⌜ 4 * size ≤ length (now groups) ⌝ }
+    requires { ⌜ groupFields * size ≤ length (now groups) ⌝ }
     requires { ⌜ Group (sheetIn (now groups) size) (g .0) ⌝ }
     requires { ⌜ RoomBoth (pairOf sum) × RoomBoth (pairOf z) ⌝ }
     ensures { λ r. ⌜ Alike (pairOf r)
@@ -148,7 +149,7 @@ pub fn measure_sheet(
     spans: &mut [u32],
     after: &mut [u32],
 )
-    requires { ⌜ Long (now groups) size (now flags) (now last) (now prev) × Rooted (sheetIn (now groups) size) ⌝ }
+    requires { ⌜ Long (now groups) size (now flags) (now last) (now prev) ⌝ }
     requires { ⌜ Lent size (now spans) (now after) ⌝ }
     ensures { λ _. ⌜ AllDone (sheetIn (now (groups .entry)) size) (spansIn (now (groups .entry)) size (now (flags .entry)))
         (now (spans .exit)) (now (after .exit)) ⌝ }

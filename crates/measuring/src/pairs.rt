@@ -2,18 +2,24 @@
 // that member in it.
 use crate::spans::Pair;
 use crate::spans::Span;
+use reading::tables::GROUP_CAPACITY;
 use reading::tables::GroupNo;
 ghost use Prim.Native.Nat.{_*_, _≤_};
 ghost use lib.ListN.{length};
 ghost use Rattle.measuring.specs.Held.{pairOf, Alike};
-ghost use Rattle.measuring.specs.Pairs.{pairIn, PairPut};
+ghost use Rattle.measuring.specs.Pairs.{pairFields, pairIn, PairPut};
+
+// Numbers of a pair, and the length of a table of pairs for any sheet.
+pub const PAIR_FIELDS: usize = 4;
+
+pub const PAIR_TABLE: usize = PAIR_FIELDS * GROUP_CAPACITY;
 
 pub fn pair_at(t: &[u32], g: GroupNo) -> Pair
-    requires { ⌜ (1 ≤ g .0) × (4 * (g .0) ≤ length (now t)) ⌝ }
+    requires { ⌜ (1 ≤ g .0) × (pairFields * (g .0) ≤ length (now t)) ⌝ }
     ensures { λ r. ⌜ Alike (pairOf r) (pairIn (now (t .entry)) (g .0)) ⌝ }
 {
     let i = g.0 as usize;
-    let k = 4 * (i - 1);
+    let k = PAIR_FIELDS * (i - 1);
     Pair {
         out: Span {
             least: t[k],
@@ -27,11 +33,11 @@ pub fn pair_at(t: &[u32], g: GroupNo) -> Pair
 }
 
 pub fn put_pair(t: &mut [u32], g: GroupNo, p: Pair)
-    requires { ⌜ (1 ≤ g .0) × (4 * (g .0) ≤ length (now t)) ⌝ }
+    requires { ⌜ (1 ≤ g .0) × (pairFields * (g .0) ≤ length (now t)) ⌝ }
     ensures { λ _. ⌜ PairPut (now (t .entry)) (g .0) (pairOf p) (now (t .exit)) ⌝ }
 {
     let i = g.0 as usize;
-    let k = 4 * (i - 1);
+    let k = PAIR_FIELDS * (i - 1);
     t[k] = p.out.least;
     t[k + 1] = p.out.most;
     t[k + 2] = p.inn.least;

@@ -1,8 +1,9 @@
 // Intervals in two numbers, pairs of them for a member out of the group and in it, and how a son's are joined to those so far.
 // Each function is an equation with the function of the same meaning in `sizes`.
+use reading::tables::NO_END;
 ghost use mathlib.Core.Path.{_≡_};
-ghost use mathlib.Core.Bool.{Bool, true, false, cond};
-ghost use Prim.Native.Nat.{_+_, _-_, _≤_, _<_, min, max};
+ghost use mathlib.Core.Bool.{true, false, cond};
+ghost use Prim.Native.Nat.{_+_, _-_, min, max};
 ghost use Rattle.meaning.specs.OfRecords.{endOf};
 ghost use Rattle.sizes.specs.Span as sizes;
 ghost use Rattle.sizes.specs.Fold as fold;
@@ -31,16 +32,23 @@ pub enum Kind {
     Eq,
 }
 
-fn larger(a: u32, b: u32) -> u32
+pub fn larger(a: u32, b: u32) -> u32
     ensures { λ r. ⌜ r ≡ max a b ⌝ }
 {
     if a < b { b } else { a }
 }
 
-fn smaller(a: u32, b: u32) -> u32
+pub fn smaller(a: u32, b: u32) -> u32
     ensures { λ r. ⌜ r ≡ min a b ⌝ }
 {
     if a < b { a } else { b }
+}
+
+// a less b, 0 where b is larger
+pub fn minus(a: u32, b: u32) -> u32
+    ensures { λ r. ⌜ r ≡ a - b ⌝ }
+{
+    if a < b { 0 } else { a - b }
 }
 
 // the sum of two upper ends
@@ -189,7 +197,7 @@ pub fn start(shut: bool) -> Pair
 fn own_out(lo: u16, hi: u16) -> Span
     ensures { λ r. ⌜ held r ≡ fold.ownTo lo (endOf hi) false ⌝ }
 {
-    if hi == 65535 {
+    if hi == NO_END {
         return Span {
             least: lo as u32,
             most: ENDLESS,
@@ -202,7 +210,7 @@ fn own_out(lo: u16, hi: u16) -> Span
 }
 
 fn less_one(n: u16) -> u32
-    ensures { λ r. ⌜ (r ≡ n - 1) × (r < 65535) ⌝ }
+    ensures { λ r. ⌜ r ≡ n - 1 ⌝ }
 {
     if n == 0 { 0 } else { (n - 1) as u32 }
 }
@@ -210,7 +218,7 @@ fn less_one(n: u16) -> u32
 fn own_in(lo: u16, hi: u16) -> Span
     ensures { λ r. ⌜ held r ≡ fold.ownTo lo (endOf hi) true ⌝ }
 {
-    if hi == 65535 {
+    if hi == NO_END {
         return Span {
             least: less_one(lo),
             most: ENDLESS,

@@ -1,24 +1,25 @@
 -- Ranges taken from the root down, group after group. With each group stands what its sons not yet taken must make up.
-use Prim.Native.Nat.{ℕ, zero, suc, _+_, _-_, _*_, _≤_, _<_}
+use Prim.Native.Nat.{ℕ, zero, suc, _-_, _≤_, _<_}
 use mathlib.Core.Path.{_≡_, refl, sym, ap, _∙_}
-use mathlib.Core.Bool.{Bool, true, false}
+use mathlib.Core.Bool.{Bool, false}
 use mathlib.Core.List.{List}
 use mathlib.Core.Logic.{_↔_}
 use native.Mathlib.Omega.{arith}
 use native.Mathlib.Nat.{le-refl}
-use lib.ListN.{length, getD}
-use Rattle.meaning.specs.Sheet.{Sheet, Group, Son, Tree}
-use Rattle.sizes.specs.Balanced.{isSon}
+use Rattle.meaning.specs.Sheet.{Sheet, Group, Son, Tree, Rooted}
 use Rattle.meaning.specs.Fits.{Possible}
+use Rattle.reading.specs.Tables.{groupIn}
+use Rattle.reading.specs.SheetIn.{sheetIn, Tabled}
 use Rattle.sizes.specs.Span.{Span, none, meet, Kind, pull}
 use Rattle.sizes.specs.Fold.{kindOf, later, Measured}
-use Rattle.sizes.specs.Ranged.{Rooted, free, held, Ranged}
-use Rattle.sizes.specs.RangeExact.{possible-sets}
-use Rattle.sizes.specs.SumLaws.{split, compare-le, compare-eq, son-of, son-is, son-parent}
+use Rattle.sizes.specs.Ranged.{free, held, Ranged}
+use Rattle.sizes.specs.RangedExists.{held-eq}
+use Rattle.sizes.specs.RangeExact.{held-son, held-skip, possible-sets}
+use Rattle.meaning.proofs.SumLaws.{compare-le, compare-eq, son-is, son-parent, no-son-before, one-parent}
 use Rattle.measuring.specs.Held.{spanOf, modeKind}
 use Rattle.measuring.specs.HeldLaws.{none-of, some-of}
 use Rattle.measuring.specs.Pairs.{pairIn}
-use Rattle.measuring.specs.Tables.{sheetIn, size-in, parent-in, kind-in}
+use Rattle.measuring.specs.Tables.{kind-in}
 use Rattle.ranging.specs.Tables.{spanIn, SpanPut}
 
 -- the tables of measuring hold z for the member out of every group: the span of each group, and the joined spans of the
@@ -26,15 +27,6 @@ use Rattle.ranging.specs.Tables.{spanIn, SpanPut}
 pub record Measures (s : Sheet) (z : ℕ → Bool → Span) (spans after : List ℕ) : Type 0 where
   pub spanned : (g : ℕ) → Group s g → pairIn spans g false ≡ z g false
   pub followed : (p g : ℕ) → Son s p g → pairIn after g false ≡ later s z p (s .size - g) false
-
--- the table of n groups is that of a tree with one root, and the tables of measuring beside it are long enough
-pub record Rooting (groups : List ℕ) (n : ℕ) (spans after : List ℕ) : Type 0 where
-  pub some : 1 ≤ n
-  pub groups-long : 4 * n ≤ length groups
-  pub spans-long : 4 * n ≤ length spans
-  pub after-long : 4 * n ≤ length after
-  pub tree : Tree (sheetIn groups n)
-  pub rooted : Rooted (sheetIn groups n)
 
 -- the groups up to i have their ranges R, and T is what the sons after i must make up
 pub record Narrowed (s : Sheet) (z : ℕ → Bool → Span) (R T : ℕ → Span) (i : ℕ) : Type 0 where
@@ -51,38 +43,12 @@ pub record Narrowing (s : Sheet) (z : ℕ → Bool → Span) (R T R' T' : ℕ �
   pub last : T' p ≡ meet (later s z p (s .size - g) false) (pull (kindOf s p) (T p) (z g false))
   pub rest : (h : ℕ) → 1 ≤ h → (h ≡ g → ⊥) → (h ≡ p → ⊥) → T' h ≡ T h
 
--- `held` speaks of the range of p only
-held-range : (s : Sheet) (z : ℕ → Bool → Span) (R S : ℕ → Span) (p n : ℕ) → R p ≡ S p → held s z R p n ≡ held s z S p n
-unfolding held
-held-range s z R S p zero e = e
-held-range s z R S p (suc n) e = rw (held-range s z R S p n e)
-
-held-son : (s : Sheet) (z : ℕ → Bool → Span) (R : ℕ → Span) (p n : ℕ) → isSon s p n ≡ true
-    → held s z R p (suc n) ≡ meet (later s z p (s .size - n) false) (pull (kindOf s p) (held s z R p n) (z n false))
-unfolding held
-held-son s z R p n e = rw e
-
-held-skip : (s : Sheet) (z : ℕ → Bool → Span) (R : ℕ → Span) (p n : ℕ) → isSon s p n ≡ false
-    → held s z R p (suc n) ≡ held s z R p n
-unfolding held
-held-skip s z R p n e = rw e
-
 -- no son of p comes before p
 held-own : {s : Sheet} → Tree s → (z : ℕ → Bool → Span) (R : ℕ → Span) (p n : ℕ) → n ≤ suc p → p ≤ s .size
     → held s z R p n ≡ R p
 unfolding held
 held-own t z R p zero l h = refl
-held-own {s} t z R p (suc n) l h =
-    split (isSon s p n)
-    (λ e. absurd (let k = son-of s p n (omega arith) e in omega (arith, t .before n (k .group))))
-    (λ e. rw e (held-own t z R p n (omega arith) h))
-
--- a group is the son of its parent alone
-pub one-parent : {s : Sheet} {p g : ℕ} → Son s p g → (q : ℕ) → (q ≡ p → ⊥) → isSon s q g ≡ false
-one-parent {s} {p} {g} k q n =
-    split (isSon s q g)
-    (λ e. absurd (n (sym (son-of s q g (k .group .last) e .under) ∙ k .under)))
-    (λ e. e)
+held-own t z R p (suc n) l h = rw (no-son-before t p n (omega arith) h) (held-own t z R p n (omega arith) h)
 
 module _ {s : Sheet} {z : ℕ → Bool → Span} (t : Tree s) (r : Rooted s) where
   -- the root alone
@@ -103,13 +69,13 @@ module _ {s : Sheet} {z : ℕ → Bool → Span} (t : Tree s) (r : Rooted s) whe
       let below : p < suc i = omega (arith, t .before (suc i) (k .group)) in
       let same : (h : ℕ) → 1 ≤ h → h < suc i → R' h ≡ R h = λ h a l. v .ranges h a (λ e. omega arith) in
       let up : T p ≡ held s z R' p (suc i) =
-      w .rest p q (omega arith) ∙ sym (held-range s z R' R p (suc i) (same p (q .first) below)) in
+      w .rest p q (omega arith) ∙ sym (held-eq s z R' R p (suc i) (same p (q .first) below)) in
       record {
         root = v .ranges 1 (omega arith) (λ e. omega (arith, q .first)) ∙ w .root;
         son = λ a h j l. compare-eq h (suc i)
             (λ e. let o : a ≡ p = sym (j .under) ∙ ap (s .parent) e ∙ k .under in rw (e, o, ← up) (v .range))
             (λ n. let b = t .before h (j .group) in
-            rw (same h (j .group .first) (omega arith), held-range s z R' R a h (same a (j .above) (omega arith)))
+            rw (same h (j .group .first) (omega arith), held-eq s z R' R a h (same a (j .above) (omega arith)))
             (w .son a h j (omega arith)));
         rest = λ a j l. compare-eq a (suc i)
             (λ e. rw e (v .own ∙ sym (held-own t z R' (suc i) (suc (suc i)) (le-refl _) (k .group .last))))
@@ -117,27 +83,12 @@ module _ {s : Sheet} {z : ℕ → Bool → Span} (t : Tree s) (r : Rooted s) whe
             (λ e. rw (e, held-son s z R' p (suc i) (son-is k), ← up) (v .last))
             (λ o. v .rest a (j .first) n o ∙ w .rest a j (omega arith)
             ∙ sym (held-skip s z R' a (suc i) (one-parent k a o)
-            ∙ held-range s z R' R a (suc i) (same a (j .first) (omega arith)))));
+            ∙ held-eq s z R' R a (suc i) (same a (j .first) (omega arith)))));
       }
 
   -- all groups
   pub narrowed-all : {R T : ℕ → Span} → Narrowed s z R T (s .size) → Ranged s z R
   narrowed-all w = record { root = w .root; son = λ p g k. w .son p g k (k .group .last) }
-
--- the sheet of the tables: its groups, and the parent of a group
-pub group-in : (groups : List ℕ) (n g : ℕ) → 1 ≤ g → g ≤ n → Group (sheetIn groups n) g
-group-in groups n g a b = omega (arith, size-in groups n)
-
-module _ {groups spans after : List ℕ} {n : ℕ} (k : Rooting groups n spans after) (g p : ℕ) (a : 2 ≤ g) (b : g ≤ n)
-    (e : p ≡ getD groups (4 * (g - 1)) 0) where
-  pub son-in : Son (sheetIn groups n) p g
-  son-in =
-      let q = group-in groups n g (omega arith) b in
-      let up = parent-in groups n g q in
-      record { above = omega (arith, k .rooted .rest g q a); group = q; under = up ∙ sym e }
-
-  pub parent-below : (1 ≤ p) × (p < g)
-  parent-below = omega (arith, son-in .above, son-in .under, k .tree .before g (son-in .group))
 
 -- what the stores of one turn do
 pub record Turned (ranges rest : List ℕ) (g p : ℕ) (range left : Span) (ranges' rest' : List ℕ) : Type 0 where
@@ -159,19 +110,16 @@ turned g p l one two three = record {
 
 -- one turn, own and others being the spans of g and of its brothers after it
 pub narrow-step : {groups spans after ranges rest ranges' rest' : List ℕ} {n : ℕ} {own others whole x range y left : Span}
-    {q : Kind} → Rooting groups n spans after → (g p : ℕ) → 2 ≤ g → g ≤ n → p ≡ getD groups (4 * (g - 1)) 0
-    → q ≡ modeKind (getD groups (4 * (p - 1) + 3) 0) → own ≡ pairIn spans g false → others ≡ pairIn after g false
+    {q : Kind} → Tabled groups n → (g p : ℕ) → Son (sheetIn groups n) p g
+    → q ≡ modeKind (groupIn groups (p - 1) .mode) → own ≡ pairIn spans g false → others ≡ pairIn after g false
     → whole ≡ spanIn rest p → x ≡ pull q whole others → range ≡ meet own x → y ≡ pull q whole own → left ≡ meet others y
     → Turned ranges rest g p range left ranges' rest' → (z : ℕ → Bool → Span) → Measures (sheetIn groups n) z spans after
     → Narrowed (sheetIn groups n) z (spanIn ranges) (spanIn rest) (g - 1)
     → Narrowed (sheetIn groups n) z (spanIn ranges') (spanIn rest') g
-narrow-step k zero p a b e f own others whole x range y left turn z m w = absurd (omega arith)
-narrow-step {groups} {n = n} k (suc i) p a b e f own others whole x range y left turn z m w =
-    let j = son-in k (suc i) p a b e in
-    let l = parent-below k (suc i) p a b e in
+narrow-step k zero p j f own others whole x range y left turn z m w = absurd (omega (arith, j .group .first))
+narrow-step {groups} {n = n} k (suc i) p j f own others whole x range y left turn z m w =
     let d : suc i - 1 ≡ i = omega arith in
-    let o = group-in groups n p (l .0) (omega arith) in
-    let kind = kind-in groups n p o in
+    let kind = kind-in groups n p (son-parent (k .tree) j) in
     let mine = own ∙ m .spanned (suc i) (j .group) in
     let late = others ∙ m .followed p (suc i) j in
     narrowed-more (k .tree) (k .rooted) p i j (rw d at w)

@@ -6,17 +6,11 @@ use native.Mathlib.Omega.{arith}
 use borrow.Author.Tests.{le-leb, lt-leb}
 use Rattle.meaning.specs.Sheet.{Top, fin, inf}
 use Rattle.sizes.specs.Span.{Span, none, span, make, meet, Kind, lap, add, eq, less, shorter, reaches, pull}
-use Rattle.sizes.specs.SumLaws.{compare-eq}
+use Rattle.meaning.proofs.SumLaws.{compare-eq}
 use Rattle.measuring.specs.Held.{endless, topOf, spanOf}
-use Rattle.measuring.specs.HeldLaws.{some-of, top-end, top-fin, make-of}
+use Rattle.measuring.specs.HeldLaws.{some-of, top-end, top-fin, less-top, make-of}
 
--- a lower end less an upper end, an upper end less a number, and whether one reaches the other
-pub less-top : (l v : ℕ) → l ≤ endless → less l (topOf v) ≡ l - v
-less-top l v h =
-    compare-eq v endless
-    (λ e. rw (e, top-end) (omega arith))
-    (λ e. rw (top-fin e))
-
+-- an upper end less a number, and whether a number reaches it
 pub shorter-end : (u a : ℕ) → u ≡ endless → topOf endless ≡ shorter (topOf u) a
 shorter-end u a e = rw (e, top-end)
 

@@ -5,22 +5,22 @@ use mathlib.Core.Bool.{Bool, true, false}
 use mathlib.Core.List.{List}
 use mathlib.Core.Logic.{_↔_}
 use lib.ListN.{getD}
-use Rattle.meaning.specs.Sheet.{Sheet, Group, Tree, AtMost}
+use Rattle.meaning.specs.Sheet.{Sheet, Group, Tree, Rooted, AtMost}
 use Rattle.meaning.specs.Fits.{Fits, Possible, Attains}
 use Rattle.meaning.specs.Part.{BottomUp}
 use Rattle.meaning.specs.Arranged.{Arranged}
 use Rattle.meaning.specs.Shown.{shown, above}
+use Rattle.reading.specs.SheetIn.{sheetIn, none-above}
 use Rattle.sizes.specs.Span.{Span}
 use Rattle.sizes.specs.Fold.{own, Measured}
-use Rattle.sizes.specs.Ranged.{Rooted, free, Ranged}
+use Rattle.sizes.specs.Ranged.{free, Ranged}
 use Rattle.sizes.specs.Possible.{nowhere, possible}
 use Rattle.sizes.specs.RangeExact.{range-attains, range-ends}
 use Rattle.sizes.specs.ArrangedFits.{arranged-fits}
 use Rattle.sizes.specs.Part.{bottom-up}
 use Rattle.measuring.specs.Held.{topOf}
-use Rattle.measuring.specs.Tables.{sheetIn}
 use Rattle.measuring.specs.Done.{AllDone}
-use Rattle.ranging.specs.Tables.{leastIn, greatestIn, spanIn}
+use Rattle.ranging.specs.Tables.{leastIn, greatestIn, spanFields, spanIn}
 use Rattle.ranging.specs.Narrowed.{Measures}
 use Rattle.ranging.specs.Sized.{Arrangeable, span-of-ends, span-told}
 
@@ -41,7 +41,7 @@ measured-free f m = record { at = λ p q c. m .at p q c ∙ rw (f p q c) }
 -- group g k members
 pub range-said : {s : Sheet} {z : ℕ → Bool → Span} (ranges : List ℕ) → Tree s → Rooted s → Measured s free z → Possible s
     → Ranged s z (spanIn ranges) → (g : ℕ) → Group s g → (k : ℕ)
-    → ((getD ranges (2 * (g - 1)) 0 ≤ k) × AtMost k (topOf (getD ranges (2 * (g - 1) + 1) 0))) ↔ Attains s g k
+    → ((getD ranges (spanFields * (g - 1)) 0 ≤ k) × AtMost k (topOf (getD ranges (spanFields * (g - 1) + 1) 0))) ↔ Attains s g k
 unfolding spanIn
 range-said ranges t r m p h g q k =
     let w = possible t .0 p in
@@ -49,13 +49,14 @@ range-said ranges t r m p h g q k =
     rw (span-of-ends _ _ (e .0) (e .1) (e .2)) at (range-attains t r m h g k q)
 
 -- the bounds from which the arrangement is made
-pub bounds-said : {groups spans after : List ℕ} {n : ℕ} → Arrangeable groups n spans after → sheetIn groups n .parent 0 ≡ 0
+pub bounds-said : {groups spans after : List ℕ} {n : ℕ} → Arrangeable groups n spans after
     → BottomUp (sheetIn groups n) (leastIn spans) (greatestIn spans)
-bounds-said {groups} {spans} {after} {n} k o =
-    bottom-up (sheetIn groups n) (k .z) (leastIn spans) (greatestIn spans) (k .rooting .tree) o (k .measured) (span-told k)
+bounds-said {groups} {spans} {after} {n} k =
+    bottom-up (sheetIn groups n) (k .z) (leastIn spans) (greatestIn spans) (k .tabled .tree) (none-above (k .tabled))
+    (k .measured) (span-told k)
 
 -- the arrangement's sets fit
 pub arrangement-fits : {groups spans after : List ℕ} {n : ℕ} {first size : ℕ → ℕ} → Arrangeable groups n spans after
     → Arranged (sheetIn groups n) (leastIn spans) (greatestIn spans) first size
     → Fits (sheetIn groups n) (shown first size nowhere (above (sheetIn groups n .size) first size))
-arrangement-fits k a = arranged-fits (k .rooting .tree) (k .rooting .rooted) (k .measured) (span-told k) a
+arrangement-fits k a = arranged-fits (k .tabled .tree) (k .tabled .rooted) (k .measured) (span-told k) a

@@ -1,43 +1,56 @@
 -- The sizes of the arrangement, group after group, from the tables of measuring. With each group stands what its sons so far
 -- have left of it.
-use Prim.Native.Nat.{ℕ, zero, suc, _+_, _-_, _*_, _≤_, _<_, min}
+use Prim.Native.Nat.{ℕ, zero, suc, _+_, _-_, _≤_, _<_}
 use mathlib.Core.Path.{_≡_, refl, sym, ap, _∙_}
 use mathlib.Core.Bool.{Bool, true, false, cond}
 use mathlib.Core.List.{List}
 use native.Mathlib.Omega.{arith}
 use native.Mathlib.Nat.{le-refl}
 use lib.ListN.{length, getD, set, length-set}
-use lib.Seq.{getD-set-same, getD-set-other}
-use Rattle.wire.specs.Limits.{groupLimit, noEnd}
+use Rattle.wire.specs.Limits.{noEnd}
 use Rattle.meaning.specs.Sum.{sum}
 use Rattle.meaning.specs.Sheet.{Sheet, Group, Son, Tree, Top, fin}
 use Rattle.meaning.specs.Fits.{Possible}
 use Rattle.meaning.specs.OfRecords.{disjointMode, coverMode, sameMode}
 use Rattle.meaning.specs.Arranged.{cap, leftFor, sizeOf, Arranged}
+use Rattle.reading.specs.Tables.{groupIn}
+use Rattle.reading.specs.SheetIn.{sheetIn, sizeLimit, Tabled, disjoint-in, cover-in, same-in}
 use Rattle.sizes.specs.Balanced.{isSon, only, sons}
 use Rattle.sizes.specs.Span.{Span, span, plus, add, join}
 use Rattle.sizes.specs.Fold.{kindOf, shut, start, joined, later, Measured}
 use Rattle.sizes.specs.Ranged.{free}
-use Rattle.sizes.specs.SumLaws.{split, compare-le, compare-eq, sum-zero, sum-suc, son-of, son-is, son-parent}
+use Rattle.meaning.proofs.SumLaws.{
+  split,
+  compare-le,
+  compare-eq,
+  sum-zero,
+  sum-suc,
+  son-of,
+  son-is,
+  son-parent,
+  no-son-before,
+  one-parent,
+}
+use Rattle.sizes.specs.RuleSteps.{kind-disjoint, shut-cover}
 use Rattle.sizes.specs.LaterLaws.{later-none, later-son, later-skip}
 use Rattle.sizes.specs.Possible.{Sizes, possible}
 use Rattle.sizes.specs.RangeExact.{span-ends}
 use Rattle.sizes.specs.ArrangedFits.{arranged-sizes, arranged-exists}
 use Rattle.sizes.specs.ArrangedAlike.{arranged-eq}
-use Rattle.sizes.specs.Bounds.{span-small, weight-least}
-use Rattle.measuring.specs.Held.{endless, topOf, spanOf}
-use Rattle.measuring.specs.HeldLaws.{none-of, some-of, top-end, top-fin}
+use Rattle.sizes.specs.Bounds.{weight-least}
+use Rattle.measuring.specs.Held.{topOf, spanOf}
+use Rattle.measuring.specs.HeldLaws.{none-of, some-of}
 use Rattle.measuring.specs.Pairs.{pairIn}
-use Rattle.measuring.specs.Tables.{sheetIn, size-in, disjoint-in, cover-in, same-in}
-use Rattle.measuring.specs.DoneLaws.{small-in}
-use Rattle.runs.specs.Told.{numberIn, tableSheet, sizeLimit, Told, Placeable}
+use Rattle.measuring.specs.Done.{Lent}
+use Rattle.measuring.specs.DoneLaws.{room-span}
+use Rattle.runs.specs.Told.{numberIn, number-same, number-other, Told, Placeable}
 use Rattle.ranging.specs.Tables.{leastIn, greatestIn}
-use Rattle.ranging.specs.Narrowed.{Measures, Rooting, group-in, son-in, parent-below, one-parent}
+use Rattle.ranging.specs.Narrowed.{Measures}
 
 -- The tables from which the arrangement is taken: measured with every flag free, and some sets fit.
 pub record Arrangeable (groups : List ℕ) (n : ℕ) (spans after : List ℕ) : Type 0 where
-  pub rooting : Rooting groups n spans after
-  pub small : n ≤ groupLimit
+  pub tabled : Tabled groups n
+  pub lent : Lent n spans after
   pub z : ℕ → Bool → Span
   pub measured : Measured (sheetIn groups n) free z
   pub measures : Measures (sheetIn groups n) z spans after
@@ -47,9 +60,6 @@ pub record Arrangeable (groups : List ℕ) (n : ℕ) (spans after : List ℕ) : 
 -- parent has left.
 unfoldable pub sizeBy : Bool → Bool → Bool → ℕ → Top → ℕ → ℕ → ℕ
 sizeBy e d c l u w r = cond e w (cond c (cond d (cap u r) (cap u w)) l)
-
-pub cap-top : (m n : ℕ) → n ≤ endless → min m n ≡ cap (topOf m) n
-cap-top m n h = compare-eq m endless (λ e. rw (e, top-end) (omega arith)) (λ e. rw (top-fin e))
 
 -- the lower end of a span of two numbers
 pub span-of-ends : (a b l : ℕ) (u : Top) → spanOf a b ≡ span l u → spanOf a b ≡ span a (topOf b)
@@ -65,19 +75,7 @@ least-is a b l u e = let d = span-of-ends a b l u e in cc
 -- no son of p comes before p
 no-sons : {s : Sheet} → Tree s → (f : ℕ → ℕ) (p n : ℕ) → n ≤ suc p → p ≤ s .size → sum (only s p f) n ≡ 0
 no-sons {s} t f p n l h =
-    sum-zero (only s p f) n
-    (λ g k. split (isSon s p g)
-    (λ e. absurd (let j = son-of s p g (omega arith) e in omega (arith, t .before g (j .group))))
-    (λ e. rw e))
-
--- under 'disjoint' with 'cover' the sons are added up, from nothing on
-shared-kind : (s : Sheet) (p : ℕ) → s .same p ≡ false → s .disjoint p ≡ true → kindOf s p ≡ add
-unfolding kindOf
-shared-kind s p m d = rw (m, d)
-
-shared-shut : (s : Sheet) (p : ℕ) → s .same p ≡ false → s .cover p ≡ true → shut s p ≡ true
-unfolding shut
-shared-shut s p m c = rw (m, c)
+    sum-zero (only s p f) n (λ g k. rw (no-son-before t p g (omega arith) h))
 
 module _ {groups spans after : List ℕ} {n : ℕ} (k : Arrangeable groups n spans after) where
   abbrev s : Sheet
@@ -87,8 +85,8 @@ module _ {groups spans after : List ℕ} {n : ℕ} (k : Arrangeable groups n spa
   pub span-told : (g : ℕ) → Group s g → k .z g false ≡ span (leastIn spans g) (greatestIn spans g)
   unfolding pairIn
   span-told g q =
-      let w = possible (k .rooting .tree) .0 (k .fit) in
-      let e = span-ends (k .rooting .tree) (k .rooting .rooted) (k .measured) (w .0) (w .1) g q in
+      let w = possible (k .tabled .tree) .0 (k .fit) in
+      let e = span-ends (k .tabled .tree) (k .tabled .rooted) (k .measured) (w .0) (w .1) g q in
       let d = k .measures .spanned g q in
       sym d ∙ span-of-ends _ _ (e .0) (e .1) (d ∙ e .2)
 
@@ -118,7 +116,7 @@ module _ {groups spans after : List ℕ} {n : ℕ} (k : Arrangeable groups n spa
       → leastIn after g ≡ sons s p (leastIn spans) - sum (only s p (leastIn spans)) (suc g)
   unfolding pairIn
   after-least p g j m d c =
-      let w = later-least p (shared-kind s p m d) (shared-shut s p m c) (s .size - g) (omega arith) in
+      let w = later-least p (kind-disjoint s p m d) (shut-cover s p m ∙ c) (s .size - g) (omega arith) in
       let e = least-is _ _ (w .0) (w .1) (k .measures .followed p g j ∙ w .2) in
       let o : s .size - (s .size - g) ≡ g = omega (arith, j .group .last) in
       let x = rw o at (w .3) in
@@ -126,7 +124,7 @@ module _ {groups spans after : List ℕ} {n : ℕ} (k : Arrangeable groups n spa
 
   module _ {first size : ℕ → ℕ} (a : Arranged s (leastIn spans) (greatestIn spans) first size) where
     pub told-sizes : Sizes s size
-    told-sizes = arranged-sizes (k .rooting .tree) (k .rooting .rooted) (k .measured) span-told a
+    told-sizes = arranged-sizes (k .tabled .tree) (k .tabled .rooted) (k .measured) span-told a
 
     -- every size by what stands in the tables
     pub size-by : (p g : ℕ) → Son s p g
@@ -135,7 +133,7 @@ module _ {groups spans after : List ℕ} {n : ℕ} (k : Arrangeable groups n spa
     unfolding sizeBy sizeOf leftFor
     size-by p g j =
         split (s .same p)
-        (λ m. rw m (told-sizes .balanced .at p (son-parent (k .rooting .tree) j) .equal g j m))
+        (λ m. rw m (told-sizes .balanced .at p (son-parent (k .tabled .tree) j) .equal g j m))
         (λ m. split (s .cover p)
         (λ c. split (s .disjoint p)
         (λ d. let e : size p - (sum (only s p size) g + (sons s p (leastIn spans) - sum (only s p (leastIn spans)) (suc g)))
@@ -145,7 +143,7 @@ module _ {groups spans after : List ℕ} {n : ℕ} (k : Arrangeable groups n spa
         (λ c. (rw (m, c) at (a .sonSize p g j)) ∙ rw (m, c)))
 
 -- the groups up to i have their sizes f, and `left` is what the sons up to i have left of each group
-pub record Sized (s : Sheet) (size f left : ℕ → ℕ) (i : ℕ) : Type 0 where
+pub record SizedTo (s : Sheet) (size f left : ℕ → ℕ) (i : ℕ) : Type 0 where
   pub found : (g : ℕ) → Group s g → g ≤ i → f g ≡ size g
   pub rest : (p : ℕ) → Group s p → p ≤ i → left p ≡ size p - sum (only s p size) (suc i)
 
@@ -159,7 +157,7 @@ pub record Sizing (sizes left : List ℕ) (p g x : ℕ) (sizes' left' : List ℕ
 
 module _ {s : Sheet} {size : ℕ → ℕ} (t : Tree s) where
   -- the root alone
-  pub sized-root : {f left : ℕ → ℕ} → Group s 1 → f 1 ≡ size 1 → left 1 ≡ size 1 → Sized s size f left 1
+  pub sized-root : {f left : ℕ → ℕ} → Group s 1 → f 1 ≡ size 1 → left 1 ≡ size 1 → SizedTo s size f left 1
   sized-root q e o = record {
     found = λ g j l. let one : g ≡ 1 = omega (arith, j .first) in rw one e;
     rest = λ p j l. let one : p ≡ 1 = omega (arith, j .first) in
@@ -168,8 +166,8 @@ module _ {s : Sheet} {size : ℕ → ℕ} (t : Tree s) where
 
   -- one more group
   pub sized-more : {sizes left sizes' left' : List ℕ} (p i x : ℕ) → Son s p (suc i)
-      → Sized s size (numberIn sizes) (numberIn left) i → x ≡ size (suc i) → Sizing sizes left p (suc i) x sizes' left'
-      → Sized s size (numberIn sizes') (numberIn left') (suc i)
+      → SizedTo s size (numberIn sizes) (numberIn left) i → x ≡ size (suc i) → Sizing sizes left p (suc i) x sizes' left'
+      → SizedTo s size (numberIn sizes') (numberIn left') (suc i)
   sized-more p i x k w e v = record {
     found = λ g j l. compare-eq g (suc i)
         (λ o. rw o (v .found ∙ e))
@@ -187,25 +185,24 @@ module _ {s : Sheet} {size : ℕ → ℕ} (t : Tree s) where
 
 -- one turn
 pub size-step : {groups spans after sizes left sizes' left' : List ℕ} {n : ℕ} → Arrangeable groups n spans after
-    → (g p x : ℕ) → 2 ≤ g → g ≤ n → p ≡ getD groups (4 * (g - 1)) 0
-    → (m : ℕ) → m ≡ getD groups (4 * (p - 1) + 3) 0
+    → (g p x : ℕ) → Son (sheetIn groups n) p g
+    → (m : ℕ) → m ≡ groupIn groups (p - 1) .mode
     → x ≡ sizeBy (sameMode m) (disjointMode m) (coverMode m) (leastIn spans g) (greatestIn spans g) (numberIn sizes p)
     (numberIn left p - leastIn after g)
     → Sizing sizes left p g x sizes' left'
     → (first size : ℕ → ℕ) → Arranged (sheetIn groups n) (leastIn spans) (greatestIn spans) first size
-    → Sized (sheetIn groups n) size (numberIn sizes) (numberIn left) (g - 1)
-    → Sized (sheetIn groups n) size (numberIn sizes') (numberIn left') g
-size-step k zero p x a b e m f d v first size r w = absurd (omega arith)
-size-step {groups} {spans} {after} {sizes} {left} {n = n} k (suc i) p x a b e m f d v first size r w =
-    let j = son-in (k .rooting) (suc i) p a b e in
-    let l = parent-below (k .rooting) (suc i) p a b e in
-    let q = group-in groups n p (l .0) (omega arith) in
+    → SizedTo (sheetIn groups n) size (numberIn sizes) (numberIn left) (g - 1)
+    → SizedTo (sheetIn groups n) size (numberIn sizes') (numberIn left') g
+size-step k zero p x j m f d v first size r w = absurd (omega (arith, j .group .first))
+size-step {groups} {spans} {after} {sizes} {left} {n = n} k (suc i) p x j m f d v first size r w =
+    let q = son-parent (k .tabled .tree) j in
+    let l : p ≤ i = omega (arith, k .tabled .tree .before (suc i) (j .group), j .under) in
     let o : suc i - 1 ≡ i = omega arith in
     let y = rw o at w in
     let by = size-by k r p (suc i) j in
-    let found = y .found p q (omega arith) in
-    let rest = y .rest p q (omega arith) in
-    sized-more (k .rooting .tree) p i x j y
+    let found = y .found p q l in
+    let rest = y .rest p q l in
+    sized-more (k .tabled .tree) p i x j y
     (d ∙ rw (found, rest, f, ← same-in groups n p q, ← disjoint-in groups n p q, ← cover-in groups n p q) (sym by))
     v
 
@@ -216,13 +213,12 @@ pub sizing : (sizes left : List ℕ) (p g x y : ℕ) → 1 ≤ p → p < g → g
 sizing sizes left p g x y a b c d e =
     let mid = set left (g - 1) x in
     record {
-      found = getD-set-same sizes (g - 1) x 0 (omega arith);
-      others = λ h i n. getD-set-other sizes (g - 1) (h - 1) x 0 (λ o. n (omega arith));
-      own = getD-set-other mid (p - 1) (g - 1) y 0 (λ o. omega arith) ∙ getD-set-same left (g - 1) x 0 (omega arith);
-      last = getD-set-same mid (p - 1) y 0 (simp length-set (omega arith)) ∙ e
-          ∙ ap (λ m. m - x) (getD-set-other left (g - 1) (p - 1) x 0 (λ o. omega arith));
-      rest = λ h i n o. getD-set-other mid (p - 1) (h - 1) y 0 (λ r. o (omega arith))
-          ∙ getD-set-other left (g - 1) (h - 1) x 0 (λ r. n (omega arith));
+      found = number-same sizes g x (omega arith) c;
+      others = λ h i n. number-other sizes g h x (omega arith) i n;
+      own = number-other mid p g y a (omega arith) (λ o. omega arith) ∙ number-same left g x (omega arith) d;
+      last = number-same mid p y a (simp length-set (omega arith)) ∙ e
+          ∙ ap (λ m. m - x) (number-other left g p x (omega arith) a (λ o. omega arith));
+      rest = λ h i n o. number-other mid p h y a i o ∙ number-other left g h x (omega arith) i n;
     }
 
 -- All groups have their sizes: the sizes of the table are those of an arrangement.
@@ -231,26 +227,23 @@ module _ {groups spans after : List ℕ} {n : ℕ} (k : Arrangeable groups n spa
     → (g : ℕ) → Group (sheetIn groups n) g → numberIn sizes g ≡ size g) where
   table-sizes : (first : ℕ → ℕ) × Arranged (sheetIn groups n) (leastIn spans) (greatestIn spans) first (numberIn sizes)
   table-sizes =
-      let t = k .rooting .tree in
-      let r = k .rooting .rooted in
+      let t = k .tabled .tree in
+      let r = k .tabled .rooted in
       let w = arranged-exists t r (leastIn spans) (greatestIn spans) in
       (w .0, arranged-eq t (λ g q. refl) (λ g q. sym (all (w .0) (w .1) (w .2) g q)) r (w .2))
 
   -- the root has its least count, which is not large
   table-top : ((i : ℕ) → getD groups i 0 ≤ noEnd) → numberIn sizes 1 ≤ sizeLimit
   table-top b =
-      let t = k .rooting .tree in
-      let q = k .rooting .rooted .one in
-      let e = span-told k 1 q in
-      let w = rw e at (span-small (sheetIn groups n) free (k .z) noEnd t (k .measured) (small-in groups n b) 1 q false) in
-      omega (arith, table-sizes .1 .rootSize, weight-least _ _ _ w, k .small, size-in groups n)
+      let q = k .tabled .rooted .one in
+      let w = rw (span-told k 1 q) at (room-span (k .tabled) b (k .measured) 1 q false) in
+      omega (arith, table-sizes .1 .rootSize, weight-least _ _ _ w)
 
   -- so the runs can be placed
   pub table-placeable : (firsts ends : List ℕ) → ((i : ℕ) → getD groups i 0 ≤ noEnd) → n ≤ length sizes → n ≤ length firsts
       → n ≤ length ends → Placeable groups n sizes firsts ends
-  unfolding sheetIn
   table-placeable firsts ends b x y z = record {
-    grown = record { small = k .small; long = k .rooting .groups-long; tree = k .rooting .tree; rooted = k .rooting .rooted };
+    grown = k .tabled;
     sizes-long = x;
     firsts-long = y;
     ends-long = z;
@@ -259,9 +252,8 @@ module _ {groups spans after : List ℕ} {n : ℕ} (k : Arrangeable groups n spa
   }
 
   -- and with starts in document 01's words they are the arrangement
-  pub table-arranged : (first : ℕ → ℕ) → Told (tableSheet groups n) (numberIn sizes) first
+  pub table-arranged : (first : ℕ → ℕ) → Told (sheetIn groups n) (numberIn sizes) first
       → Arranged (sheetIn groups n) (leastIn spans) (greatestIn spans) first (numberIn sizes)
-  unfolding sheetIn
   table-arranged first w =
       let a = table-sizes .1 in
       record { rootSize = a .rootSize; rootFirst = w .root; sonSize = a .sonSize; sonFirst = w .son }

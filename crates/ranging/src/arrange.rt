@@ -1,24 +1,26 @@
 // The arrangement: sizes from the root down, group after group, then the starts of the runs. `left` has with each group
 // what its sons so far have left of it.
-use crate::pull::minus;
-use crate::pull::smaller;
 use crate::tables::out_at;
 use measuring::spans::Span;
+use measuring::spans::minus;
+use measuring::spans::smaller;
 use reading::tables::GroupNo;
 use reading::tables::mode_of;
-use reading::tables::parent_of;
+use runs::place::parent_group;
 use runs::place::place_runs;
 ghost use mathlib.Core.Path.{_≡_};
 ghost use Prim.Native.Nat.{ℕ, _+_, _-_, _*_, _≤_, _<_};
-ghost use lib.ListN.{length, getD};
+ghost use lib.ListN.{length};
 ghost use Rattle.meaning.specs.Sheet.{Group};
 ghost use Rattle.meaning.specs.OfRecords.{disjointMode, coverMode, sameMode};
 ghost use Rattle.meaning.specs.Arranged.{Arranged};
+ghost use Rattle.reading.specs.Tables.{groupFields, groupIn};
+ghost use Rattle.reading.specs.SheetIn.{sheetIn};
 ghost use Rattle.measuring.specs.Held.{topOf};
-ghost use Rattle.measuring.specs.Tables.{sheetIn};
+ghost use Rattle.measuring.specs.Pairs.{pairFields};
 ghost use Rattle.runs.specs.Told.{numberIn};
 ghost use Rattle.ranging.specs.Tables.{leastIn, greatestIn};
-ghost use Rattle.ranging.specs.Sized.{sizeBy, Arrangeable, Sizing, Sized};
+ghost use Rattle.ranging.specs.Sized.{sizeBy, Arrangeable, Sizing, SizedTo};
 
 // The size of a son under a group of this mode with `whole` members, of which `rest` are left for it. Where 'same' with
 // 'disjoint' has two or more sons the group itself is empty, so no case of its own is needed.
@@ -48,11 +50,11 @@ fn size_of(
     p: GroupNo,
     g: GroupNo,
 ) -> u32
-    requires { ⌜ (1 ≤ p .0) × (p .0 < g .0) × (4 * (g .0) ≤ length (now groups)) × (4 * (g .0) ≤ length (now spans))
-        × (4 * (g .0) ≤ length (now after)) × (g .0 ≤ length (now sizes)) × (g .0 ≤ length (now left)) ⌝ }
-    ensures { λ r. ⌜ r ≡ sizeBy (sameMode (getD (now (groups .entry)) (4 * (p .0 - 1) + 3) 0))
-        (disjointMode (getD (now (groups .entry)) (4 * (p .0 - 1) + 3) 0))
-        (coverMode (getD (now (groups .entry)) (4 * (p .0 - 1) + 3) 0))
+    requires { ⌜ (1 ≤ p .0) × (p .0 < g .0) × (groupFields * (g .0) ≤ length (now groups))
+        × (pairFields * (g .0) ≤ length (now spans)) × (pairFields * (g .0) ≤ length (now after)) × (g .0 ≤ length (now sizes)) × (g .0 ≤ length (now left)) ⌝ }
+    ensures { λ r. ⌜ r ≡ sizeBy (sameMode (groupIn (now (groups .entry)) (p .0 - 1) .mode))
+        (disjointMode (groupIn (now (groups .entry)) (p .0 - 1) .mode))
+        (coverMode (groupIn (now (groups .entry)) (p .0 - 1) .mode))
         (leastIn (now (spans .entry)) (g .0)) (greatestIn (now (spans .entry)) (g .0)) (numberIn (now (sizes .entry)) (p .0))
         (numberIn (now (left .entry)) (p .0) - leastIn (now (after .entry)) (g .0)) ⌝ }
 {
@@ -90,10 +92,10 @@ fn size_son(
     requires { ⌜ (2 ≤ g .0) × (g .0 ≤ size) ⌝ }
     ensures { λ _. ⌜ ((first f : ℕ → ℕ)
         → Arranged (sheetIn (now (groups .entry)) size) (leastIn (now (spans .entry))) (greatestIn (now (spans .entry))) first f
-        → Sized (sheetIn (now (groups .entry)) size) f (numberIn (now (sizes .entry))) (numberIn (now (left .entry))) (g .0 - 1)
-        → Sized (sheetIn (now (groups .entry)) size) f (numberIn (now (sizes .exit))) (numberIn (now (left .exit))) (g .0)) ⌝ }
+        → SizedTo (sheetIn (now (groups .entry)) size) f (numberIn (now (sizes .entry))) (numberIn (now (left .entry))) (g .0 - 1)
+        → SizedTo (sheetIn (now (groups .entry)) size) f (numberIn (now (sizes .exit))) (numberIn (now (left .exit))) (g .0)) ⌝ }
 {
-    let p = parent_of(groups, g);
+    let p = parent_group(groups, size, g);
     let n = size_of(groups, spans, after, sizes, left, p, g);
     put_size(sizes, left, p, g, n);
 }

@@ -9,26 +9,27 @@ use measuring::spans::kind_of;
 use measuring::spans::meet;
 use reading::tables::GroupNo;
 use reading::tables::mode_of;
-use reading::tables::parent_of;
+use runs::place::parent_group;
 ghost use mathlib.Core.Path.{_≡_};
 ghost use mathlib.Core.Bool.{Bool, true, false};
 ghost use mathlib.Core.Logic.{_↔_};
 ghost use Prim.Native.Nat.{ℕ, _-_, _*_, _≤_, _<_};
 ghost use lib.ListN.{length};
-ghost use Rattle.meaning.specs.Sheet.{Sheet, Tree};
+ghost use Rattle.meaning.specs.Sheet.{Sheet, Tree, Rooted};
 ghost use Rattle.meaning.specs.Fits.{Possible};
+ghost use Rattle.reading.specs.SheetIn.{sheetIn, Tabled};
 ghost use Rattle.sizes.specs.Span as sizes;
 ghost use Rattle.sizes.specs.Fold.{Measured};
-ghost use Rattle.sizes.specs.Ranged.{Rooted, free, Ranged};
+ghost use Rattle.sizes.specs.Ranged.{free, Ranged};
 ghost use Rattle.measuring.specs.Held.{held};
-ghost use Rattle.measuring.specs.Pairs.{pairIn};
-ghost use Rattle.measuring.specs.Tables.{sheetIn};
-ghost use Rattle.ranging.specs.Tables.{spanIn};
-ghost use Rattle.ranging.specs.Narrowed.{Rooting, Measures, Turned, Narrowed};
+ghost use Rattle.measuring.specs.Pairs.{pairFields, pairIn};
+ghost use Rattle.measuring.specs.Done.{Lent};
+ghost use Rattle.ranging.specs.Tables.{spanFields, spanIn};
+ghost use Rattle.ranging.specs.Narrowed.{Measures, Turned, Narrowed};
 
 // whether the root's interval, as measured, has a number: whether some sets fit
 pub fn possible(spans: &[u32]) -> bool
-    requires { ⌜ 4 ≤ length (now spans) ⌝ }
+    requires { ⌜ pairFields ≤ length (now spans) ⌝ }
     ensures { λ r. ⌜ ((s : Sheet) (z : ℕ → Bool → sizes.Span) → Tree s → Rooted s → Measured s free z
         → pairIn (now (spans .entry)) 1 false ≡ z 1 false → (r ≡ true) ↔ Possible s) ⌝ }
 {
@@ -38,7 +39,8 @@ pub fn possible(spans: &[u32]) -> bool
 
 // The range of g, a son of p, and what the sons of p after g must make up.
 fn put_turn(ranges: &mut [u32], rest: &mut [u32], g: GroupNo, p: GroupNo, range: Span, left: Span)
-    requires { ⌜ (1 ≤ p .0) × (p .0 < g .0) × (2 * (g .0) ≤ length (now ranges)) × (2 * (g .0) ≤ length (now rest)) ⌝ }
+    requires { ⌜ (1 ≤ p .0) × (p .0 < g .0) × (spanFields * (g .0) ≤ length (now ranges))
+        × (spanFields * (g .0) ≤ length (now rest)) ⌝ }
     ensures { λ _. ⌜ Turned (now (ranges .entry)) (now (rest .entry)) (g .0) (p .0) (held range) (held left)
         (now (ranges .exit)) (now (rest .exit)) ⌝ }
 {
@@ -57,15 +59,15 @@ fn narrow_son(
     rest: &mut [u32],
     g: GroupNo,
 )
-    requires { ⌜ Rooting (now groups) size (now spans) (now after) ⌝ }
-    requires { ⌜ (2 * size ≤ length (now ranges)) × (2 * size ≤ length (now rest)) ⌝ }
+    requires { ⌜ Tabled (now groups) size × Lent size (now spans) (now after) ⌝ }
+    requires { ⌜ (spanFields * size ≤ length (now ranges)) × (spanFields * size ≤ length (now rest)) ⌝ }
     requires { ⌜ (2 ≤ g .0) × (g .0 ≤ size) ⌝ }
     ensures { λ _. ⌜ ((z : ℕ → Bool → sizes.Span)
         → Measures (sheetIn (now (groups .entry)) size) z (now (spans .entry)) (now (after .entry))
         → Narrowed (sheetIn (now (groups .entry)) size) z (spanIn (now (ranges .entry))) (spanIn (now (rest .entry))) (g .0 - 1)
         → Narrowed (sheetIn (now (groups .entry)) size) z (spanIn (now (ranges .exit))) (spanIn (now (rest .exit))) (g .0)) ⌝ }
 {
-    let p = parent_of(groups, g);
+    let p = parent_group(groups, size, g);
     let kind = kind_of(mode_of(groups, p));
     let own = out_at(spans, g);
     let others = out_at(after, g);
@@ -84,8 +86,8 @@ pub fn narrow(
     ranges: &mut [u32],
     rest: &mut [u32],
 )
-    requires { ⌜ Rooting (now groups) size (now spans) (now after) ⌝ }
-    requires { ⌜ (2 * size ≤ length (now ranges)) × (2 * size ≤ length (now rest)) ⌝ }
+    requires { ⌜ Tabled (now groups) size × Lent size (now spans) (now after) ⌝ }
+    requires { ⌜ (spanFields * size ≤ length (now ranges)) × (spanFields * size ≤ length (now rest)) ⌝ }
     ensures { λ _. ⌜ ((z : ℕ → Bool → sizes.Span)
         → Measures (sheetIn (now (groups .entry)) size) z (now (spans .entry)) (now (after .entry))
         → Ranged (sheetIn (now (groups .entry)) size) z (spanIn (now (ranges .exit)))) ⌝ }

@@ -3,25 +3,13 @@ use measuring::spans::ENDLESS;
 use measuring::spans::Kind;
 use measuring::spans::Span;
 use measuring::spans::meet;
+use measuring::spans::minus;
 use measuring::spans::nothing;
 ghost use mathlib.Core.Path.{_≡_};
-ghost use Prim.Native.Nat.{_-_, _≤_, min};
+ghost use Prim.Native.Nat.{_≤_};
 ghost use Rattle.sizes.specs.Span as sizes;
 ghost use Rattle.measuring.specs.Held.{topOf, held, kindHeld};
 ghost use Rattle.ranging.specs.PullLaws.{pullBy};
-
-// a less b, 0 where b is larger
-pub fn minus(a: u32, b: u32) -> u32
-    ensures { λ r. ⌜ r ≡ a - b ⌝ }
-{
-    if a < b { 0 } else { a - b }
-}
-
-pub fn smaller(a: u32, b: u32) -> u32
-    ensures { λ r. ⌜ r ≡ min a b ⌝ }
-{
-    if a < b { a } else { b }
-}
 
 // the upper end u less a
 fn shorter(u: u32, a: u32) -> u32

@@ -9,6 +9,7 @@ use borrow.Author.Tests.{leb-true, le-leb, eqb-true}
 use lib.ListN.{length, drop, length-drop}
 use lib.Seq.{getD-drop}
 use lib.Dec.{leb, eqb}
+use Rattle.wire.specs.Edition.{Edition, labelLimit}
 use Rattle.wire.specs.Bytes.{u16At}
 use Rattle.wire.specs.Record.{framed, Test, test, refusal}
 use Rattle.wire.specs.SheetFormat.{GroupRecord, NameRecord, ClaimRecord, u16s}
@@ -120,17 +121,17 @@ group-whole s at gs e =
     let z : u16At s at ≡ 10 = sym (length-at s at) ∙ eqb-true _ _ (l .0) in
     (z, omega arith)
 
-pub name-whole : (s : List ℕ) (at groups : ℕ) (ns : List NameRecord) → refusal (nameTests groups ns (drop at s)) ≡ 0 →
-    WholeName s at × (u16At s at ≤ 20)
+pub name-whole : (e : Edition) (s : List ℕ) (at groups : ℕ) (ns : List NameRecord) → refusal (nameTests e groups ns (drop at s)) ≡ 0 →
+    WholeName s at × (u16At s at ≤ labelLimit e + 4)
 unfolding nameTests
-name-whole s at groups ns e =
-    let f = passes _ _ _ e (λ z. omega arith) in
+name-whole e s at groups ns w =
+    let f = passes _ _ _ w (λ z. omega arith) in
     let k = passes _ _ _ (f .1) (λ z. omega arith) in
     let l = passes _ _ _ (k .1) (λ z. omega arith) in
     let g = frame-of s at (f .0) in
-    let y = and-true (leb 5 (u16At (drop at s) 0)) (leb (u16At (drop at s) 0) 20) (l .0) in
+    let y = and-true (leb 5 (u16At (drop at s) 0)) (leb (u16At (drop at s) 0) (labelLimit e + 4)) (l .0) in
     let p = leb-true 5 (u16At (drop at s) 0) (y .0) in
-    let q = leb-true (u16At (drop at s) 0) 20 (y .1) in
+    let q = leb-true (u16At (drop at s) 0) (labelLimit e + 4) (y .1) in
     let z = length-at s at in
     (record { least = omega arith; room = omega arith }, omega arith)
 
@@ -154,7 +155,7 @@ last-apart true true true true false u = refl
 last-apart true true true true true true = refl
 last-apart true true true true true false = refl
 
-pub name-apart : (groups : ℕ) (ns : List NameRecord) (b : List ℕ) → refusal (nameTests groups ns b)
-    ≡ cond (eqb (refusal (nameTests groups [] b)) 0) (cond (used ns (nameOf b .label)) 6 0) (refusal (nameTests groups [] b))
+pub name-apart : (e : Edition) (groups : ℕ) (ns : List NameRecord) (b : List ℕ) → refusal (nameTests e groups ns b)
+    ≡ cond (eqb (refusal (nameTests e groups [] b)) 0) (cond (used ns (nameOf b .label)) 6 0) (refusal (nameTests e groups [] b))
 unfolding nameTests used
-name-apart groups ns b = last-apart _ _ _ _ _ (used ns (nameOf b .label))
+name-apart e groups ns b = last-apart _ _ _ _ _ (used ns (nameOf b .label))

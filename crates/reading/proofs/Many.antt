@@ -11,6 +11,7 @@ use borrow.Author.Tests.{ne-eqb}
 use lib.ListN.{length, getD, drop, set, length-set}
 use lib.Seq.{drop-drop, sets, getD-set-same, getD-set-other}
 use Rattle.wire.specs.Bytes.{u16At}
+use Rattle.wire.specs.Edition.{Edition}
 use Rattle.wire.specs.Record.{after, Test, refusal, Reading, read, refused, onward}
 use Rattle.wire.specs.SheetFormat.{GroupRecord, NameRecord, Records, groupOf, groupTests, nameOf}
 use Rattle.wire.specs.SheetFormat.{nameTests, used, claimOf, claimTests, readMany}
@@ -207,13 +208,13 @@ module _ {claims places claims-put places-put : List ℕ} {n : ℕ} {c : Claim} 
   held-more s names before here = each-more _ _ n before (λ i l e. rw (claim-kept i l) e) (rw claim-here here)
 
 -- a name's tests, its label's use set apart
-pub name-alone : (groups n : ℕ) (ns : List NameRecord) (b : List ℕ) → refusal (nameTests groups [] b) ≡ n → (n ≡ 0 → ⊥) →
-    refusal (nameTests groups ns b) ≡ n
-name-alone groups n ns b e h = rw (name-apart groups ns b, e, ne-eqb n 0 h)
+pub name-alone : (v : Edition) (groups n : ℕ) (ns : List NameRecord) (b : List ℕ) → refusal (nameTests v groups [] b) ≡ n → (n ≡ 0 → ⊥) →
+    refusal (nameTests v groups ns b) ≡ n
+name-alone v groups n ns b e h = rw (name-apart v groups ns b, e, ne-eqb n 0 h)
 
-pub name-used : (groups : ℕ) (ns : List NameRecord) (b : List ℕ) → refusal (nameTests groups [] b) ≡ 0 →
-    used ns (nameOf b .label) ≡ true → refusal (nameTests groups ns b) ≡ 6
-name-used groups ns b e f = rw (name-apart groups ns b, e, f)
+pub name-used : (v : Edition) (groups : ℕ) (ns : List NameRecord) (b : List ℕ) → refusal (nameTests v groups [] b) ≡ 0 →
+    used ns (nameOf b .label) ≡ true → refusal (nameTests v groups ns b) ≡ 6
+name-used v groups ns b e f = rw (name-apart v groups ns b, e, f)
 
 -- one more group, name or claim, as the loops store it
 pub group-again : {s : List ℕ} (t : List ℕ) {u : List ℕ} {from count i at : ℕ} {x : Record} {g : Group} →
@@ -227,18 +228,18 @@ group-again {s} t {u} {from} {count} {i} {at} {x} {g} left h room w e put =
     rw (put, groups-more t i r room, group-same w e)
     (left-more groupTests groupOf s from count 2 i at (groupsIn t i) left h 12 (w .pass) (omega arith))
 
-pub name-again : {s : List ℕ} (places : List ℕ) (groups : ℕ) {from count i at : ℕ} {x : Record} {n : Name} →
-    Left (nameTests groups) nameOf s from count (2 + groups) i at (recordsIn nameOf s places i) → i < count → i < length places →
-    Handed (nameTests groups []) (λ b. name (nameOf b)) s at x → x ≡ record-of.Name n → WholeName s at →
+pub name-again : {s : List ℕ} (places : List ℕ) (v : Edition) (groups : ℕ) {from count i at : ℕ} {x : Record} {n : Name} →
+    Left (nameTests v groups) nameOf s from count (2 + groups) i at (recordsIn nameOf s places i) → i < count → i < length places →
+    Handed (nameTests v groups []) (λ b. name (nameOf b)) s at x → x ≡ record-of.Name n → WholeName s at →
     used (recordsIn nameOf s places i) (nameOf (drop at s) .label) ≡ false →
-    Left (nameTests groups) nameOf s from count (2 + groups) (i + 1) (at + 6 + n .bytes) (recordsIn nameOf s (set places i at) (i + 1))
-name-again {s} places groups {from} {count} {i} {at} {x} {n} left h room w e k f =
-    let z : refusal (nameTests groups (recordsIn nameOf s places i) (drop at s)) ≡ 0 =
-    rw (name-apart groups (recordsIn nameOf s places i) (drop at s), w .pass, f) in
+    Left (nameTests v groups) nameOf s from count (2 + groups) (i + 1) (at + 6 + n .bytes) (recordsIn nameOf s (set places i at) (i + 1))
+name-again {s} places v groups {from} {count} {i} {at} {x} {n} left h room w e k f =
+    let z : refusal (nameTests v groups (recordsIn nameOf s places i) (drop at s)) ≡ 0 =
+    rw (name-apart v groups (recordsIn nameOf s places i) (drop at s), w .pass, f) in
     let y = name-same w e k .1 in
     let p : at + 6 + n .bytes ≡ at + (6 + n .bytes) = omega arith in
     rw (p, records-more s places i at room nameOf)
-    (left-more (nameTests groups) nameOf s from count (2 + groups) i at (recordsIn nameOf s places i) left h (6 + n .bytes) z
+    (left-more (nameTests v groups) nameOf s from count (2 + groups) i at (recordsIn nameOf s places i) left h (6 + n .bytes) z
     (omega arith))
 
 pub claim-again : (names : ℕ) {s claims places claims-put places-put : List ℕ} {from count first i at bytes : ℕ} {x : Record}

@@ -5,6 +5,8 @@ use mathlib.Core.List.{List}
 use native.Mathlib.Omega.{arith}
 use borrow.Author.Tests.{eq-eqb, ne-eqb}
 use lib.ListN.{length, getD, drop, length-drop}
+use Rattle.wire.specs.Edition.{Edition, editionOf}
+use Rattle.wire.specs.EditionFacts.{groups-within}
 use Rattle.wire.specs.Bytes.{u16At}
 use Rattle.wire.specs.Record.{after, refusal, Reading, read, refused, onward}
 use Rattle.wire.specs.SheetFormat.{HeadRecord, GroupRecord, NameRecord, ClaimRecord, Records, groupOf, groupTests, nameOf}
@@ -32,7 +34,7 @@ unfolding readGroups
 group-stage h s from p gs g = g .goes (readNames h)
 
 pub name-stage : (h : HeadRecord) (s : List ℕ) (from : ℕ) (p : Passed) (gs : List GroupRecord) (names labels : List ℕ) →
-    NamesGo (h .groups) s from (h .names) p names labels →
+    NamesGo (h .edition) (h .groups) s from (h .names) p names labels →
     goesOn (passedAs p) (λ at. readClaims h gs (2 + h .groups + h .names) (recordsIn nameOf s labels (h .names)) (drop at s))
     ≡ readNames h (2 + h .groups) gs (drop from s)
 unfolding readNames
@@ -41,18 +43,18 @@ name-stage h s from p gs names labels g = g .reads .goes (readClaims h gs)
 pub claim-stage : (h : HeadRecord) (s : List ℕ) (from first : ℕ) (p : Passed) (gs : List GroupRecord)
     (ns : List NameRecord) (claims places : List ℕ) →
     ClaimsGo (h .names) first s from (h .claims) p claims places →
-    goesOn (passedAs p) (λ at. closing gs ns (first + h .claims) (claimsIn s claims places (h .claims)) (drop at s))
+    goesOn (passedAs p) (λ at. closing (h .edition) gs ns (first + h .claims) (claimsIn s claims places (h .claims)) (drop at s))
     ≡ readClaims h gs first ns (drop from s)
 unfolding readClaims
-claim-stage h s from first p gs ns claims places g = g .reads .goes (closing gs ns)
+claim-stage h s from first p gs ns claims places g = g .reads .goes (closing (h .edition) gs ns)
 
 -- the end: 7 where bytes follow
-module _ (gs : List GroupRecord) (ns : List NameRecord) (r : ℕ) (cs : List ClaimRecord) (s : List ℕ) (at : ℕ) where
-  pub bytes-follow : at < length s → closing gs ns r cs (drop at s) ≡ refused 7 r
+module _ (v : Edition) (gs : List GroupRecord) (ns : List NameRecord) (r : ℕ) (cs : List ClaimRecord) (s : List ℕ) (at : ℕ) where
+  pub bytes-follow : at < length s → closing v gs ns r cs (drop at s) ≡ refused 7 r
   unfolding closing refusal onward
   bytes-follow l = rw (length-drop at s, ne-eqb (length s - at) 0 (omega arith))
 
-  pub at-end : length s ≤ at → closing gs ns r cs (drop at s) ≡ read (record { groups = gs; names = ns; claims = cs })
+  pub at-end : length s ≤ at → closing v gs ns r cs (drop at s) ≡ read (record { edition = v; groups = gs; names = ns; claims = cs })
   unfolding closing refusal onward
   at-end l = rw (length-drop at s, eq-eqb (length s - at) 0 (omega arith))
 
@@ -97,7 +99,7 @@ module _ {s : List ℕ} {x : Record} {h : Head} (w : Handed headTests (λ b. hea
     omega arith,
     rw (head-same w e) (record {
       someGroup = omega arith;
-      fewGroups = omega arith;
+      fewGroups = omega (arith, groups-within (editionOf (u16At s 4)));
       fewNames = omega arith;
       fewClaims = omega arith;
     }),

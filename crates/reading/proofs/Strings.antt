@@ -1,20 +1,22 @@
 -- Laws of the runs that the tests walk: the bytes of a label, two labels side by side, the names of a claim, the labels before.
 use Prim.Native.Nat.{ℕ, zero, suc, _+_, _-_, _*_, _≤_, _<_}
 use mathlib.Core.Path.{_≡_, refl, ap}
-use mathlib.Core.Bool.{true, false, _&&_, _||_}
+use mathlib.Core.Bool.{Bool, true, false, _&&_, _||_, and-assoc}
 use mathlib.Core.List.{List, [], _∷_, _++_}
 use mathlib.Core.Logic.{⊎-elim}
 use native.Mathlib.Omega.{arith}
 use native.Mathlib.Numerals.{add-one}
 use native.Mathlib.Nat.{eq-or-lt-of-le}
-use borrow.Author.Tests.{le-leb, lt-leb, eq-eqb, ne-eqb}
+use borrow.Author.Tests.{le-leb, lt-leb, eq-eqb, ne-eqb, eqb-true, eqb-false}
 use lib.ListN.{length, getD, take, drop, length-take, length-drop}
-use lib.Seq.{drop-cons, drop-drop}
+use lib.Seq.{drop-cons, drop-drop, take-add}
 use lib.Dec.{leb, eqb}
 use Rattle.wire.specs.Bytes.{u16At}
+use Rattle.wire.specs.Wide.{bytesAt}
+use Rattle.wire.specs.Encoding.{Bytes}
 use Rattle.wire.specs.SheetFormat.{NameRecord, nameOf, labelByte, labelBytes, sameLabel, used, allWithin, u16s}
 use Rattle.reading.specs.Loaded.{recordsIn}
-use Rattle.reading.proofs.Fields.{split, length-at}
+use Rattle.reading.proofs.Fields.{split, and-true, length-at}
 
 -- one more byte of a run
 run-more : (s : List ℕ) (i k : ℕ) → i < length s → take (suc k) (drop i s) ≡ getD s i 0 ∷ take k (drop (i + 1) s)
@@ -37,31 +39,62 @@ pub label-end : (l : List ℕ) (n i : ℕ) → n ≤ i → labelBytes (take (n -
 unfolding labelBytes
 label-end l n i h = let e : n - i ≡ 0 = omega arith in rw e
 
-module _ (s : List ℕ) (a b n i : ℕ) (h : i < n) (p : a + n ≤ length s) (q : b + n ≤ length s) where
-  some-left : n - i ≡ suc (n - (i + 1))
-  some-left = omega arith
+-- the n bytes at two places, compared
+abbrev pub alike : List ℕ → ℕ → ℕ → ℕ → Bool
+alike s a b n = sameLabel (take n (drop a s)) (take n (drop b s))
 
-  next : (k : ℕ) → k + i + 1 ≡ k + (i + 1)
-  next k = omega arith
-
-  pub same-pass : getD s (a + i) 0 ≡ getD s (b + i) 0 →
-      sameLabel (take (n - i) (drop (a + i) s)) (take (n - i) (drop (b + i) s))
-      ≡ sameLabel (take (n - (i + 1)) (drop (a + (i + 1)) s)) (take (n - (i + 1)) (drop (b + (i + 1)) s))
-  unfolding sameLabel
-  same-pass e =
-      rw (some-left, run-more s (a + i) (n - (i + 1)) (omega arith), run-more s (b + i) (n - (i + 1)) (omega arith))
-      (rw (eq-eqb _ _ e, next a, next b))
-
-  pub same-fail : (getD s (a + i) 0 ≡ getD s (b + i) 0 → ⊥) →
-      sameLabel (take (n - i) (drop (a + i) s)) (take (n - i) (drop (b + i) s)) ≡ false
-  unfolding sameLabel
-  same-fail e =
-      rw (some-left, run-more s (a + i) (n - (i + 1)) (omega arith), run-more s (b + i) (n - (i + 1)) (omega arith))
-      (rw (ne-eqb _ _ e))
-
-pub same-end : (l m : List ℕ) (n i : ℕ) → n ≤ i → sameLabel (take (n - i) l) (take (n - i) m) ≡ true
+pub same-none : sameLabel [] [] ≡ true
 unfolding sameLabel
-same-end l m n i h = let e : n - i ≡ 0 = omega arith in rw e
+same-none = refl
+
+-- two bytes, and the numbers above them, compared at once
+eqb-pair : (x y u v : ℕ) → x < 256 → y < 256 → (eqb x y && eqb u v) ≡ eqb (u * 256 + x) (v * 256 + y)
+eqb-pair x y u v h k =
+    split (eqb x y)
+    (λ e. split (eqb u v)
+    (λ f. rw (e, f, eq-eqb (u * 256 + x) (v * 256 + y) (omega (arith, eqb-true x y e, eqb-true u v f))))
+    (λ f. rw (e, f, ne-eqb (u * 256 + x) (v * 256 + y) (omega (arith, eqb-true x y e, eqb-false u v f)))))
+    (λ e. rw (e, ne-eqb (u * 256 + x) (v * 256 + y) (omega (arith, eqb-false x y e))))
+
+-- k bytes are the same just where they are one number
+pub alike-number : (s : List ℕ) → Bytes s → (k a b : ℕ) → a + k ≤ length s → b + k ≤ length s →
+    alike s a b k ≡ eqb (bytesAt k s a) (bytesAt k s b)
+unfolding sameLabel bytesAt
+alike-number s h zero a b p q = refl
+alike-number s h (suc k) a b p q =
+    rw (drop-cons s a 0 (omega arith), drop-cons s b 0 (omega arith))
+    (rw (alike-number s h k (suc a) (suc b) (omega arith) (omega arith)) (eqb-pair _ _ _ _ (h a) (h b)))
+
+same-append : (l m u v : List ℕ) → length l ≡ length m → sameLabel (l ++ u) (m ++ v) ≡ (sameLabel l m && sameLabel u v)
+unfolding sameLabel
+same-append [] [] u v h = refl
+same-append [] (y ∷ m) u v h = absurd (omega arith)
+same-append (x ∷ l) [] u v h = absurd (omega arith)
+same-append (x ∷ l) (y ∷ m) u v h = rw (same-append l m u v (omega arith), and-assoc)
+
+-- the first i bytes, and the k after them
+alike-parts : (s : List ℕ) (a b i k : ℕ) → a + (i + k) ≤ length s → b + (i + k) ≤ length s →
+    alike s a b (i + k) ≡ (alike s a b i && alike s (a + i) (b + i) k)
+alike-parts s a b i k p q =
+    let e : length (take i (drop a s)) ≡ length (take i (drop b s)) = simp (length-take, length-drop) (omega arith) in
+    rw (take-add i k (drop a s), take-add i k (drop b s), same-append _ _ _ _ e) (simp drop-drop)
+
+module _ (s : List ℕ) (a b n : ℕ) (p : a + n ≤ length s) (q : b + n ≤ length s) where
+  alike-cut : (i : ℕ) → i ≤ n → alike s a b n ≡ (alike s a b i && alike s (a + i) (b + i) (n - i))
+  alike-cut i l = let e : i + (n - i) ≡ n = omega arith in rw e at (alike-parts s a b i (n - i) (omega arith) (omega arith))
+
+  pub alike-shorter : (i : ℕ) → i ≤ n → alike s a b n ≡ true → alike s a b i ≡ true
+  alike-shorter i l t = and-true (alike s a b i) (alike s (a + i) (b + i) (n - i)) (rw (← alike-cut i l) t) .0
+
+  pub unlike-longer : (i : ℕ) → i ≤ n → alike s a b i ≡ false → alike s a b n ≡ false
+  unlike-longer i l t = rw (alike-cut i l, t)
+
+  -- where the bytes before place i are the same, the fields x and y of the k bytes after it decide
+  pub alike-last : Bytes s → (i k x y : ℕ) → i + k ≡ n → alike s a b i ≡ true →
+      x ≡ bytesAt k s (a + i) → y ≡ bytesAt k s (b + i) → alike s a b n ≡ eqb x y
+  alike-last h i k x y z t e f =
+      rw (← z, alike-parts s a b i k (omega arith) (omega arith), t, e, f)
+      (alike-number s h k (a + i) (b + i) (omega arith) (omega arith))
 
 -- labels of different lengths
 pub same-length : (l m : List ℕ) → (length l ≡ length m → ⊥) → sameLabel l m ≡ false

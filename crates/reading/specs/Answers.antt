@@ -5,6 +5,7 @@ use mathlib.Core.Bool.{cond}
 use mathlib.Core.List.{List, [], _∷_}
 use lib.ListN.{length, getD, drop}
 use Rattle.wire.specs.Bytes.{u16At}
+use Rattle.wire.specs.Edition.{editionOf}
 use Rattle.wire.specs.Record.{lengthOf, kindOf, framed, Test, test, refusal, Reading, read, refused, onward}
 use Rattle.wire.specs.SheetFormat.{HeadRecord, GroupRecord, NameRecord, ClaimRecord}
 use Rattle.wire.specs.SheetFormat.{claimLength, claimFields, claimNames, claimTests, claimOf}
@@ -26,7 +27,7 @@ pub data Value : Type 0 where
   claim : ClaimRecord → Value
 
 abbrev pub headRecord : Head → HeadRecord
-headRecord h = record { groups = h .groups; names = h .names; claims = h .claims }
+headRecord h = record { edition = editionOf (h .edition); groups = h .groups; names = h .names; claims = h .claims }
 
 -- the n bytes from a place on
 unfoldable pub bytesFrom : List ℕ → ℕ → ℕ → List ℕ

@@ -3,7 +3,8 @@ use Prim.Native.Nat.{ℕ, _+_, _-_, _*_, _≤_, _<_}
 use mathlib.Core.Path.{_≡_, sym}
 use mathlib.Core.List.{List, []}
 use lib.ListN.{length, getD, drop}
-use Rattle.wire.specs.Limits.{groupLimit, nameLimit, claimLimit}
+use Rattle.wire.specs.Limits.{groupCapacity, nameLimit, claimLimit}
+use Rattle.wire.specs.Edition.{Edition}
 use Rattle.wire.specs.Record.{Test, refusal, Reading, read, refused}
 use Rattle.wire.specs.SheetFormat.{HeadRecord, Records, nameOf, nameTests, claimOf, claimTests, readMany}
 use Rattle.meaning.specs.OfRecords.{nameGroup}
@@ -70,8 +71,8 @@ pub record Goes {A : Type 0} (tests : List A → List ℕ → List Test) (value 
   pub room : Then (passedAs r) (λ at. at ≤ length s)
 
 -- the names: their groups and places are in the tables
-pub record NamesGo (groups : ℕ) (s : List ℕ) (from count : ℕ) (r : Passed) (names labels : List ℕ) : Type 0 where
-  pub reads : Goes (nameTests groups) nameOf s from count (2 + groups) r (recordsIn nameOf s labels count)
+pub record NamesGo (e : Edition) (groups : ℕ) (s : List ℕ) (from count : ℕ) (r : Passed) (names labels : List ℕ) : Type 0 where
+  pub reads : Goes (nameTests e groups) nameOf s from count (2 + groups) r (recordsIn nameOf s labels count)
   pub grouped : Then (passedAs r) (λ at. AllGrouped s names labels count)
 
 -- the claims: they are in the tables
@@ -81,7 +82,7 @@ pub record ClaimsGo (names first : ℕ) (s : List ℕ) (from count : ℕ) (r : P
 
 -- the tables have room for the largest sheet
 pub record Capacity (groups names labels claims places : List ℕ) : Type 0 where
-  pub groupRoom : groupFields * groupLimit ≤ length groups
+  pub groupRoom : groupFields * groupCapacity ≤ length groups
   pub nameRoom : nameLimit ≤ length names
   pub labelRoom : nameLimit ≤ length labels
   pub claimRoom : claimSlots * claimLimit ≤ length claims
@@ -90,13 +91,14 @@ pub record Capacity (groups names labels claims places : List ℕ) : Type 0 wher
 -- the counts of a head are those of a sheet
 pub record HeadLimits (h : HeadRecord) : Type 0 where
   pub someGroup : 1 ≤ h .groups
-  pub fewGroups : h .groups ≤ groupLimit
+  pub fewGroups : h .groups ≤ groupCapacity
   pub fewNames : h .names ≤ nameLimit
   pub fewClaims : h .claims ≤ claimLimit
 
 -- the records that the tables hold, as many as the head says
 abbrev pub recordsOf : HeadRecord → List ℕ → List ℕ → List ℕ → List ℕ → List ℕ → Records
 recordsOf h s groups labels claims places = record {
+  edition = h .edition;
   groups = groupsIn groups (h .groups);
   names = recordsIn nameOf s labels (h .names);
   claims = claimsIn s claims places (h .claims);

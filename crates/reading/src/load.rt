@@ -18,7 +18,8 @@ ghost use mathlib.Core.Path.{_≡_};
 ghost use Prim.Native.Nat.{_+_, _*_, _≤_};
 ghost use lib.ListN.{length, drop};
 ghost use Rattle.wire.specs.Record.{refused};
-ghost use Rattle.wire.specs.Limits.{groupLimit, nameLimit, claimLimit};
+ghost use Rattle.wire.specs.Limits.{groupCapacity, nameLimit, claimLimit};
+ghost use Rattle.wire.specs.Edition.{editionOf};
 ghost use Rattle.wire.specs.SheetFormat.{groupOf, groupTests, readGroups, readSheet};
 ghost use Rattle.reading.specs.Tables.{groupFields, groupsIn};
 ghost use Rattle.reading.specs.ClaimTable.{claimSlots};
@@ -48,7 +49,7 @@ fn turned_back(p: Passed) -> Loaded
 }
 
 fn load_groups(s: &[u8], from: usize, count: u16, groups: &mut [u16]) -> Passed
-    requires { ⌜ (from ≤ length (now s)) × ((count ≤ groupLimit) × (groupFields * groupLimit ≤ length (now groups))) ⌝ }
+    requires { ⌜ (from ≤ length (now s)) × ((count ≤ groupCapacity) × (groupFields * groupCapacity ≤ length (now groups))) ⌝ }
     ensures { λ r. ⌜ Goes groupTests groupOf (now (s .entry)) from count 2 r (groupsIn (now (groups .exit)) count) ⌝ }
 {
     let mut at = from;
@@ -72,19 +73,20 @@ fn load_names(
     s: &[u8],
     from: usize,
     count: u16,
+    edition: u16,
     groups: u16,
     names: &mut [u16],
     labels: &mut [usize],
 ) -> Passed
     requires { ⌜ (from ≤ length (now s)) × ((count ≤ nameLimit) × ((nameLimit ≤ length (now names))
         × (nameLimit ≤ length (now labels)))) ⌝ }
-    ensures { λ r. ⌜ NamesGo groups (now (s .entry)) from count r (now (names .exit)) (now (labels .exit)) ⌝ }
+    ensures { λ r. ⌜ NamesGo (editionOf edition) groups (now (s .entry)) from count r (now (names .exit)) (now (labels .exit)) ⌝ }
 {
     let mut at = from;
     for i in 0..count {
         let number = 2 + groups as u32 + i as u32;
         let k = i as usize;
-        let answer = read_name(s, at, groups);
+        let answer = read_name(s, at, edition, groups);
         let Answer::Record(rec) = answer else {
             return Passed::Refused(refusal_of(answer), number);
         };
@@ -111,7 +113,7 @@ fn load_claims(
     claims: &mut [u16],
     places: &mut [usize],
 ) -> Passed
-    requires { ⌜ (from ≤ length (now s)) × ((count ≤ claimLimit) × ((first ≤ 2 + groupLimit + nameLimit) ×
+    requires { ⌜ (from ≤ length (now s)) × ((count ≤ claimLimit) × ((first ≤ 2 + groupCapacity + nameLimit) ×
         ((claimSlots * claimLimit ≤ length (now claims)) × (claimLimit ≤ length (now places))))) ⌝ }
     ensures { λ r. ⌜ ClaimsGo names first (now (s .entry)) from count r (now (claims .exit)) (now (places .exit)) ⌝ }
 {
@@ -150,7 +152,7 @@ fn load_records(
     let Passed::To(at_names) = g else {
         return turned_back(g);
     };
-    let n = load_names(s, at_names, h.names, h.groups, names, labels);
+    let n = load_names(s, at_names, h.names, h.edition, h.groups, names, labels);
     let Passed::To(at_claims) = n else {
         return turned_back(n);
     };

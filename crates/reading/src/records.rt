@@ -20,11 +20,14 @@ ghost use mathlib.Core.List.{List, []};
 ghost use Prim.Native.Nat.{ℕ, _+_, _≤_};
 ghost use lib.ListN.{length, drop};
 ghost use lib.Dec.{leb, eqb};
-ghost use Rattle.wire.specs.Limits.{edition, groupLimit, nameLimit, claimLimit};
+ghost use Rattle.wire.specs.Limits.{nameLimit, claimLimit};
+ghost use Rattle.wire.specs.Edition.{editionNumber, editionOf, groupLimit, labelLimit};
 ghost use Rattle.wire.specs.SheetFormat.{GroupRecord, headTests, headOf, parentAllowed, groupTests, groupOf, nameTests, nameOf};
 ghost use Rattle.reading.specs.Answers.{head, group, name, answerAs, refusalIn, Framed, Answered, ClaimAnswered};
 
+// `edition` is the number of an edition
 pub struct Head {
+    pub edition: u16,
     pub groups: u16,
     pub names: u16,
     pub claims: u16,
@@ -84,11 +87,11 @@ pub fn frame(s: &[u8], at: usize) -> u16
     len
 }
 
-fn head_allowed(number: u16, groups: u16, names: u16, claims: u16) -> bool
-    ensures { λ r. ⌜ r ≡ (eqb number edition && leb 1 groups && leb groups groupLimit && leb names nameLimit
-        && leb claims claimLimit) ⌝ }
+fn head_allowed(edition: u16, groups: u16, names: u16, claims: u16) -> bool
+    ensures { λ r. ⌜ r ≡ (eqb edition (editionNumber (editionOf edition)) && leb 1 groups
+        && leb groups (groupLimit (editionOf edition)) && leb names nameLimit && leb claims claimLimit) ⌝ }
 {
-    if number != EDITION {
+    if edition != EDITION {
         return false;
     }
     if groups < 1 {
@@ -123,8 +126,10 @@ pub fn read_head(s: &[u8], at: usize) -> Answer
     let groups = bytes::word(s, at + 6);
     let names = bytes::word(s, at + 8);
     let claims = bytes::word(s, at + 10);
-    if head_allowed(bytes::word(s, at + 4), groups, names, claims) {
+    let edition = bytes::word(s, at + 4);
+    if head_allowed(edition, groups, names, claims) {
         return Answer::Record(Record::Head(Head {
+            edition: edition,
             groups: groups,
             names: names,
             claims: claims,
@@ -181,10 +186,17 @@ pub fn read_group(s: &[u8], at: usize, number: GroupNo) -> Answer
     Answer::Refused(5)
 }
 
+// most bytes of a label
+fn label_limit(edition: u16) -> u16
+    ensures { λ r. ⌜ r ≡ labelLimit (editionOf edition) ⌝ }
+{
+    LABEL
+}
+
 // The tests of a name but for the use of its label before, which the caller knows.
-pub fn read_name(s: &[u8], at: usize, groups: u16) -> Answer
+pub fn read_name(s: &[u8], at: usize, edition: u16, groups: u16) -> Answer
     requires { ⌜ at ≤ length (now s) ⌝ }
-    ensures { λ r. ⌜ Answered (nameTests groups []) (λ b. name (nameOf b)) (now (s .entry)) at r ⌝ }
+    ensures { λ r. ⌜ Answered (nameTests (editionOf edition) groups []) (λ b. name (nameOf b)) (now (s .entry)) at r ⌝ }
 {
     let len = frame(s, at);
     if len < 2 {
@@ -196,7 +208,7 @@ pub fn read_name(s: &[u8], at: usize, groups: u16) -> Answer
     if len < 5 {
         return Answer::Refused(3);
     }
-    if LABEL + 4 < len {
+    if label_limit(edition) < len - 4 {
         return Answer::Refused(3);
     }
     let label = len - 4;

@@ -25,19 +25,25 @@ pub const BOUND: u16 = 65534;
 
 pub const MODE: u16 = 7;
 
+// The bound that stands for no upper end.
+pub const NO_END: u16 = 65535;
+
+// The groups that tables hold: a table of one number for each group has this length.
+pub const GROUP_CAPACITY: usize = 128;
+
 // How many numbers the tables have for each group and for each claim.
 pub const GROUP_FIELDS: usize = 4;
 
 pub const CLAIM_SLOTS: usize = 4;
 
 // The lengths of the tables that hold any sheet: groups, names, places of labels, claims, places of claims' names.
-pub const GROUP_TABLE: usize = 4 * 128;
+pub const GROUP_TABLE: usize = GROUP_FIELDS * GROUP_CAPACITY;
 
 pub const NAME_TABLE: usize = 128;
 
 pub const LABEL_TABLE: usize = 128;
 
-pub const CLAIM_TABLE: usize = 4 * 64;
+pub const CLAIM_TABLE: usize = CLAIM_SLOTS * PLACE_TABLE;
 
 pub const PLACE_TABLE: usize = 64;
 

@@ -1,30 +1,25 @@
 -- Membership bytes and membership words hold the same groups.
 use Prim.Native.Nat.{ℕ, zero, suc, _+_, _-_, _*_, _/_, _%_, _^_, _≤_, _<_}
-use mathlib.Core.Path.{_≡_, refl, _∙_}
+use mathlib.Core.Path.{_≡_, refl, sym, _∙_}
 use mathlib.Core.Bool.{Bool, true, false, not, true≢false, false≢true}
-use mathlib.Core.List.{List}
+use mathlib.Core.List.{List, _++_, append-assoc}
 use native.Mathlib.Omega.{arith}
-use native.Mathlib.Nat.{le-refl, div-one}
+use native.Mathlib.Nat.{le-refl, add-zero, div-one}
 use borrow.Author.Tests.{lt-ltb, le-ltb, eq-eqb, ne-eqb, eqb-true, eqb-false, not-true, not-false}
-use lib.ListN.{getD, drop}
-use lib.Seq.{getD-take, getD-drop}
+use lib.ListN.{length, getD, take, drop, length-append, List·getD-append}
+use lib.Seq.{drop-cons, take-at, getD-append-add}
 use lib.Dec.{eqb}
-use Rattle.wire.specs.Limits.{membershipBytes}
+use Rattle.wire.specs.Edition.{edition1, groupLimit, membershipBytes, rowBytes}
+use Rattle.registers.specs.Words.{rowGroups}
 use Rattle.wire.specs.Bytes.{u32At}
-use Rattle.wire.specs.RegisterFormat.{Row, rowOf, inGroup, clearAbove}
-use Rattle.meaning.specs.Sum.{sum, bit}
-use Rattle.registers.specs.Cases.{split, compare-le, compare-eq, below-suc, sum-eq}
-use Rattle.registers.specs.Digits.{digit, digit-low, digit-high, digit-none, digit-some, digit-of-zero}
+use Rattle.wire.specs.RegisterFormat.{Row, inGroup, clearAbove}
+use Rattle.wire.specs.Encoding.{Bytes}
+use Rattle.meaning.proofs.SumLaws.{split, compare-le, below-suc}
+use Rattle.registers.specs.declared.rows.RowWords.{RowWords}
+use Rattle.registers.specs.Digits.{digit, digit-low, digit-shift, digit-none, digit-some, digit-of-zero}
 use Rattle.registers.specs.Words.{u64At, pairDigit}
-use Rattle.registers.specs.RowsRead.{Above}
-use Rattle.registers.proofs.WordLaws.{pair-le}
-
--- every element is a byte
-abbrev pub Bytes : List ℕ → Type 0
-Bytes b = (i : ℕ) → getD b i 0 < 256
-
-pub drop-bytes : (n : ℕ) (b : List ℕ) → Bytes b → Bytes (drop n b)
-drop-bytes n b h i = rw (getD-drop n b i 0) (h (n + i))
+use Rattle.registers.specs.RowsRead.{bytesOf, rowOfWords, Above}
+use Rattle.registers.proofs.WordLaws.{pair-low, pair-high}
 
 -- n bytes from i on as one number, low byte first
 unfoldable bytesAt : ℕ → List ℕ → ℕ → ℕ
@@ -43,49 +38,67 @@ u64-bytes b i =
     let e7 : i + 4 + 3 ≡ suc (suc (suc (suc (suc (suc (suc i)))))) = omega arith in
     rw (e5, e6, e7, e1, e2, e3, e4) (omega arith)
 
--- digit k of such a number is digit k mod 8 of byte k div 8
-digit-bytes : (n : ℕ) (b : List ℕ) (i k : ℕ) → Bytes b → k < 8 * n
-    → digit (bytesAt n b i) k ≡ digit (getD b (i + k / 8) 0) (k % 8)
-unfolding bytesAt
-digit-bytes zero b i k h l = absurd (omega arith)
-digit-bytes (suc n) b i k h l =
-    compare-le 8 k
-    (λ o. let e : k ≡ 8 + (k - 8) = omega arith in
-    let q : i + k / 8 ≡ suc i + (k - 8) / 8 = omega arith in
-    let r : k % 8 ≡ (k - 8) % 8 = omega arith in
-    (rw (
-      q,
-      r,
-      ← digit-bytes n b (suc i) (k - 8) h (omega arith),
-      ← digit-high 8 (k - 8) (bytesAt n b (suc i)) (getD b i 0) (h i),
-      ← e,
-    )))
-    (λ o. let q : i + k / 8 ≡ i = omega arith in
-    let r : k % 8 ≡ k = omega arith in rw (q, r) (digit-low 8 k (bytesAt n b (suc i)) (getD b i 0) o))
+-- its bytes are the bytes that it was read from
+bytes-back : (n : ℕ) (b : List ℕ) (i : ℕ) → Bytes b → i + n ≤ length b → bytesOf n (bytesAt n b i) ++ drop (i + n) b ≡ drop i b
+unfolding bytesAt bytesOf
+bytes-back zero b i h l = rw (add-zero i)
+bytes-back (suc n) b i h l =
+    let low : (bytesAt n b (suc i) * 256 + getD b i 0) % 256 ≡ getD b i 0 = omega (arith, h i) in
+    let high : (bytesAt n b (suc i) * 256 + getD b i 0) / 256 ≡ bytesAt n b (suc i) = omega (arith, h i) in
+    let on : i + suc n ≡ suc i + n = omega arith in
+    rw (low, high, on, bytes-back n b (suc i) h (omega arith), drop-cons b i 0 (omega arith))
+
+word-back : (b : List ℕ) (i : ℕ) → Bytes b → i + 8 ≤ length b → bytesOf 8 (u64At b i) ++ drop (i + 8) b ≡ drop i b
+word-back b i h l = rw (u64-bytes b i) (bytes-back 8 b i h l)
+
+length-bytesOf : (n w : ℕ) → length (bytesOf n w) ≡ n
+unfolding bytesOf
+length-bytesOf zero w = refl
+length-bytesOf (suc n) w = omega (arith, length-bytesOf n (w / 256))
+
+-- the membership bytes of a row are those of its two words
+pub bits-back : (b : List ℕ) → Bytes b → rowBytes edition1 ≤ length b
+    → bytesOf 8 (u64At b 8) ++ bytesOf 8 (u64At b 16) ≡ take (membershipBytes edition1) (drop 8 b)
+unfolding membershipBytes
+bits-back b h l =
+    rw (← word-back b 8 h (omega arith), ← word-back b 16 h l, ← append-assoc)
+    (sym (take-at (bytesOf 8 (u64At b 8) ++ bytesOf 8 (u64At b 16)) (drop (rowBytes edition1) b) (membershipBytes edition1)
+    (simp (length-append, length-bytesOf))))
+
+-- digit k of a byte of a number
+digit-byte : (n w i k : ℕ) → i < n → k < 8 → digit (getD (bytesOf n w) i 0) k ≡ digit w (8 * i + k)
+unfolding bytesOf
+digit-byte zero w i k l m = absurd (omega arith)
+digit-byte (suc n) w zero k l m =
+    let e : w ≡ w / 256 * 2 ^ 8 + w % 256 = omega arith in
+    let z : 8 * 0 + k ≡ k = omega arith in
+    sym (digit-low 8 k (w / 256) (w % 256) m) ∙ (rw (← e, z))
+digit-byte (suc n) w (suc i) k l m =
+    let e : 8 * suc i + k ≡ 8 + (8 * i + k) = omega arith in
+    digit-byte n (w / 256) i k (omega arith) m ∙ (rw e (digit-shift w 8 (8 * i + k)))
+
+-- digit j of two words is digit j mod 8 of byte j div 8 of both
+pair-byte : (low high j : ℕ) → j < rowGroups
+    → digit (getD (bytesOf 8 low ++ bytesOf 8 high) (j / 8) 0) (j % 8) ≡ pairDigit low high j
+pair-byte low high j l =
+    compare-le 64 j
+    (λ o. let q : j / 8 ≡ length (bytesOf 8 low) + (j - 64) / 8 = omega (arith, length-bytesOf 8 low) in
+    let r : 8 * ((j - 64) / 8) + j % 8 ≡ j - 64 = omega arith in
+    rw (q, getD-append-add (bytesOf 8 low) (bytesOf 8 high) ((j - 64) / 8) 0, pair-high low high j o)
+    (digit-byte 8 high ((j - 64) / 8) (j % 8) (omega arith) (omega arith) ∙ (rw r)))
+    (λ o. let r : 8 * (j / 8) + j % 8 ≡ j = omega arith in
+    rw (List·getD-append (bytesOf 8 low) (bytesOf 8 high) 0 (j / 8) (omega (arith, length-bytesOf 8 low)), pair-low low high j o)
+    (digit-byte 8 low (j / 8) (j % 8) (omega arith) (omega arith) ∙ (rw r)))
 
 in-group-digit : (r : Row) (g : ℕ) → inGroup r g ≡ eqb (digit (getD (r .bits) ((g - 1) / 8) 0) ((g - 1) % 8)) 1
 unfolding inGroup digit
 in-group-digit r g = refl
 
-bits-byte : (b : List ℕ) (i : ℕ) → i < 16 → getD (rowOf b .bits) i 0 ≡ getD b (8 + i) 0
-unfolding rowOf
-bits-byte b i l = getD-take membershipBytes (drop 8 b) i 0 l ∙ getD-drop 8 b i 0
-
-pair-bytes : (b : List ℕ) (j : ℕ) → Bytes b → j < 128
-    → digit (getD b (8 + j / 8) 0) (j % 8) ≡ pairDigit (u64At b 8) (u64At b 16) j
-unfolding pairDigit
-pair-bytes b j h l =
-    compare-le 64 j
-    (λ o. let q : 8 + j / 8 ≡ 16 + (j - 64) / 8 = omega arith in
-    let r : j % 8 ≡ (j - 64) % 8 = omega arith in
-    rw (le-ltb j 64 o, u64-bytes b 16, digit-bytes 8 b 16 (j - 64) h (omega arith), q, r))
-    (λ o. rw (lt-ltb j 64 o, u64-bytes b 8, digit-bytes 8 b 8 j h (omega arith)))
-
 -- group g is digit g - 1 of a row's two words
-pub in-group-words : (b : List ℕ) (g : ℕ) → Bytes b → g ≤ 128
-    → inGroup (rowOf b) g ≡ eqb (pairDigit (u64At b 8) (u64At b 16) (g - 1)) 1
-in-group-words b g h l =
-    rw (in-group-digit (rowOf b) g, bits-byte b ((g - 1) / 8) (omega arith), pair-bytes b (g - 1) h (omega arith))
+pub in-group-words : (w : RowWords) (g : ℕ) → g ≤ rowGroups
+    → inGroup (rowOfWords w) g ≡ eqb (pairDigit (w .low) (w .high) (g - 1)) 1
+in-group-words w g l =
+    in-group-digit (rowOfWords w) g ∙ (rw (pair-byte (w .low) (w .high) (g - 1) (omega arith)))
 
 clear-some : (r : Row) (groups n k : ℕ) → k < n → inGroup r (groups + suc k) ≡ true → clearAbove r groups n ≡ false
 unfolding clearAbove
@@ -101,18 +114,19 @@ clear-none r groups zero h = refl
 clear-none r groups (suc n) h = rw (h n (le-refl (suc n))) (clear-none r groups n (λ k l. h k (omega arith)))
 
 -- the test of the words is the test of the bytes
-pub clear-words : (b : List ℕ) (groups : ℕ) (r : Bool) → Bytes b → Above groups (u64At b 8) (u64At b 16) r
-    → clearAbove (rowOf b) groups (8 * membershipBytes - groups) ≡ not r
-clear-words b groups true h a =
-    let w = a .some refl in
-    clear-some (rowOf b) groups _ (w .0 - groups) (omega arith)
-    (let e : groups + suc (w .0 - groups) ≡ suc (w .0) = omega arith in
-    let f : suc (w .0) - 1 ≡ w .0 = omega arith in
-    rw (e, in-group-words b (suc (w .0)) h (omega arith), f, w .3) (eq-eqb 1 1 refl))
-clear-words b groups false h a =
-    clear-none (rowOf b) groups _ (λ k l.
+pub clear-words : (w : RowWords) (groups : ℕ) (r : Bool) → Above groups (w .low) (w .high) r
+    → clearAbove (rowOfWords w) groups (groupLimit edition1 - groups) ≡ not r
+unfolding membershipBytes
+clear-words w groups true a =
+    let j = a .some refl in
+    clear-some (rowOfWords w) groups _ (j .0 - groups) (omega arith)
+    (let e : groups + suc (j .0 - groups) ≡ suc (j .0) = omega arith in
+    let f : suc (j .0) - 1 ≡ j .0 = omega arith in
+    rw (e, in-group-words w (suc (j .0)) (omega arith), f, j .3) (eq-eqb 1 1 refl))
+clear-words w groups false a =
+    clear-none (rowOfWords w) groups _ (λ k l.
     let f : groups + suc k - 1 ≡ groups + k = omega arith in
-    rw (in-group-words b (groups + suc k) h (omega arith), f, a .none refl (groups + k) (omega arith) (omega arith))
+    rw (in-group-words w (groups + suc k) (omega arith), f, a .none refl (groups + k) (omega arith) (omega arith))
     (ne-eqb 0 1 (λ e. omega arith)))
 
 positive : (x : ℕ) → not (eqb x 0) ≡ true → 0 < x
@@ -122,10 +136,10 @@ nothing : (x : ℕ) → not (eqb x 0) ≡ false → x ≡ 0
 nothing x e = eqb-true x 0 (not-false (eqb x 0) e)
 
 -- whether a digit from `groups` on is set, by shifts
-pub above-nothing : (groups low high : ℕ) → 128 ≤ groups → Above groups low high false
+pub above-nothing : (groups low high : ℕ) → rowGroups ≤ groups → Above groups low high false
 above-nothing groups low high l = record { some = λ e. absurd (false≢true e); none = λ e j a b. absurd (omega arith) }
 
-pub above-high : (groups low high : ℕ) → 64 ≤ groups → groups < 128 → high < 2 ^ 64
+pub above-high : (groups low high : ℕ) → 64 ≤ groups → groups < rowGroups → high < 2 ^ 64
     → Above groups low high (not (eqb (high / 2 ^ (groups - 64)) 0))
 unfolding pairDigit
 above-high groups low high l m h =
@@ -162,31 +176,3 @@ above-low groups low high l z h =
           (λ o. rw (le-ltb j 64 o, z) (digit-of-zero (j - 64)))
           (λ o. rw (lt-ltb j 64 o) (digit-none low groups j (nothing (low / 2 ^ groups) e) a));
     }
-
--- group g is bit (g - 1) mod 64 of word (g - 1) div 64
-pub in-group-word : (b : List ℕ) (g : ℕ) → Bytes b → g ≤ 128
-    → inGroup (rowOf b) g ≡ eqb (digit (u64At b (8 + 8 * ((g - 1) / 64))) ((g - 1) % 64)) 1
-in-group-word b g h l =
-    let q : 8 + 8 * ((g - 1) / 64) + (g - 1) % 64 / 8 ≡ 8 + (g - 1) / 8 = omega arith in
-    let r : (g - 1) % 64 % 8 ≡ (g - 1) % 8 = omega arith in
-    rw (
-      in-group-digit (rowOf b) g,
-      bits-byte b ((g - 1) / 8) (omega arith),
-      u64-bytes b (8 + 8 * ((g - 1) / 64)),
-      digit-bytes 8 b (8 + 8 * ((g - 1) / 64)) ((g - 1) % 64) h (omega arith),
-      q,
-      r,
-    )
-
--- the number of set digits of a row's words is the number of the row's groups
-pub number-of-groups : (b : List ℕ) → Bytes b
-    → sum (pairDigit (u64At b 8) (u64At b 16)) 128 ≡ sum (λ j. bit (inGroup (rowOf b) (suc j))) 128
-number-of-groups b h = sum-eq (pairDigit (u64At b 8) (u64At b 16)) (λ j. bit (inGroup (rowOf b) (suc j))) 128 each
-  where
-    each : (j : ℕ) → j < 128 → pairDigit (u64At b 8) (u64At b 16) j ≡ bit (inGroup (rowOf b) (suc j))
-    each j l =
-        let e : suc j - 1 ≡ j = omega arith in
-        rw (in-group-words b (suc j) h (omega arith), e)
-        (compare-eq (pairDigit (u64At b 8) (u64At b 16) j) 1
-        (λ x. rw (eq-eqb (pairDigit (u64At b 8) (u64At b 16) j) 1 x) x)
-        (λ x. rw (ne-eqb (pairDigit (u64At b 8) (u64At b 16) j) 1 x) (omega (arith, pair-le (u64At b 8) (u64At b 16) j))))

@@ -1,32 +1,30 @@
 -- The tests of the scan say when a rule is broken at a group.
 use Prim.Native.Nat.{ℕ, zero, suc, _-_, _≤_, _<_, min}
 use mathlib.Core.Path.{_≡_, refl}
-use mathlib.Core.Bool.{Bool, true, false, not, _&&_, false≢true}
+use mathlib.Core.Bool.{Bool, true, false, not, _&&_}
 use mathlib.Core.List.{List}
 use native.Mathlib.Omega.{arith}
 use borrow.Author.Tests.{lt-ltb, le-ltb, eq-eqb, eqb-true, ltb-true, ltb-false, not-true}
 use lib.Dec.{ltb, eqb}
 use Rattle.wire.specs.Limits.{noEnd}
+use Rattle.registers.specs.Words.{rowGroups}
 use Rattle.meaning.specs.Sum.{sum}
 use Rattle.meaning.specs.Sheet.{Sheet, AtMost, Group, Son, Tree}
 use Rattle.meaning.specs.Sets.{Sets, count}
 use Rattle.meaning.specs.Rule.{Rule, outside, lacking, uncovered, shared, below, above, ruleNumber, Broken}
 use Rattle.meaning.specs.OfRecords.{groupAt, sheetOf, endOf, sameMode}
 use Rattle.reading.specs.Tables.{groupsIn, groupAt-groupsIn}
-use Rattle.registers.specs.Cases.{split, compare-le, true-not-false, sum-some, sum-two, sum-term, sum-pair}
+use Rattle.meaning.proofs.SumLaws.{and-true, split, compare-le, true-not-false, sum-some, sum-two, sum-term}
+use Rattle.registers.specs.Cases.{sum-pair}
 use Rattle.registers.specs.Words.{digitIn, holds, inBoth, wordSets}
 use Rattle.registers.specs.Tallies.{SonsListed}
 use Rattle.registers.specs.RuleTests.{parentIn, loIn, hiIn, modeIn, mayBreak, rowBreaks, countBreaks}
 use Rattle.registers.proofs.WordLaws.{digit-in-le, holds-one, one-holds}
 use Rattle.registers.proofs.SonLaws.{parent-below}
 
-and-true : (a b : Bool) → (a && b) ≡ true → (a ≡ true) × (b ≡ true)
-and-true true b h = (refl, h)
-and-true false b h = absurd (false≢true h)
-
 -- the sons that a row has
-module _ (s : Sheet) (w u : List ℕ) (i p : ℕ) (k : SonsListed s u) (z : s .size ≤ 128) (a : 1 ≤ p) (b : p ≤ 128) where
-  counts-son : (j : ℕ) → j < 128 → 1 ≤ min (digitIn w i j) (digitIn u p j) → Son s p (suc j) × (holds w i (suc j) ≡ true)
+module _ (s : Sheet) (w u : List ℕ) (i p : ℕ) (k : SonsListed s u) (z : s .size ≤ rowGroups) (a : 1 ≤ p) (b : p ≤ rowGroups) where
+  counts-son : (j : ℕ) → j < rowGroups → 1 ≤ min (digitIn w i j) (digitIn u p j) → Son s p (suc j) × (holds w i (suc j) ≡ true)
   counts-son j l m =
       let e : suc j - 1 ≡ j = omega arith in (
         k .only p (suc j) a b (omega arith) (omega arith) (one-holds u p (suc j) (rw e (omega arith))),
@@ -43,7 +41,7 @@ module _ (s : Sheet) (w u : List ℕ) (i p : ℕ) (k : SonsListed s u) (z : s .s
       (λ x. absurd (omega (
         arith,
         son-counts h c x,
-        sum-term (λ j. min (digitIn w i j) (digitIn u p j)) 128 (h - 1)
+        sum-term (λ j. min (digitIn w i j) (digitIn u p j)) rowGroups (h - 1)
             (omega arith),
       )))
       (λ x. x)
@@ -51,15 +49,15 @@ module _ (s : Sheet) (w u : List ℕ) (i p : ℕ) (k : SonsListed s u) (z : s .s
   in-none : ((h : ℕ) → Son s p h → holds w i h ≡ false) → inBoth w i u p ≡ 0
   unfolding inBoth
   in-none f =
-      compare-le 1 (sum (λ j. min (digitIn w i j) (digitIn u p j)) 128)
-      (λ o. absurd (let x = sum-some (λ j. min (digitIn w i j) (digitIn u p j)) 128 o in
+      compare-le 1 (sum (λ j. min (digitIn w i j) (digitIn u p j)) rowGroups)
+      (λ o. absurd (let x = sum-some (λ j. min (digitIn w i j) (digitIn u p j)) rowGroups o in
       let y = counts-son (x .0) (x .1) (x .2) in true-not-false _ (y .1) (f (suc (x .0)) (y .0))))
       (λ o. omega arith)
 
   two-in : 1 < inBoth w i u p → (h j : ℕ) × Son s p h × Son s p j × (h < j) × (holds w i h ≡ true) × (holds w i j ≡ true)
   unfolding inBoth
   two-in l =
-      let x = sum-pair (λ j. min (digitIn w i j) (digitIn u p j)) 128 (λ m o. omega (arith, digit-in-le w i m)) l in
+      let x = sum-pair (λ j. min (digitIn w i j) (digitIn u p j)) rowGroups (λ m o. omega (arith, digit-in-le w i m)) l in
       let y = counts-son (x .0) (omega arith) (x .4) in
       let v = counts-son (x .1) (x .3) (x .5) in
       (suc (x .0), suc (x .1), y .0, v .0, omega arith, y .1, v .1)
@@ -71,7 +69,7 @@ module _ (s : Sheet) (w u : List ℕ) (i p : ℕ) (k : SonsListed s u) (z : s .s
         arith,
         son-counts h c x,
         son-counts j d y,
-        sum-two (λ m. min (digitIn w i m) (digitIn u p m)) 128 (h - 1) (j - 1)
+        sum-two (λ m. min (digitIn w i m) (digitIn u p m)) rowGroups (h - 1) (j - 1)
             (omega arith) (omega arith),
       )
 
@@ -85,7 +83,7 @@ may s g below = false
 may s g above = false
 
 -- a rule of one member is broken exactly by a row that breaks it, where it can be broken
-module _ (s : Sheet) (w u : List ℕ) (n g : ℕ) (k : SonsListed s u) (z : s .size ≤ 128) (y : Group s g) where
+module _ (s : Sheet) (w u : List ℕ) (n g : ℕ) (k : SonsListed s u) (z : s .size ≤ rowGroups) (y : Group s g) where
   pub by-row : (q : Rule) (i : ℕ) → ruleNumber q < 5 → i < n → may s g q ≡ true
       → rowBreaks (ruleNumber q) w i u g (s .parent g) ≡ true
       → Broken s (wordSets w n) g q

@@ -1,22 +1,24 @@
 -- What the scan has passed: groups, rules and rows of which nothing is broken; and what its end says.
 use Prim.Native.Nat.{ℕ, _+_, _≤_, _<_}
-use mathlib.Core.Path.{_≡_, sym, _∙_}
+use mathlib.Core.Path.{_≡_, refl, sym, _∙_}
 use mathlib.Core.Bool.{true, false}
 use mathlib.Core.List.{List}
 use native.Mathlib.Omega.{arith}
 use native.Mathlib.Numerals.{add-one}
 use lib.ListN.{getD}
+use Rattle.registers.specs.Words.{rowGroups}
 use Rattle.meaning.specs.Sheet.{Sheet, Group, Tree}
 use Rattle.meaning.specs.Sets.{Sets}
 use Rattle.meaning.specs.Rule.{Rule, ruleNumber, Broken}
 use Rattle.meaning.specs.OfRecords.{sheetOf}
 use Rattle.reading.specs.Tables.{groupsIn, length-groupsIn}
-use Rattle.registers.specs.Cases.{below-suc, true-not-false}
-use Rattle.registers.specs.Unbroken.{unbroken-fits}
-use Rattle.registers.specs.Words.{wordSets}
+use Rattle.meaning.proofs.SumLaws.{below-suc, true-not-false}
+use Rattle.registers.specs.Unbroken.{unbroken-fits, fits-answered, broken-answered}
+use Rattle.registers.specs.Words.{wordSets, words-distinct}
 use Rattle.registers.specs.Tallies.{SonsListed, Counted}
 use Rattle.registers.specs.RuleTests.{parentIn, mayBreak, rowBreaks, countBreaks}
-use Rattle.registers.specs.Checked.{Verdict}
+use Rattle.registers.specs.Checked.{AnswerTo}
+use Rattle.reading.specs.declared.tables.GroupNo.{GroupNo}
 use Rattle.registers.specs.declared.check.Check.the-variants as check
 use Rattle.registers.proofs.SonLaws.{group-in, in-group, parent-in}
 use Rattle.registers.proofs.RuleLaws.{rule-first, rule-last, rule-numbered, by-row, row-of, may-is, by-count, count-of}
@@ -67,17 +69,21 @@ rules-more : {X : Type 0} (s : Sheet) (A : Sets X) (g k : ℕ) → ClearRules s 
 rules-more s A g k c f =
     record { clear = λ q l b. below-suc (ruleNumber q) k (rw add-one at l) (λ x. f q x b) (λ x. c .clear q x b) }
 
-module _ (t : List ℕ) (n : ℕ) (w : List ℕ) (rows : ℕ) (u counts : List ℕ) (r : Tree (sheetOf (groupsIn t n))) (z : n ≤ 128)
+module _ (t : List ℕ) (n : ℕ) (w : List ℕ) (rows : ℕ) (u counts : List ℕ) (r : Tree (sheetOf (groupsIn t n))) (z : n ≤ rowGroups)
     (sons : SonsListed (sheetOf (groupsIn t n)) u) (tally : Counted (wordSets w rows) counts) where
-  size-most : sheetOf (groupsIn t n) .size ≤ 128
+  size-most : sheetOf (groupsIn t n) .size ≤ rowGroups
   size-most = rw (length-groupsIn t n) z
 
   -- nothing is broken at any group
   pub scan-fits : (g : ℕ) → n < g → ClearGroups (sheetOf (groupsIn t n)) (wordSets w rows) g
-      → Verdict (sheetOf (groupsIn t n)) (wordSets w rows) check.Fits
+      → AnswerTo (sheetOf (groupsIn t n)) (wordSets w rows) check.Fits
   scan-fits g l c =
-      unbroken-fits (sheetOf (groupsIn t n)) (wordSets w rows) r (record { once = λ i j k m e. e })
-      (λ h y q b. c .clear h y (omega (arith, in-group t n h y)) q b)
+      record {
+        names = record { group = 0; rule = 0 };
+        gives = refl;
+        answered = fits-answered (unbroken-fits (sheetOf (groupsIn t n)) (wordSets w rows) r (words-distinct w rows)
+            (λ h y q b. c .clear h y (omega (arith, in-group t n h y)) q b));
+      }
 
   module _ (g k : ℕ) (a : 1 ≤ g) (b : g ≤ n) (c : ClearRules (sheetOf (groupsIn t n)) (wordSets w rows) g k) where
     -- no row breaks the rule
@@ -105,36 +111,37 @@ module _ (t : List ℕ) (n : ℕ) (w : List ℕ) (rows : ℕ) (u counts : List �
         (λ q e v. count-of t n g r a b (wordSets w rows) q (getD counts g 0) (omega arith) (tally .each g a (omega arith))
         (rw e d) v)
 
-    module _ (d : ClearGroups (sheetOf (groupsIn t n)) (wordSets w rows) g) (f : 1 ≤ k) where
-      -- a row breaks the rule
-      pub scan-row : k < 5 → (row : ℕ) → row < rows → mayBreak t g k ≡ true → rowBreaks k w row u g (parentIn t g) ≡ true
-          → Verdict (sheetOf (groupsIn t n)) (wordSets w rows) (check.Broken g k)
-      scan-row l row m x y =
-          let q = rule-numbered k f (omega arith) in (
-            q .0,
-            q .1,
-            record {
+    module _ (d : ClearGroups (sheetOf (groupsIn t n)) (wordSets w rows) g) (f : 1 ≤ k) (p : GroupNo) (e : p .0 ≡ g) where
+      -- the rule is broken
+      scan-broken : (q : Rule) → k ≡ ruleNumber q → Broken (sheetOf (groupsIn t n)) (wordSets w rows) g q
+          → AnswerTo (sheetOf (groupsIn t n)) (wordSets w rows) (check.Broken p k)
+      scan-broken q i v =
+          record {
+            names = record { group = p .0; rule = k };
+            gives = refl;
+            answered = rw (e, i) (broken-answered q (record {
               group = group-in t n g a b;
-              broken = by-row (sheetOf (groupsIn t n)) w u rows g sons size-most (group-in t n g a b) (q .0) row (omega arith) m
-                  (sym (may-is t n g r a b (q .0) (omega arith)) ∙ (rw (← q .1) x))
-                  (rw (← q .1, parent-in t n g a b) y);
+              broken = v;
               lowest = d .clear;
               first = λ p o. c .clear p (omega arith);
-            },
-          )
+            }));
+          }
 
-      -- the count breaks the rule
+      -- a row breaks it
+      pub scan-row : k < 5 → (row : ℕ) → row < rows → mayBreak t g k ≡ true → rowBreaks k w row u g (parentIn t g) ≡ true
+          → AnswerTo (sheetOf (groupsIn t n)) (wordSets w rows) (check.Broken p k)
+      scan-row l row m x y =
+          let q = rule-numbered k f (omega arith) in
+          scan-broken (q .0) (q .1)
+          (by-row (sheetOf (groupsIn t n)) w u rows g sons size-most (group-in t n g a b) (q .0) row (omega arith) m
+          (sym (may-is t n g r a b (q .0) (omega arith)) ∙ (rw (← q .1) x))
+          (rw (← q .1, parent-in t n g a b) y))
+
+      -- the count breaks it
       pub scan-count : 5 ≤ k → k < 7 → countBreaks t (getD counts g 0) g k ≡ true
-          → Verdict (sheetOf (groupsIn t n)) (wordSets w rows) (check.Broken g k)
+          → AnswerTo (sheetOf (groupsIn t n)) (wordSets w rows) (check.Broken p k)
       scan-count l m x =
-          let q = rule-numbered k f m in (
-            q .0,
-            q .1,
-            record {
-              group = group-in t n g a b;
-              broken = by-count t n g r a b (wordSets w rows) (q .0) (getD counts g 0) (omega arith)
-                  (tally .each g a (omega arith)) (rw (← q .1) x);
-              lowest = d .clear;
-              first = λ p o. c .clear p (omega arith);
-            },
-          )
+          let q = rule-numbered k f m in
+          scan-broken (q .0) (q .1)
+          (by-count t n g r a b (wordSets w rows) (q .0) (getD counts g 0) (omega arith) (tally .each g a (omega arith))
+          (rw (← q .1) x))

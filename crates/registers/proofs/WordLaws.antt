@@ -1,17 +1,19 @@
--- Laws of two words as 128 digits, and of a table with two words for each place.
+-- Laws of two words as a digit for each group, and of a table with two words for each place.
 use Prim.Native.Nat.{ℕ, _+_, _-_, _*_, _/_, _%_, _^_, _≤_, _<_, min, max}
 use mathlib.Core.Path.{_≡_, sym, ap, _∙_}
 use mathlib.Core.Bool.{true, _&&_}
 use mathlib.Core.List.{List}
 use native.Mathlib.Omega.{arith}
 use borrow.Author.Tests.{lt-ltb, le-ltb, eq-eqb, ne-eqb, eqb-true}
-use lib.ListN.{length, getD, set}
+use lib.ListN.{length, getD, set, length-set}
 use lib.Seq.{getD-set-same, getD-set-other}
 use lib.Dec.{eqb}
 use lib.Bits.{bitAnd, bitOr}
 use lib.Count.{ones}
+use Rattle.registers.specs.Words.{rowGroups}
 use Rattle.meaning.specs.Sum.{sum, bit}
-use Rattle.registers.specs.Cases.{compare-le, compare-eq, sum-eq, sum-parts}
+use Rattle.meaning.proofs.SumLaws.{compare-le, compare-eq, sum-eq}
+use Rattle.registers.specs.Cases.{sum-parts}
 use Rattle.registers.specs.Digits.{digit, digit-le, digit-and, digit-or, digit-pow, ones-digits}
 use Rattle.registers.specs.Words.{pairDigit, digitIn, holds, inBoth}
 
@@ -28,7 +30,7 @@ pair-le l h j =
     compare-le 64 j (λ o. rw (pair-high l h j o) (digit-le h (j - 64))) (λ o. rw (pair-low l h j o) (digit-le l j))
 
 -- the number of set digits
-pub pair-ones : (l h : ℕ) → l < 2 ^ 64 → h < 2 ^ 64 → sum (pairDigit l h) 128 ≡ ones l + ones h
+pub pair-ones : (l h : ℕ) → l < 2 ^ 64 → h < 2 ^ 64 → sum (pairDigit l h) rowGroups ≡ ones l + ones h
 pair-ones l h a b =
     sum-parts (pairDigit l h) 64 64
     ∙ (rw (
@@ -42,7 +44,7 @@ pair-ones l h a b =
     up j = let e : 64 + j - 64 ≡ j = omega arith in pair-high l h (64 + j) (omega arith) ∙ (rw e)
 
 -- the two words at a place
-pub digit-in-pair : (t : List ℕ) (i j : ℕ) → j < 128 → digitIn t i j ≡ pairDigit (getD t (2 * i) 0) (getD t (2 * i + 1) 0) j
+pub digit-in-pair : (t : List ℕ) (i j : ℕ) → j < rowGroups → digitIn t i j ≡ pairDigit (getD t (2 * i) 0) (getD t (2 * i + 1) 0) j
 unfolding digitIn
 digit-in-pair t i j l =
     compare-le 64 j
@@ -71,13 +73,42 @@ pub one-holds : (t : List ℕ) (i g : ℕ) → 1 ≤ digitIn t i (g - 1) → hol
 unfolding holds
 one-holds t i g e = eq-eqb (digitIn t i (g - 1)) 1 (omega (arith, digit-in-le t i (g - 1)))
 
+pub holds-pair : (t : List ℕ) (i g : ℕ) → g ≤ rowGroups
+    → holds t i g ≡ eqb (pairDigit (getD t (2 * i) 0) (getD t (2 * i + 1) 0) (g - 1)) 1
+unfolding holds
+holds-pair t i g l = rw (digit-in-pair t i (g - 1) (omega arith))
+
+-- the words of one place are set, others stay
+module _ (t : List ℕ) (p low high : ℕ) (n : 2 * p + 1 < length t) where
+  pub holds-here : (g : ℕ) → g ≤ rowGroups
+      → holds (set (set t (2 * p) low) (2 * p + 1) high) p g ≡ eqb (pairDigit low high (g - 1)) 1
+  holds-here g l =
+      rw (
+        holds-pair (set (set t (2 * p) low) (2 * p + 1) high) p g l,
+        getD-set-same (set t (2 * p) low) (2 * p + 1) high 0 (simp length-set n),
+        getD-set-other (set t (2 * p) low) (2 * p + 1) (2 * p) high 0 (λ z. omega arith),
+        getD-set-same t (2 * p) low 0 (omega arith),
+      )
+
+  pub holds-there : (i g : ℕ) → (i ≡ p → ⊥) → g ≤ rowGroups
+      → holds (set (set t (2 * p) low) (2 * p + 1) high) i g ≡ holds t i g
+  holds-there i g e l =
+      rw (
+        holds-pair (set (set t (2 * p) low) (2 * p + 1) high) i g l,
+        holds-pair t i g l,
+        getD-set-other (set t (2 * p) low) (2 * p + 1) (2 * i) high 0 (λ z. omega arith),
+        getD-set-other (set t (2 * p) low) (2 * p + 1) (2 * i + 1) high 0 (λ z. e (omega arith)),
+        getD-set-other t (2 * p) (2 * i) low 0 (λ z. e (omega arith)),
+        getD-set-other t (2 * p) (2 * i + 1) low 0 (λ z. omega arith),
+      )
+
 -- 'and' of two places, counted
 pub both-words : (t u : List ℕ) (i p : ℕ) (a b : ℕ) → a ≡ bitAnd (getD t (2 * i) 0) (getD u (2 * p) 0)
     → b ≡ bitAnd (getD t (2 * i + 1) 0) (getD u (2 * p + 1) 0) → a < 2 ^ 64 → b < 2 ^ 64 → ones a + ones b ≡ inBoth t i u p
 unfolding inBoth
-both-words t u i p a b x y m n = sym (pair-ones a b m n) ∙ sum-eq (pairDigit a b) _ 128 each
+both-words t u i p a b x y m n = sym (pair-ones a b m n) ∙ sum-eq (pairDigit a b) _ rowGroups each
   where
-    each : (j : ℕ) → j < 128 → pairDigit a b j ≡ min (digitIn t i j) (digitIn u p j)
+    each : (j : ℕ) → j < rowGroups → pairDigit a b j ≡ min (digitIn t i j) (digitIn u p j)
     each j l =
         rw (digit-in-pair t i j l, digit-in-pair u p j l)
         (compare-le 64 j
@@ -97,7 +128,7 @@ both-words t u i p a b x y m n = sym (pair-ones a b m n) ∙ sum-eq (pairDigit a
         (digit-and (getD t (2 * i) 0) (getD u (2 * p) 0) j)))
 
 -- one digit more at place p
-pub digit-in-set : (t : List ℕ) (p k i j : ℕ) → 2 * p + 1 < length t → k < 128 → j < 128
+pub digit-in-set : (t : List ℕ) (p k i j : ℕ) → 2 * p + 1 < length t → k < rowGroups → j < rowGroups
     → digitIn (set t (2 * p + k / 64) (bitOr (getD t (2 * p + k / 64) 0) (2 ^ (k % 64)))) i j
     ≡ max (digitIn t i j) (bit (eqb p i && eqb k j))
 unfolding digitIn

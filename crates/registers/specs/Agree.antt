@@ -5,12 +5,9 @@ use Rattle.meaning.specs.Sum.{sum, bit}
 use Rattle.meaning.specs.Sheet.{Sheet, Group, Tree}
 use Rattle.meaning.specs.Sets.{Sets, Distinct, count}
 use Rattle.meaning.specs.Fits.{Fits, groupsOf}
-use Rattle.meaning.specs.Rule.{Rule, outside, lacking, uncovered, shared, below, above, Broken}
-use Rattle.registers.specs.Cases.{sum-eq}
+use Rattle.meaning.specs.Rule.{Rule, outside, lacking, uncovered, shared, below, above, Broken, FirstBroken, Answered}
+use Rattle.meaning.proofs.SumLaws.{sum-eq}
 use Rattle.registers.specs.Unbroken.{son-parent, unbroken-fits, fits-unbroken}
-use Rattle.registers.specs.Checked.{Verdict}
-use Rattle.registers.specs.declared.check.Check.{Check}
-use Rattle.registers.specs.declared.check.Check.the-variants as check
 
 pub record Agree {X Y : Type 0} (s : Sheet) (A : Sets X) (B : Sets Y) : Type 0 where
   pub bound : A .bound ≡ B .bound
@@ -39,19 +36,24 @@ broken-agree s A B g t h k shared (j, o, i, m, c, d, e, l, a, b) =
 broken-agree s A B g t h k below b = rw (← count-agree s A B g h k) b
 broken-agree s A B g t h k above b = rw (← count-agree s A B g h k) b
 
--- so they have the same verdict
-pub verdict-agree : {X Y : Type 0} (s : Sheet) (A : Sets X) (B : Sets Y) → Tree s → Agree s A B → Distinct B → (r : Check)
-    → Verdict s A r → Verdict s B r
-verdict-agree s A B t h d check.Fits v =
-    unbroken-fits s B t d (λ g k q b. fits-unbroken s A v g k q (broken-agree s B A g t (agree-sym h) k q b))
-verdict-agree s A B t h d (check.Broken g k) (q, e, v) = (
-  q,
-  e,
-  record {
-    group = v .group;
-    broken = broken-agree s A B g t h (v .group) q (v .broken);
-    lowest = λ j y l p b. v .lowest j y l p (broken-agree s B A j t (agree-sym h) y p b);
-    first = λ p l b. v .first p l (broken-agree s B A g t (agree-sym h) (v .group) p b);
-  },
-)
-verdict-agree s A B t h d (check.Refused n r) v = v
+-- so they have the same answers
+module _ {X Y : Type 0} (s : Sheet) (A : Sets X) (B : Sets Y) (t : Tree s) (h : Agree s A B) where
+  fits-agree : Distinct B → Fits s A → Fits s B
+  fits-agree d f = unbroken-fits s B t d (λ g k q b. fits-unbroken s A f g k q (broken-agree s B A g t (agree-sym h) k q b))
+
+  first-agree : (g : ℕ) (q : Rule) → FirstBroken s A g q → FirstBroken s B g q
+  first-agree g q v =
+      record {
+        group = v .group;
+        broken = broken-agree s A B g t h (v .group) q (v .broken);
+        lowest = λ j y l p b. v .lowest j y l p (broken-agree s B A j t (agree-sym h) y p b);
+        first = λ p l b. v .first p l (broken-agree s B A g t (agree-sym h) (v .group) p b);
+      }
+
+pub answered-agree : {X Y : Type 0} (s : Sheet) (A : Sets X) (B : Sets Y) → Tree s → Agree s A B → Distinct A → Distinct B
+    → (g n : ℕ) → Answered s A g n → Answered s B g n
+answered-agree s A B t h a b g n v =
+    record {
+      fits = (λ e. fits-agree s A B t h b (v .fits .0 e), λ f. v .fits .1 (fits-agree s B A t (agree-sym h) a f));
+      breaks = λ u. let w = v .breaks (λ f. u (fits-agree s A B t h b f)) in (w .0, w .1, first-agree s A B t h g (w .0) (w .2));
+    }

@@ -6,19 +6,29 @@ use Rattle.wire.specs.Record.{Reading, read, refused}
 use Rattle.wire.specs.RegisterFormat.{Row}
 use Rattle.meaning.specs.Sheet.{Sheet}
 use Rattle.meaning.specs.Sets.{Sets}
-use Rattle.meaning.specs.Fits.{Fits}
-use Rattle.meaning.specs.Rule.{Rule, ruleNumber, FirstBroken}
+use Rattle.meaning.specs.Rule.{Answered}
 use Rattle.meaning.specs.OfRecords.{listedSets}
 use Rattle.registers.specs.declared.check.Check.{Check}
 use Rattle.registers.specs.declared.check.Check.the-variants as check
 
--- the verdict on sets: they fit, or group g with its rule numbered k is the first that they break
-abbrev pub Verdict : {X : Type 0} → Sheet → Sets X → Check → Type 0
-Verdict s A check.Fits = Fits s A
-Verdict s A (check.Broken g k) = (q : Rule) × (k ≡ ruleNumber q) × FirstBroken s A g q
-Verdict s A (check.Refused n r) = ⊥
+-- a group's number and a rule's
+pub record GroupRule : Type 0 where
+  pub group : ℕ
+  pub rule : ℕ
 
--- the answer r on a register that is read so: its refusal, or the verdict on the sets that its rows list
+-- document 01's number and values of the check's answer: "group and rule, 0 and 0 when it fits", or a refusal with its row
+abbrev pub checkGives : Check → Reading GroupRule
+checkGives check.Fits = read (record { group = 0; rule = 0 })
+checkGives (check.Broken g k) = read (record { group = g .0; rule = k })
+checkGives (check.Refused n r) = refused n r
+
+-- r is the answer to the sets A
+pub record AnswerTo {X : Type 0} (s : Sheet) (A : Sets X) (r : Check) : Type 0 where
+  pub names : GroupRule
+  pub gives : checkGives r ≡ read names
+  pub answered : Answered s A (names .group) (names .rule)
+
+-- the answer r to a register that is read so: its refusal, or the answer to the sets that its rows list
 pub record Checked (s : Sheet) (d : Reading (List Row)) (r : Check) : Type 0 where
-  pub refusal : (n k : ℕ) → d ≡ refused n k → r ≡ check.Refused n k
-  pub verdict : (rows : List Row) → d ≡ read rows → Verdict s (listedSets rows) r
+  pub refusal : (n k : ℕ) → d ≡ refused n k → checkGives r ≡ refused n k
+  pub answer : (rows : List Row) → d ≡ read rows → AnswerTo s (listedSets rows) r

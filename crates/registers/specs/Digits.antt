@@ -7,11 +7,11 @@ use native.Mathlib.Numerals.{one-add}
 use borrow.Author.Tests.{eq-eqb, ne-eqb}
 use lib.Dec.{eqb}
 use lib.Arith.{lt-one}
-use lib.Pow.{pow-lt, shr-shr, shr-lt, shr-le, high}
+use lib.Pow.{pow-lt, shr-shr, shr-lt, shr-le}
 use lib.Bits.{bitAnd, bitOr, and-step, or-step, and-self, block-half, block-odd}
 use lib.Count.{ones, ones-step, trailingZeros}
 use Rattle.meaning.specs.Sum.{sum, bit}
-use Rattle.registers.specs.Cases.{compare-le, compare-eq, sum-eq, sum-none, sum-first}
+use Rattle.meaning.proofs.SumLaws.{compare-le, compare-eq, sum-eq, sum-zero, sum-first}
 
 -- digit k of a word, the lowest being digit 0
 unfoldable pub digit : ℕ → ℕ → ℕ
@@ -33,16 +33,12 @@ pub digit-of-zero : (k : ℕ) → digit 0 k ≡ 0
 unfolding digit
 digit-of-zero k = rw (zero-div (2 ^ k))
 
--- the digits of a * 2 ^ n + r, with r below 2 ^ n: r's below n, a's from n on
+-- the digits below n of a * 2 ^ n + r are r's
 pub digit-low : (n k a r : ℕ) → k < n → digit (a * 2 ^ n + r) k ≡ digit r k
 digit-low zero k a r l = absurd (omega arith)
 digit-low (suc n) zero a r l = rw (digit-zero (a * 2 ^ suc n + r), digit-zero r) (block-odd a n r)
 digit-low (suc n) (suc k) a r l =
     rw (digit-suc (a * 2 ^ suc n + r) k, digit-suc r k, block-half a n r) (digit-low n k a (r / 2) (omega arith))
-
-pub digit-high : (n k a r : ℕ) → r < 2 ^ n → digit (a * 2 ^ n + r) (n + k) ≡ digit a k
-unfolding digit
-digit-high n k a r l = rw (← shr-shr (a * 2 ^ n + r) n k, high a n l)
 
 and-half : (a b : ℕ) → (bitAnd a b / 2 ≡ bitAnd (a / 2) (b / 2)) × (bitAnd a b % 2 ≡ min (a % 2) (b % 2))
 and-half a b = omega (arith, and-step a b)
@@ -80,6 +76,13 @@ pub record Lowest (m t r : ℕ) : Type 0 where
   pub cleared : digit r t ≡ 0
   pub others : (j : ℕ) → (j ≡ t → ⊥) → digit r j ≡ digit m j
   pub fewer : ones m ≡ suc (ones r)
+
+-- group g is the lowest set digit of a word whose digits are the groups after `before`
+pub record LowestGroup (before word g : ℕ) : Type 0 where
+  pub place : ℕ
+  pub within : place < 64
+  pub numbered : g ≡ before + place + 1
+  pub lowest : Lowest word place (bitAnd word (word - 1))
 
 pub ones-of-zero : ones 0 ≡ 0
 unfolding ones
@@ -146,7 +149,7 @@ lowest (suc n) m p l =
 
 -- `count_ones` is the number of set digits
 pub ones-digits : (n m : ℕ) → m < 2 ^ n → ones m ≡ sum (digit m) n
-ones-digits zero m l = rw (lt-one l, sum-none (digit 0)) ones-of-zero
+ones-digits zero m l = rw (lt-one l, sum-zero (digit 0) 0 (λ k h. absurd (omega arith))) ones-of-zero
 ones-digits (suc n) m l =
     let h : m / 2 < 2 ^ n = (let z = rw (pow-suc 2 n) at l in omega arith) in
     ones-step m ∙ (rw (

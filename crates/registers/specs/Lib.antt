@@ -1,6 +1,5 @@
 pub mod Cases
 pub mod Unbroken
-pub mod Listed
 pub mod Digits
 pub mod Words
 pub mod RowsRead

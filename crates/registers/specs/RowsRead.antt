@@ -1,60 +1,75 @@
 -- What the row decoder gives, and what reading all rows gives and keeps.
-use Prim.Native.Nat.{ℕ, zero, suc, _+_, _-_, _*_, _≤_, _<_}
+use Prim.Native.Nat.{ℕ, zero, suc, _*_, _/_, _%_, _≤_, _<_}
 use mathlib.Core.Path.{_≡_}
-use mathlib.Core.Bool.{Bool, true, false, cond, _&&_}
+use mathlib.Core.Bool.{Bool, true, false, cond}
 use mathlib.Core.List.{List, [], _∷_, _++_}
-use lib.ListN.{length, drop, getD}
-use lib.Dec.{leb, eqb}
-use Rattle.wire.specs.Limits.{groupLimit, rowLimit, rowBytes}
-use Rattle.wire.specs.Bytes.{u16At, u32At}
-use Rattle.wire.specs.Record.{Reading, read, refused}
-use Rattle.wire.specs.RegisterFormat.{Row, rowOf, readRegister}
+use lib.ListN.{length, take, drop, getD}
+use lib.Dec.{eqb}
+use Rattle.wire.specs.Edition.{edition1, rowBytes}
+use Rattle.registers.specs.Words.{rowGroups}
+use Rattle.wire.specs.Record.{Test, refusal, Reading, read, refused}
+use Rattle.wire.specs.RegisterFormat.{Row, rowOf, inGroup, rowTests, readRegister}
+use Rattle.meaning.specs.OfRecords.{noRow}
 use Rattle.registers.specs.declared.rows.RowWords.{RowWords}
 use Rattle.registers.specs.declared.rows.RowAnswer.{RowAnswer}
 use Rattle.registers.specs.declared.rows.RowAnswer.the-variants as answer
 use Rattle.registers.specs.declared.rows.Rows.{Rows}
 use Rattle.registers.specs.declared.rows.Rows.the-variants as rows
-use Rattle.registers.specs.Words.{u64At, pairDigit}
+use Rattle.registers.specs.Words.{pairDigit, holds}
 
--- a row's member and its membership as two words
-unfoldable pub wordsOf : List ℕ → RowWords
-wordsOf b = record { member = u32At b 4; low = u64At b 8; high = u64At b 16 }
+-- a number as n bytes, low byte first
+unfoldable pub bytesOf : ℕ → ℕ → List ℕ
+bytesOf zero w = []
+bytesOf (suc n) w = w % 256 ∷ bytesOf n (w / 256)
 
--- the row at the front of these bytes: 11 where it is cut, or its kind or length is wrong
-unfoldable pub rowAt : List ℕ → RowAnswer
-rowAt b =
-    cond (eqb (length b) 0) answer.End
-    (cond (leb rowBytes (length b) && eqb (u16At b 0) (rowBytes - 2) && eqb (u16At b 2) 32) (answer.Row (wordsOf b))
-    (answer.Refused 11))
+-- the row that a member and two words of eight membership bytes stand for
+abbrev pub rowOfWords : RowWords → Row
+rowOfWords w = record { member = w .member; bits = bytesOf 8 (w .low) ++ bytesOf 8 (w .high) }
+
+-- what bytes begin with: no bytes at all, a row, or a row that is turned back with a refusal's number
+pub data Front : Type 0 where
+  ended : Front
+  held : Row → Front
+  turned : ℕ → Front
+
+-- document 01's number and values of the decoder's answer
+abbrev pub rowGives : RowAnswer → Front
+rowGives answer.End = ended
+rowGives (answer.Row w) = held (rowOfWords w)
+rowGives (answer.Refused n) = turned n
+
+-- 11 is the first of a row's tests, and asks nothing of the sheet or of the rows before
+abbrev pub frameTests : List ℕ → List Test
+frameTests b = take 1 (rowTests edition1 0 [] b)
+
+unfoldable pub frontOf : List ℕ → Front
+frontOf b =
+    cond (eqb (length b) 0) ended
+    (cond (eqb (refusal (frameTests b)) 0) (held (rowOf edition1 b)) (turned (refusal (frameTests b))))
 
 -- the bytes from row i on, and the first n rows of a register
 abbrev pub fromRow : List ℕ → ℕ → List ℕ
-fromRow b i = drop (rowBytes * i) b
+fromRow b i = drop (rowBytes edition1 * i) b
 
 unfoldable pub rowsBefore : List ℕ → ℕ → List Row
 rowsBefore b zero = []
-rowsBefore b (suc n) = rowsBefore b n ++ (rowOf (fromRow b n) ∷ [])
+rowsBefore b (suc n) = rowsBefore b n ++ (rowOf edition1 (fromRow b n) ∷ [])
 
 -- whether a digit from `groups` on is set
 pub record Above (groups low high : ℕ) (r : Bool) : Type 0 where
-  pub some : r ≡ true → (j : ℕ) × (groups ≤ j) × (j < groupLimit) × (pairDigit low high j ≡ 1)
-  pub none : r ≡ false → (j : ℕ) → groups ≤ j → j < groupLimit → pairDigit low high j ≡ 0
+  pub some : r ≡ true → (j : ℕ) × (groups ≤ j) × (j < rowGroups) × (pairDigit low high j ≡ 1)
+  pub none : r ≡ false → (j : ℕ) → groups ≤ j → j < rowGroups → pairDigit low high j ≡ 0
 
--- a table holds the membership words of the first n rows
-pub record Kept (b : List ℕ) (n : ℕ) (t : List ℕ) : Type 0 where
-  pub low : (i : ℕ) → i < n → getD t (2 * i) 0 ≡ u64At (fromRow b i) 8
-  pub high : (i : ℕ) → i < n → getD t (2 * i + 1) 0 ≡ u64At (fromRow b i) 16
+-- the first places of a table hold the groups of the rows
+pub record Kept (rs : List Row) (t : List ℕ) : Type 0 where
+  pub groups : (i g : ℕ) → i < length rs → 1 ≤ g → g ≤ rowGroups → holds t i g ≡ inGroup (getD rs i noRow) g
 
--- the reading that an answer stands for
-unfoldable pub readingOf : List ℕ → Rows → Reading (List Row)
-readingOf b (rows.Count n) = read (rowsBefore b n)
-readingOf b (rows.Refused n r) = refused n r
+-- document 01's number and values of the reader's answer: so many rows, or a refusal with its row
+abbrev pub rowsGive : List ℕ → Rows → Reading (List Row)
+rowsGive b (rows.Count n) = read (rowsBefore b n)
+rowsGive b (rows.Refused n r) = refused n r
 
-abbrev pub KeptRows : List ℕ → Rows → List ℕ → Type 0
-KeptRows b (rows.Count n) t = (n ≤ rowLimit) × Kept b n t
-KeptRows b (rows.Refused n r) t = Unit {0}
-
--- the rows of a register were read as the format says, and their words are in the table
-pub record RowsRead (groups : ℕ) (b : List ℕ) (r : Rows) (t : List ℕ) : Type 0 where
-  pub reading : readRegister groups b ≡ readingOf b r
-  pub words : KeptRows b r t
+-- the register b was read as the format says, and the table t holds the groups of its rows
+pub record ReadInto (groups : ℕ) (b : List ℕ) (r : Rows) (t : List ℕ) : Type 0 where
+  pub reading : rowsGive b r ≡ readRegister edition1 groups b
+  pub kept : (rs : List Row) → rowsGive b r ≡ read rs → Kept rs t

@@ -6,7 +6,7 @@ use mathlib.Core.Bool.{true}
 use mathlib.Core.List.{List}
 use lib.ListN.{length, getD, set}
 use lib.Bits.{bitOr}
-use Rattle.wire.specs.Limits.{groupLimit}
+use Rattle.registers.specs.Words.{rowGroups}
 use Rattle.meaning.specs.Sheet.{Sheet, Son, Tree}
 use Rattle.meaning.specs.Sets.{Sets, count}
 use Rattle.meaning.specs.OfRecords.{sheetOf}
@@ -15,16 +15,16 @@ use Rattle.registers.specs.Words.{pairDigit, holds, wordSets}
 
 -- the table holds a sheet of n groups, each after its parent
 pub record SheetIn (t : List ℕ) (n : ℕ) : Type 0 where
-  pub most : n ≤ groupLimit
+  pub most : n ≤ rowGroups
   pub room : groupFields * n ≤ length t
   pub tree : Tree (sheetOf (groupsIn t n))
 
--- words of the table of sons, and places of the table of counts: group numbers start at 1, and place 0 is for none
-abbrev pub sonWords : ℕ
-sonWords = 2 * (groupLimit + 1)
+-- places of a table by group, and words of the table of sons: group numbers start at 1, and place 0 is for none
+abbrev pub groupPlaces : ℕ
+groupPlaces = rowGroups + 1
 
-abbrev pub countPlaces : ℕ
-countPlaces = groupLimit + 1
+abbrev pub sonWords : ℕ
+sonWords = 2 * groupPlaces
 
 -- a table of sons with h added to the sons of p
 abbrev pub withSon : List ℕ → ℕ → ℕ → List ℕ
@@ -33,27 +33,27 @@ withSon t p h =
 
 -- place p of the table is the set of the sons of group p
 pub record SonsListed (s : Sheet) (t : List ℕ) : Type 0 where
-  pub only : (p h : ℕ) → 1 ≤ p → p ≤ groupLimit → 1 ≤ h → h ≤ groupLimit → holds t p h ≡ true → Son s p h
-  pub all : (p h : ℕ) → p ≤ groupLimit → h ≤ groupLimit → Son s p h → holds t p h ≡ true
+  pub only : (p h : ℕ) → 1 ≤ p → p ≤ rowGroups → 1 ≤ h → h ≤ rowGroups → holds t p h ≡ true → Son s p h
+  pub all : (p h : ℕ) → p ≤ rowGroups → h ≤ rowGroups → Son s p h → holds t p h ≡ true
 
 -- place g of the table is the count of group g
 pub record Counted {X : Type 0} (A : Sets X) (t : List ℕ) : Type 0 where
-  pub each : (g : ℕ) → 1 ≤ g → g ≤ groupLimit → getD t g 0 ≡ count A g
+  pub each : (g : ℕ) → 1 ≤ g → g ≤ rowGroups → getD t g 0 ≡ count A g
 
 -- one more in the table for each group of a row
 pub record CountedRow (low high : ℕ) (t u : List ℕ) : Type 0 where
-  pub each : (g : ℕ) → 1 ≤ g → g ≤ groupLimit → getD u g 0 ≡ getD t g 0 + pairDigit low high (g - 1)
+  pub each : (g : ℕ) → 1 ≤ g → g ≤ rowGroups → getD u g 0 ≡ getD t g 0 + pairDigit low high (g - 1)
 
 -- no group's count is above m
 pub record CountsTo (m : ℕ) (t : List ℕ) : Type 0 where
-  pub each : (g : ℕ) → 1 ≤ g → g ≤ groupLimit → getD t g 0 ≤ m
+  pub each : (g : ℕ) → 1 ≤ g → g ≤ rowGroups → getD t g 0 ≤ m
 
 -- all that the scan takes: the words w of the rows, the sons u and the counts c
 pub record Gathered (t : List ℕ) (n : ℕ) (w : List ℕ) (rows : ℕ) (u c : List ℕ) : Type 0 where
   pub row-words : 2 * rows ≤ length w
   pub son-words : sonWords ≤ length u
   pub sons : SonsListed (sheetOf (groupsIn t n)) u
-  pub places : countPlaces ≤ length c
+  pub places : groupPlaces ≤ length c
   pub counts : Counted (wordSets w rows) c
 
 -- what the test of one row asks: row and groups are within the tables, and rules 1 and 2 have a parent p
@@ -61,6 +61,6 @@ pub record RowAsked (rule : ℕ) (w : List ℕ) (row : ℕ) (u : List ℕ) (g p 
   pub row-words : 2 * row + 1 < length w
   pub son-words : sonWords ≤ length u
   pub first : 1 ≤ g
-  pub last : g ≤ groupLimit
+  pub last : g ≤ rowGroups
   pub parent : rule ≤ 2 → 1 ≤ p
-  pub parent-last : p ≤ groupLimit
+  pub parent-last : p ≤ rowGroups

@@ -1,14 +1,15 @@
--- When a rule is the first that sets break, and the sets of which none is broken: they are those that fit.
-use Prim.Native.Nat.{ℕ, suc, _<_}
-use mathlib.Core.Path.{_≡_}
+-- The sets of which no rule is broken are those that fit; the answers that follow.
+use Prim.Native.Nat.{ℕ, suc}
+use mathlib.Core.Path.{_≡_, refl}
 use mathlib.Core.Bool.{Bool, true, false}
 use mathlib.Core.Logic.{inl, inr}
 use native.Mathlib.Omega.{arith}
 use Rattle.meaning.specs.Sheet.{Sheet, Top, fin, inf, AtMost, Group, Son, Tree}
 use Rattle.meaning.specs.Sets.{Sets, Distinct, count}
 use Rattle.meaning.specs.Fits.{Fits, groupsOf}
-use Rattle.meaning.specs.Rule.{Rule, outside, lacking, uncovered, shared, below, above, ruleNumber, Broken}
-use Rattle.registers.specs.Cases.{split, compare-le, compare-eq, true-not-false, find}
+use Rattle.meaning.specs.Rule.{Rule, outside, lacking, uncovered, shared, below, above, ruleNumber, Broken, FirstBroken, Answered}
+use Rattle.meaning.proofs.SumLaws.{split, compare-le, compare-eq, true-not-false}
+use Rattle.registers.specs.Cases.{find}
 
 -- no rule is broken at any group
 abbrev pub Unbroken : {X : Type 0} → Sheet → Sets X → Type 0
@@ -74,3 +75,13 @@ fits-unbroken s A f g k shared (h, j, i, t, x, y, o, l, a, b) =
     let e = f .rules i l .apart g h j x y t a b in omega arith
 fits-unbroken s A f g k below h = omega (arith, f .least g k)
 fits-unbroken s A f g k above h = h (f .most g k)
+
+-- 0 and 0 answers for sets that fit, a first broken group with its rule for others
+pub fits-answered : {X : Type 0} {s : Sheet} {A : Sets X} → Fits s A → Answered s A 0 0
+fits-answered f = record { fits = (λ e. f, λ w. (refl, refl)); breaks = λ h. absurd (h f) }
+
+pub broken-answered : {X : Type 0} {s : Sheet} {A : Sets X} {g : ℕ} (q : Rule) → FirstBroken s A g q → Answered s A g (ruleNumber q)
+broken-answered {X} {s} {A} {g} q b = record {
+  fits = (λ w. absurd (omega (arith, b .group .first)), λ f. absurd (fits-unbroken s A f g (b .group) q (b .broken)));
+  breaks = λ h. (q, refl, b);
+}

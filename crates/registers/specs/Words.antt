@@ -6,10 +6,13 @@ use mathlib.Core.List.{List}
 use lib.ListN.{getD}
 use lib.Dec.{ltb, eqb}
 use Rattle.meaning.specs.Sum.{sum}
-use Rattle.meaning.specs.Sets.{Sets, numbered}
-use Rattle.wire.specs.Limits.{groupLimit}
+use Rattle.meaning.specs.Sets.{Sets, Distinct, numbered}
 use Rattle.wire.specs.Bytes.{u32At}
 use Rattle.registers.specs.Digits.{digit}
+
+-- the groups whose digits two words have
+abbrev pub rowGroups : ℕ
+rowGroups = 2 * 64
 
 -- a field of eight bytes, low byte first
 unfoldable pub u64At : List ℕ → ℕ → ℕ
@@ -31,6 +34,9 @@ holds t i g = eqb (digitIn t i (g - 1)) 1
 abbrev pub wordSets : List ℕ → ℕ → Sets ℕ
 wordSets t n = numbered n (λ g i. holds t i g)
 
+pub words-distinct : (t : List ℕ) (n : ℕ) → Distinct (wordSets t n)
+words-distinct t n = record { once = λ i j k l e. e }
+
 -- the number of groups that are in the sets at place i of one table and at place p of another
 unfoldable pub inBoth : List ℕ → ℕ → List ℕ → ℕ → ℕ
-inBoth t i u p = sum (λ j. min (digitIn t i j) (digitIn u p j)) groupLimit
+inBoth t i u p = sum (λ j. min (digitIn t i j) (digitIn u p j)) rowGroups

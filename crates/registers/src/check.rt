@@ -1,6 +1,10 @@
 // The check of a register: the lowest broken group with its first broken rule, once all rows are read.
 use crate::counts::count_groups;
 use crate::counts::count_of;
+use crate::limits::GROUP_PLACES;
+use crate::limits::NO_END;
+use crate::limits::ROW_WORDS;
+use crate::limits::SON_WORDS;
 use crate::rows::Rows;
 use crate::rows::read_rows;
 use crate::sons::gather_sons;
@@ -12,32 +16,26 @@ use reading::tables::parent_of;
 ghost use mathlib.Core.Path.{_≡_};
 ghost use Prim.Native.Nat.{_+_, _*_, _≤_, _<_};
 ghost use lib.ListN.{length, getD};
-ghost use Rattle.wire.specs.Limits.{groupLimit};
+ghost use Rattle.registers.specs.Words.{rowGroups};
+ghost use Rattle.wire.specs.Edition.{edition1};
 ghost use Rattle.wire.specs.RegisterFormat.{readRegister};
 ghost use Rattle.meaning.specs.OfRecords.{sheetOf};
 ghost use Rattle.reading.specs.Tables.{groupsIn};
 ghost use Rattle.registers.specs.Words.{holds, inBoth, wordSets};
 ghost use Rattle.registers.specs.Tallies.{SheetIn, Gathered, RowAsked};
 ghost use Rattle.registers.specs.RuleTests.{parentIn, mayBreak, rowBreaks, countBreaks};
-ghost use Rattle.registers.specs.Checked.{Verdict, Checked};
-
-// two words for each row; two for each group's sons, and a count for each group, from group 0 on
-const WORDS: usize = 4096;
-
-const SONS: usize = 258;
-
-const COUNTS: usize = 129;
+ghost use Rattle.registers.specs.Checked.{AnswerTo, Checked};
 
 // The listed sets fit; a group's number with the number of the rule that it breaks first; or a refusal's number with the row's.
 pub enum Check {
     Fits,
-    Broken(u16, u16),
+    Broken(GroupNo, u16),
     Refused(u32, u32),
 }
 
 // whether group g is in the set at place i of a table
 fn has(table: &[u64], i: usize, g: GroupNo) -> bool
-    requires { ⌜ (2 * i + 1 < length (now table)) × ((1 ≤ g .0) × (g .0 ≤ groupLimit)) ⌝ }
+    requires { ⌜ (2 * i + 1 < length (now table)) × ((1 ≤ g .0) × (g .0 ≤ rowGroups)) ⌝ }
     ensures { λ r. ⌜ r ≡ holds (now (table .entry)) i (g .0) ⌝ }
 {
     let j = g.0 as usize - 1;
@@ -63,13 +61,13 @@ fn may_break(groups: &[u16], g: GroupNo, rule: u16) -> bool
 {
     let p = parent_of(groups, g);
     if rule == 1 {
-        return 0 < p;
+        return 0 < p.0;
     }
     if rule == 2 {
-        if p == 0 {
+        if p.0 == 0 {
             return false;
         }
-        return mode_of(groups, GroupNo(p)) / 4 % 2 == 1;
+        return mode_of(groups, p) / 4 % 2 == 1;
     }
     if rule == 3 {
         return mode_of(groups, g) / 2 % 2 == 1;
@@ -113,7 +111,7 @@ fn count_breaks(groups: &[u16], counts: &[u32], g: GroupNo, rule: u16) -> bool
         return n < lo_of(groups, g) as u32;
     }
     let hi = hi_of(groups, g);
-    if hi == 65535 {
+    if hi == NO_END {
         return false;
     }
     (hi as u32) < n
@@ -122,25 +120,26 @@ fn count_breaks(groups: &[u16], counts: &[u32], g: GroupNo, rule: u16) -> bool
 // The scan over groups, rules and rows, left at the first broken rule.
 fn scan(groups: &[u16], size: u16, words: &[u64], n: usize, sons: &[u64], counts: &[u32]) -> Check
     requires { ⌜ SheetIn (now groups) size × Gathered (now groups) size (now words) n (now sons) (now counts) ⌝ }
-    ensures { λ r. ⌜ Verdict (sheetOf (groupsIn (now (groups .entry)) size)) (wordSets (now (words .entry)) n) r ⌝ }
+    ensures { λ r. ⌜ AnswerTo (sheetOf (groupsIn (now (groups .entry)) size)) (wordSets (now (words .entry)) n) r ⌝ }
 {
     let mut answer = Check::Fits;
     let end = size + 1;
     'scan: for g in 1..end {
-        let p = parent_of(groups, GroupNo(g));
+        let group = GroupNo(g);
+        let p = parent_of(groups, group);
         for rule in 1..7u16 {
             if rule < 5 {
-                if may_break(groups, GroupNo(g), rule) {
+                if may_break(groups, group, rule) {
                     for row in 0..n {
-                        if row_breaks(rule, words, row, sons, GroupNo(g), GroupNo(p)) {
-                            answer = Check::Broken(g, rule);
+                        if row_breaks(rule, words, row, sons, group, p) {
+                            answer = Check::Broken(group, rule);
                             break 'scan;
                         }
                     }
                 }
             } else {
-                if count_breaks(groups, counts, GroupNo(g), rule) {
-                    answer = Check::Broken(g, rule);
+                if count_breaks(groups, counts, group, rule) {
+                    answer = Check::Broken(group, rule);
                     break 'scan;
                 }
             }
@@ -152,15 +151,15 @@ fn scan(groups: &[u16], size: u16, words: &[u64], n: usize, sons: &[u64], counts
 // All rows are read before any rule is looked at.
 pub fn check_register(groups: &[u16], size: u16, register: &[u8]) -> Check
     requires { ⌜ SheetIn (now groups) size ⌝ }
-    ensures { λ r. ⌜ Checked (sheetOf (groupsIn (now (groups .entry)) size)) (readRegister size (now (register .entry))) r ⌝ }
+    ensures { λ r. ⌜ Checked (sheetOf (groupsIn (now (groups .entry)) size)) (readRegister edition1 size (now (register .entry))) r ⌝ }
 {
-    let mut words = [0u64; WORDS];
+    let mut words = [0u64; ROW_WORDS];
     match read_rows(register, size, &mut words) {
-        Rows::Refused(a, b) => Check::Refused(a, b),
+        Rows::Refused(refusal, row) => Check::Refused(refusal, row),
         Rows::Count(n) => {
-            let mut sons = [0u64; SONS];
+            let mut sons = [0u64; SON_WORDS];
             gather_sons(groups, size, &mut sons);
-            let mut counts = [0u32; COUNTS];
+            let mut counts = [0u32; GROUP_PLACES];
             count_groups(&words, n, &mut counts);
             scan(groups, size, &words, n, &sons, &counts)
         }

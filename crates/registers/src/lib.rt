@@ -3,6 +3,7 @@
 // Document 01, "Registers" and "Turned back, in checking order".
 pub mod check;
 pub mod counts;
+pub mod limits;
 pub mod reader;
 pub mod rows;
 pub mod sons;

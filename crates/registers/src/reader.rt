@@ -3,7 +3,7 @@
 use crate::rows::RowAnswer;
 use crate::rows::row_at;
 ghost use mathlib.Core.Path.{_≡_};
-ghost use Rattle.registers.specs.RowsRead.{rowAt, fromRow};
+ghost use Rattle.registers.specs.RowsRead.{rowGives, frontOf, fromRow};
 
 pub struct RowReader<'a> {
     pub bytes: &'a [u8],
@@ -12,14 +12,14 @@ pub struct RowReader<'a> {
 
 // The row reached.
 pub fn next<'a>(r: RowReader<'a>) -> RowAnswer
-    ensures { λ s. ⌜ s ≡ rowAt (fromRow (now (r .entry .bytes)) (r .entry .row)) ⌝ }
+    ensures { λ s. ⌜ rowGives s ≡ frontOf (fromRow (now (r .entry .bytes)) (r .entry .row)) ⌝ }
 {
     row_at(r.bytes, r.row)
 }
 
 // The row after `row` rows, by a reader set there.
 pub fn row_of(register: &[u8], row: usize) -> RowAnswer
-    ensures { λ r. ⌜ r ≡ rowAt (fromRow (now (register .entry)) row) ⌝ }
+    ensures { λ r. ⌜ rowGives r ≡ frontOf (fromRow (now (register .entry)) row) ⌝ }
 {
     next(RowReader {
         bytes: register,

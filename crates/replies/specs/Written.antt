@@ -41,6 +41,10 @@ pub record ShownAt (out : List ℕ) (at f n m : ℕ) : Type 0 where
   pub count : u32At out (at + 8) ≡ n
   pub mark : u16At out (at + 12) ≡ m
 
+-- the first n fields of two bytes
+abbrev pub WordsPut : List ℕ → ℕ → List ℕ → Type 0
+WordsPut out n ws = (i : ℕ) → i < n → u16At out (2 * i) ≡ getD ws i 0
+
 -- every group's record of kind 17, and of kind 19; the groups are numbered from 0 here
 abbrev pub RangesPut : List ℕ → ℕ → List ℕ → List ℕ → List ℕ → Type 0
 RangesPut out n ranges firsts counts =
@@ -84,47 +88,14 @@ sets-more firsts counts marks n p w r g h =
     ⊎-elim (λ (e : suc g ≡ n + 1). let same : g ≡ n = omega arith in rw same r)
     (λ (k : suc g < n + 1). shown-kept w (omega arith) (p g (omega arith))) (eq-or-lt-of-le h)
 
+-- one more field of two bytes
+pub words-more : (l : List ℕ) {m : List ℕ} (ws : List ℕ) (n : ℕ) → WordsPut l n ws → m ≡ sets l (2 * n) (le16 (getD ws n 0))
+    → 2 * n + 2 ≤ length l → getD ws n 0 < 65536 → WordsPut m (n + 1) ws
+words-more l ws n p e h b i k =
+    ⊎-elim (λ (o : suc i ≡ n + 1). let same : i ≡ n = omega arith in rw same (word-put l (2 * n) (getD ws n 0) e h b))
+    (λ (o : suc i < n + 1). word-kept (wrote-word (2 * n) (getD ws n 0) e) (2 * i) (inl (omega arith)) ∙ p i (omega arith)) (eq-or-lt-of-le k)
+
 -- The records as the stores leave them. `w` is what the stores from one of them on change.
-pub verdict-put : (l0 l1 l2 l3 : List ℕ) (v : ℕ) →
-    l1 ≡ sets l0 0 (le16 4) →
-    l2 ≡ sets l1 2 (le16 18) →
-    l3 ≡ sets l2 4 (le16 v) → 6 ≤ length l0 → v < 65536 → Wrote l0 0 6 l3 × VerdictAt l3 v
-verdict-put l0 l1 l2 l3 v e0 e1 e2 h b0 =
-    let w2 : Wrote l2 4 2 l3 = wrote-word 4 v e2 in
-    let w1 : Wrote l1 2 4 l3 = wrote-then (wrote-word 2 18 e1) w2 (omega arith) (omega arith) (omega arith) (omega arith) in
-    let w0 : Wrote l0 0 6 l3 = wrote-then (wrote-word 0 4 e0) w1 (omega arith) (omega arith) (omega arith) (omega arith) in
-    let n1 : 6 ≤ length l1 = omega (arith, wrote-word 0 4 e0 .sized) in
-    let n2 : 6 ≤ length l2 = omega (arith, wrote-word 2 18 e1 .sized) in (
-      w0,
-      record {
-        sized = word-kept w1 0 (inl (omega arith)) ∙ word-put l0 0 4 e0 (omega arith) (omega arith);
-        kind = word-kept w2 2 (inl (omega arith)) ∙ word-put l1 2 18 e1 (omega arith) (omega arith);
-        verdict = word-put l2 4 v e2 (omega arith) (omega arith);
-      },
-    )
-
-pub answer-put : (l0 l1 l2 l3 l4 : List ℕ) (g r : ℕ) →
-    l1 ≡ sets l0 0 (le16 6) →
-    l2 ≡ sets l1 2 (le16 20) →
-    l3 ≡ sets l2 4 (le16 g) →
-    l4 ≡ sets l3 6 (le16 r) → 8 ≤ length l0 → g < 65536 → r < 65536 → Wrote l0 0 8 l4 × AnswerAt l4 g r
-answer-put l0 l1 l2 l3 l4 g r e0 e1 e2 e3 h b0 b1 =
-    let w3 : Wrote l3 6 2 l4 = wrote-word 6 r e3 in
-    let w2 : Wrote l2 4 4 l4 = wrote-then (wrote-word 4 g e2) w3 (omega arith) (omega arith) (omega arith) (omega arith) in
-    let w1 : Wrote l1 2 6 l4 = wrote-then (wrote-word 2 20 e1) w2 (omega arith) (omega arith) (omega arith) (omega arith) in
-    let w0 : Wrote l0 0 8 l4 = wrote-then (wrote-word 0 6 e0) w1 (omega arith) (omega arith) (omega arith) (omega arith) in
-    let n1 : 8 ≤ length l1 = omega (arith, wrote-word 0 6 e0 .sized) in
-    let n2 : 8 ≤ length l2 = omega (arith, wrote-word 2 20 e1 .sized) in
-    let n3 : 8 ≤ length l3 = omega (arith, wrote-word 4 g e2 .sized) in (
-      w0,
-      record {
-        sized = word-kept w1 0 (inl (omega arith)) ∙ word-put l0 0 6 e0 (omega arith) (omega arith);
-        kind = word-kept w2 2 (inl (omega arith)) ∙ word-put l1 2 20 e1 (omega arith) (omega arith);
-        group = word-kept w3 4 (inl (omega arith)) ∙ word-put l2 4 g e2 (omega arith) (omega arith);
-        rule = word-put l3 6 r e3 (omega arith) (omega arith);
-      },
-    )
-
 pub range-put : (l0 l1 l2 l3 l4 l5 l6 : List ℕ) (at l u f n : ℕ) →
     l1 ≡ sets l0 at (le16 18) →
     l2 ≡ sets l1 (at + 2) (le16 17) →

@@ -7,35 +7,53 @@ ghost use mathlib.Core.Path.{_≡_};
 ghost use Prim.Native.Nat.{_+_, _*_, _≤_};
 ghost use lib.ListN.{length};
 ghost use Rattle.replies.specs.Wrote.{Wrote};
-ghost use Rattle.replies.specs.Written.{AnswerAt, VerdictAt, RangeAt, ShownAt, RangesPut, SetsPut};
+ghost use Rattle.wire.specs.Limits.{rangeBytes, verdictBytes, shownBytes, answerBytes};
+ghost use Rattle.replies.specs.Written.{WordsPut, AnswerAt, VerdictAt, RangeAt, ShownAt, RangesPut, SetsPut};
+
+// Bytes of the records, length field and kind among them: kind 17, 18, 19, 20.
+pub const RANGE_BYTES: usize = 20;
+
+pub const VERDICT_BYTES: usize = 6;
+
+pub const SHOWN_BYTES: usize = 14;
+
+pub const ANSWER_BYTES: usize = 8;
+
+// fields of two bytes, from the front of the buffer on
+fn put_words(out: &mut [u8], words: &[u16])
+    requires { ⌜ 2 * length (now words) ≤ length (now out) ⌝ }
+    ensures kept { λ _. ⌜ Wrote (now (out .entry)) 0 (2 * length (now (words .entry))) (now (out .exit)) ⌝ }
+    ensures put { λ _. ⌜ WordsPut (now (out .exit)) (length (now (words .entry))) (now (words .entry)) ⌝ }
+{
+    for i in 0..words.len() {
+        put_word(out, 2 * i, words[i]);
+    }
+}
 
 // The answer to a register, of kind 20.
 pub fn put_answer(out: &mut [u8], group: u16, rule: u16)
-    requires { ⌜ 8 ≤ length (now out) ⌝ }
-    ensures kept { λ _. ⌜ Wrote (now (out .entry)) 0 8 (now (out .exit)) ⌝ }
+    requires { ⌜ answerBytes ≤ length (now out) ⌝ }
+    ensures kept { λ _. ⌜ Wrote (now (out .entry)) 0 answerBytes (now (out .exit)) ⌝ }
     ensures put { λ _. ⌜ AnswerAt (now (out .exit)) group rule ⌝ }
 {
-    put_word(out, 0, 6);
-    put_word(out, 2, 20);
-    put_word(out, 4, group);
-    put_word(out, 6, rule);
+    let words = [6, 20, group, rule];
+    put_words(out, &words);
 }
 
 // The verdict on a claim, of kind 18.
 pub fn put_verdict(out: &mut [u8], verdict: u16)
-    requires { ⌜ 6 ≤ length (now out) ⌝ }
-    ensures kept { λ _. ⌜ Wrote (now (out .entry)) 0 6 (now (out .exit)) ⌝ }
+    requires { ⌜ verdictBytes ≤ length (now out) ⌝ }
+    ensures kept { λ _. ⌜ Wrote (now (out .entry)) 0 verdictBytes (now (out .exit)) ⌝ }
     ensures put { λ _. ⌜ VerdictAt (now (out .exit)) verdict ⌝ }
 {
-    put_word(out, 0, 4);
-    put_word(out, 2, 18);
-    put_word(out, 4, verdict);
+    let words = [4, 18, verdict];
+    put_words(out, &words);
 }
 
 // A group's range and run, of kind 17.
 pub fn put_range(out: &mut [u8], at: usize, least: u32, greatest: u32, first: u32, count: u32)
-    requires { ⌜ at + 20 ≤ length (now out) ⌝ }
-    ensures kept { λ _. ⌜ Wrote (now (out .entry)) at 20 (now (out .exit)) ⌝ }
+    requires { ⌜ at + rangeBytes ≤ length (now out) ⌝ }
+    ensures kept { λ _. ⌜ Wrote (now (out .entry)) at rangeBytes (now (out .exit)) ⌝ }
     ensures put { λ _. ⌜ RangeAt (now (out .exit)) at least greatest first count ⌝ }
 {
     put_word(out, at, 18);
@@ -48,8 +66,8 @@ pub fn put_range(out: &mut [u8], at: usize, least: u32, greatest: u32, first: u3
 
 // A group's run and mark in a denial, of kind 19.
 pub fn put_shown(out: &mut [u8], at: usize, first: u32, count: u32, mark: u16)
-    requires { ⌜ at + 14 ≤ length (now out) ⌝ }
-    ensures kept { λ _. ⌜ Wrote (now (out .entry)) at 14 (now (out .exit)) ⌝ }
+    requires { ⌜ at + shownBytes ≤ length (now out) ⌝ }
+    ensures kept { λ _. ⌜ Wrote (now (out .entry)) at shownBytes (now (out .exit)) ⌝ }
     ensures put { λ _. ⌜ ShownAt (now (out .exit)) at first count mark ⌝ }
 {
     put_word(out, at, 12);
@@ -61,9 +79,9 @@ pub fn put_shown(out: &mut [u8], at: usize, first: u32, count: u32, mark: u16)
 
 // The ranges and runs of all groups. `ranges` has two numbers for each group (least, greatest), `firsts` and `counts` one.
 pub fn put_ranges(out: &mut [u8], size: u16, ranges: &[u32], firsts: &[u32], counts: &[u32])
-    requires { ⌜ 20 * size ≤ length (now out) ⌝ }
+    requires { ⌜ rangeBytes * size ≤ length (now out) ⌝ }
     requires { ⌜ (2 * size ≤ length (now ranges)) × ((size ≤ length (now firsts)) × (size ≤ length (now counts))) ⌝ }
-    ensures kept { λ _. ⌜ Wrote (now (out .entry)) 0 (20 * size) (now (out .exit)) ⌝ }
+    ensures kept { λ _. ⌜ Wrote (now (out .entry)) 0 (rangeBytes * size) (now (out .exit)) ⌝ }
     ensures put { λ _. ⌜ RangesPut (now (out .exit)) size (now (ranges .entry)) (now (firsts .entry)) (now (counts .entry)) ⌝ }
 {
     let end = size as usize;
@@ -71,7 +89,7 @@ pub fn put_ranges(out: &mut [u8], size: u16, ranges: &[u32], firsts: &[u32], cou
     while g < end {
         put_range(
             out,
-            20 * g,
+            RANGE_BYTES * g,
             ranges[2 * g],
             ranges[2 * g + 1],
             firsts[g],
@@ -89,15 +107,21 @@ fn mark_word(mark: u8) -> u16
 
 // The runs and marks of all groups, after the verdict.
 pub fn put_sets(out: &mut [u8], size: u16, firsts: &[u32], counts: &[u32], marks: &[u8])
-    requires { ⌜ 6 + 14 * size ≤ length (now out) ⌝ }
+    requires { ⌜ verdictBytes + shownBytes * size ≤ length (now out) ⌝ }
     requires { ⌜ (size ≤ length (now firsts)) × ((size ≤ length (now counts)) × (size ≤ length (now marks))) ⌝ }
-    ensures kept { λ _. ⌜ Wrote (now (out .entry)) 6 (14 * size) (now (out .exit)) ⌝ }
+    ensures kept { λ _. ⌜ Wrote (now (out .entry)) verdictBytes (shownBytes * size) (now (out .exit)) ⌝ }
     ensures put { λ _. ⌜ SetsPut (now (out .exit)) size (now (firsts .entry)) (now (counts .entry)) (now (marks .entry)) ⌝ }
 {
     let n = size as usize;
     let mut g: usize = 0;
     while g < n {
-        put_shown(out, 6 + 14 * g, firsts[g], counts[g], mark_word(marks[g]));
+        put_shown(
+            out,
+            VERDICT_BYTES + SHOWN_BYTES * g,
+            firsts[g],
+            counts[g],
+            mark_word(marks[g]),
+        );
         g += 1;
     }
 }

@@ -8,15 +8,16 @@ use native.Mathlib.Omega.{arith}
 use native.Mathlib.Nat.{le-refl}
 use lib.ListN.{length, getD, set, length-set}
 use lib.Seq.{getD-set-same, getD-set-other}
-use Rattle.meaning.specs.Sheet.{Sheet, Group, Son, Tree}
+use Rattle.wire.specs.Limits.{groupCapacity}
+use Rattle.meaning.specs.Sheet.{Sheet, Group, Son, Tree, Rooted}
 use Rattle.meaning.specs.OfRecords.{disjointMode, coverMode, sameMode}
 use Rattle.meaning.specs.Sons.{isSon}
 use Rattle.meaning.specs.Arranged.{ended, firstOf}
-use Rattle.reading.specs.Tables.{length-groupsIn, groupAt-groupsIn}
+use Rattle.reading.specs.Tables.{groupIn}
+use Rattle.reading.specs.SheetIn.{sheetIn, sizeLimit, Tabled, size-in, disjoint-in, cover-in, same-in}
 use Rattle.sizes.specs.Balanced.{Balanced}
-use Rattle.sizes.specs.Ranged.{Rooted}
-use Rattle.sizes.specs.SumLaws.{split, compare-eq, son-of, son-is, son-parent}
-use Rattle.runs.specs.Told.{Told, tableSheet, numberIn, sizeLimit}
+use Rattle.meaning.proofs.SumLaws.{split, compare-eq, son-of, son-is, son-parent, no-son-before, one-parent}
+use Rattle.runs.specs.Told.{Told, numberIn, runLimit}
 
 -- The start of a son with y members: the modes of its parent ('same', 'disjoint', 'cover'), the parent's start a and count
 -- z, and where the previous son ended, w.
@@ -34,7 +35,7 @@ pub record Placed (s : Sheet) (f first end : ℕ → ℕ) (i : ℕ) : Type 0 whe
 -- x is the start of the son g of p, and leaves room for its members
 pub record StartIs (s : Sheet) (f first end : ℕ → ℕ) (p g x : ℕ) : Type 0 where
   pub start : x ≡ startBy (s .same p) (s .disjoint p) (s .cover p) (first p) (end p) (f p) (f g)
-  pub room : x + f g ≤ 4000000000
+  pub room : x + f g ≤ runLimit
 
 -- one more group, g, a son of p: what changes in the two tables
 pub record Placing (s : Sheet) (f first end first' end' : ℕ → ℕ) (p g : ℕ) : Type 0 where
@@ -77,10 +78,7 @@ start-most false false false a w z y n h k = h
 ended-own : (s : Sheet) → Tree s → (first f : ℕ → ℕ) (g n : ℕ) → n ≤ suc g → g ≤ s .size → ended s first f g n ≡ first g
 unfolding ended
 ended-own s t first f g zero l h = refl
-ended-own s t first f g (suc n) l h =
-    split (isSon s g n)
-    (λ i. absurd (let k = son-of s g n (omega arith) i in omega (arith, t .before n (k .group))))
-    (λ i. rw i (ended-own s t first f g n (omega arith) h))
+ended-own s t first f g (suc n) l h = rw (no-son-before t g n (omega arith) h) (ended-own s t first f g n (omega arith) h)
 
 ended-son : (s : Sheet) (first f : ℕ → ℕ) (p n : ℕ) → isSon s p n ≡ true → ended s first f p (suc n) ≡ first n + f n
 unfolding ended
@@ -152,7 +150,7 @@ module _ {s : Sheet} {f : ℕ → ℕ} (t : Tree s) (r : Rooted s) (b : Balanced
             (λ n. compare-eq a p
             (λ e. rw e (v .last ∙ sym (ended-son s first' f p (suc i) (son-is k))))
             (λ o. v .ends a (j .first) n o ∙ w .last a j (omega arith)
-            ∙ sym (ended-skip s first' f a (suc i) (other a o)
+            ∙ sym (ended-skip s first' f a (suc i) (one-parent k a o)
             ∙ ended-eq s first first' f a (suc i) (same a (j .first) (omega arith)) same (omega arith))));
         near = λ h j l. compare-eq h (suc i)
             (λ e. rw e (omega arith))
@@ -163,70 +161,44 @@ module _ {s : Sheet} {f : ℕ → ℕ} (t : Tree s) (r : Rooted s) (b : Balanced
             (λ e. rw (e, v .last) (omega arith))
             (λ o. rw (v .ends h (j .first) n o) (omega (arith, w .close h j (omega arith)))));
       }
-    where
-      other : (a : ℕ) → (a ≡ p → ⊥) → isSon s a (suc i) ≡ false
-      other a n = split (isSon s a (suc i))
-          (λ e. absurd (n (sym (son-of s a (suc i) (k .group .last) e .under) ∙ k .under)))
-          (λ e. e)
 
   pub placed-all : {first end : ℕ → ℕ} → Placed s f first end (s .size) → Told s f first
   placed-all w = record { root = w .root; son = λ p g k. w .son p g k (k .group .last) }
 
--- the parent and the modes of a group, from the table
-module _ (t : List ℕ) (n g : ℕ) (a : 1 ≤ g) (b : g ≤ n) where
-  pub table-parent : tableSheet t n .parent g ≡ getD t (4 * (g - 1)) 0
-  table-parent = ap (λ r. r .parent) (groupAt-groupsIn t n g a b)
+-- one more son, in a table of groups
+module _ {t : List ℕ} {n : ℕ} {f first end : ℕ → ℕ} (h : Tabled t n) (b : Balanced (sheetIn t n) f) (top : f 1 ≤ sizeLimit)
+    (p g : ℕ) (k : Son (sheetIn t n) p g) (w : Placed (sheetIn t n) f first end (g - 1)) where
+  abbrev s : Sheet
+  s = sheetIn t n
 
-  pub table-same : tableSheet t n .same g ≡ sameMode (getD t (4 * (g - 1) + 3) 0)
-  table-same = ap (λ r. sameMode (r .mode)) (groupAt-groupsIn t n g a b)
+  parent : Group s p
+  parent = son-parent (h .tree) k
 
-  pub table-disjoint : tableSheet t n .disjoint g ≡ disjointMode (getD t (4 * (g - 1) + 3) 0)
-  table-disjoint = ap (λ r. disjointMode (r .mode)) (groupAt-groupsIn t n g a b)
+  below : p < g
+  below = omega (arith, h .tree .before g (k .group))
 
-  pub table-cover : tableSheet t n .cover g ≡ coverMode (getD t (4 * (g - 1) + 3) 0)
-  table-cover = ap (λ r. coverMode (r .mode)) (groupAt-groupsIn t n g a b)
+  few : g ≤ groupCapacity
+  few = omega (arith, k .group .last, size-in t n, h .small)
 
--- a group other than the root is the son of the group that the table has as its parent
-pub table-son : (t : List ℕ) (n g : ℕ) → Rooted (tableSheet t n) → 2 ≤ g → g ≤ n → Son (tableSheet t n) (getD t (4 * (g - 1)) 0) g
-table-son t n g r a b =
-    let e = table-parent t n g (omega arith) b in
-    let q : Group (tableSheet t n) g = record { first = omega arith; last = omega (arith, length-groupsIn t n) } in
-    record { above = omega (arith, r .rest g q a); group = q; under = e }
+  -- its start, by its parent's mode, start and size, and the end of the son before it
+  pub start-is : (x : ℕ) → x ≡ startBy (sameMode (groupIn t (p - 1) .mode)) (disjointMode (groupIn t (p - 1) .mode))
+      (coverMode (groupIn t (p - 1) .mode)) (first p) (end p) (f p) (f g)
+      → StartIs s f first end p g x
+  start-is x e =
+      let here : x ≡ startBy (s .same p) (s .disjoint p) (s .cover p) (first p) (end p) (f p) (f g) =
+      rw (same-in t n p parent, disjoint-in t n p parent, cover-in t n p parent) e in
+      let late = start-most (s .same p) (s .disjoint p) (s .cover p) (first p) (end p) (f p) (f g) (1 + sizeLimit * (g - 1))
+      (omega (arith, w .near p parent (omega (arith, below)), below)) (w .close p parent (omega (arith, below))) in
+      record { start = here; room = omega (arith, size-limit (h .tree) (h .rooted) b top g (k .group), below, few) }
 
--- the start of a son that its parent's mode, start and size, and the end of the son before it, give
-pub start-is : (t : List ℕ) (n : ℕ) {f first end : ℕ → ℕ} (p g x : ℕ) → Tree (tableSheet t n) → Rooted (tableSheet t n)
-    → Balanced (tableSheet t n) f → f 1 ≤ sizeLimit → n ≤ 128 → Son (tableSheet t n) p g
-    → Placed (tableSheet t n) f first end (g - 1)
-    → x ≡ startBy (sameMode (getD t (4 * (p - 1) + 3) 0)) (disjointMode (getD t (4 * (p - 1) + 3) 0))
-    (coverMode (getD t (4 * (p - 1) + 3) 0)) (first p) (end p) (f p) (f g)
-    → StartIs (tableSheet t n) f first end p g x
-start-is t n {f} {first} {end} p g x tr r b top small k w e =
-    let s = tableSheet t n in
-    let q = son-parent tr k in
-    let before = tr .before g (k .group) in
-    let sized = length-groupsIn t n in
-    let here : x ≡ startBy (s .same p) (s .disjoint p) (s .cover p) (first p) (end p) (f p) (f g) =
-    rw (
-      table-same t n p (q .first) (omega arith),
-      table-disjoint t n p (q .first) (omega arith),
-      table-cover t n p
-          (q .first) (omega arith),
-    ) e in
-    let late = start-most (s .same p) (s .disjoint p) (s .cover p) (first p) (end p) (f p) (f g) (1 + sizeLimit * (g - 1))
-    (omega (arith, w .near p q (omega arith))) (w .close p q (omega arith)) in
-    record { start = here; room = omega (arith, size-limit tr r b top g (k .group)) }
-
--- the sums that the start takes
-pub start-room : {s : Sheet} {f first end : ℕ → ℕ} (p g : ℕ) → Tree s → Rooted s → Balanced s f → f 1 ≤ sizeLimit → s .size ≤ 128
-    → Son s p g → Placed s f first end (g - 1)
-    → (f g ≤ f p) × (first p + f p ≤ 4000000000) × (end p + f g ≤ 4000000000)
-start-room {s} {f} p g tr r b top small k w =
-    let q = son-parent tr k in
-    let before = tr .before g (k .group) in
-    let near = w .near p q (omega arith) in
-    let close = w .close p q (omega arith) in
-    let mine = size-limit tr r b top g (k .group) in
-    (b .at p q .inside g k, omega arith, omega arith)
+  -- the sums that it takes
+  pub start-room : (f g ≤ f p) × (first p + f p ≤ runLimit) × (end p + f g ≤ runLimit)
+  start-room = (
+    b .at p parent .inside g k,
+    omega (arith, w .near p parent (omega (arith, below)), below, few),
+    omega
+        (arith, w .close p parent (omega (arith, below)), size-limit (h .tree) (h .rooted) b top g (k .group), below, few),
+  )
 
 -- the stores for one more group
 pub placed-by : {s : Sheet} {f : ℕ → ℕ} (firsts ends : List ℕ) (p g x : ℕ) → Tree s → Rooted s → Balanced s f → f 1 ≤ sizeLimit

@@ -1,18 +1,17 @@
 -- Starts in document 01's words, for given sizes: what `place_runs` leaves in its table.
-use Prim.Native.Nat.{ℕ, _-_, _*_, _≤_}
+use Prim.Native.Nat.{ℕ, _+_, _-_, _*_, _≤_}
 use mathlib.Core.Path.{_≡_, sym}
 use mathlib.Core.List.{List}
 use native.Mathlib.Omega.{arith}
 use native.Mathlib.Nat.{le-of-eq}
-use lib.ListN.{length, getD}
-use Rattle.wire.specs.Limits.{groupLimit}
-use Rattle.meaning.specs.Sheet.{Sheet, Group, Son, Tree}
-use Rattle.meaning.specs.OfRecords.{sheetOf}
+use lib.ListN.{length, getD, set}
+use lib.Seq.{getD-set-same, getD-set-other}
+use Rattle.wire.specs.Limits.{groupCapacity}
+use Rattle.meaning.specs.Sheet.{Sheet, Group, Son, Tree, Rooted}
 use Rattle.meaning.specs.Arranged.{firstOf}
-use Rattle.reading.specs.Tables.{groupsIn}
+use Rattle.reading.specs.SheetIn.{sheetIn, sizeLimit, Tabled}
 use Rattle.sizes.specs.Balanced.{Balanced}
-use Rattle.sizes.specs.Ranged.{Rooted}
-use Rattle.sizes.specs.SumLaws.{compare-eq}
+use Rattle.meaning.proofs.SumLaws.{compare-eq}
 use Rattle.sizes.specs.Runs.{Starts}
 use Rattle.sizes.specs.RunsInWords.{told-starts}
 
@@ -20,9 +19,12 @@ use Rattle.sizes.specs.RunsInWords.{told-starts}
 abbrev pub numberIn : List ℕ → ℕ → ℕ
 numberIn t g = getD t (g - 1) 0
 
--- the sheet of the first n groups of the table
-abbrev pub tableSheet : List ℕ → ℕ → Sheet
-tableSheet t n = sheetOf (groupsIn t n)
+-- a store at group g
+pub number-same : (t : List ℕ) (g x : ℕ) → 1 ≤ g → g ≤ length t → numberIn (set t (g - 1) x) g ≡ x
+number-same t g x a l = getD-set-same t (g - 1) x 0 (omega arith)
+
+pub number-other : (t : List ℕ) (g h x : ℕ) → 1 ≤ g → 1 ≤ h → (h ≡ g → ⊥) → numberIn (set t (g - 1) x) h ≡ numberIn t h
+number-other t g h x a b n = getD-set-other t (g - 1) (h - 1) x 0 (λ e. n (omega arith))
 
 -- The root starts at 1, and every son where document 01 says.
 pub record Told (s : Sheet) (size first : ℕ → ℕ) : Type 0 where
@@ -38,24 +40,17 @@ told-runs {s} {f} {first} t r b w =
     top g q e =
         compare-eq g 1 (λ i. rw i (le-of-eq (sym (w .root)))) (λ n. absurd (omega (arith, r .rest g q (omega arith))))
 
--- the greatest size that the root may have: 128 times 65,535
-abbrev pub sizeLimit : ℕ
-sizeLimit = 8388480
-
--- the table of groups: a tree with group 1 as its root
-pub record Grown (groups : List ℕ) (n : ℕ) : Type 0 where
-  pub small : n ≤ groupLimit
-  pub long : 4 * n ≤ length groups
-  pub tree : Tree (tableSheet groups n)
-  pub rooted : Rooted (tableSheet groups n)
+-- No run ends above this: each group moves the end on by at most `sizeLimit`.
+abbrev pub runLimit : ℕ
+runLimit = 1 + sizeLimit * groupCapacity
 
 -- the tables that `place_runs` takes: lent long enough, the sizes balanced and not too large
 pub record Placeable (groups : List ℕ) (n : ℕ) (sizes firsts ends : List ℕ) : Type 0 where
-  pub grown : Grown groups n
+  pub grown : Tabled groups n
   pub sizes-long : n ≤ length sizes
   pub firsts-long : n ≤ length firsts
   pub ends-long : n ≤ length ends
-  pub balanced : Balanced (tableSheet groups n) (numberIn sizes)
+  pub balanced : Balanced (sheetIn groups n) (numberIn sizes)
   pub top : numberIn sizes 1 ≤ sizeLimit
 
 -- stores to the tables leave them long enough

@@ -7,12 +7,13 @@ ghost use mathlib.Core.Path.{_≡_};
 ghost use Prim.Native.Nat.{_+_, _-_, _≤_, _<_};
 ghost use Rattle.meaning.specs.Sheet.{Son};
 ghost use Rattle.meaning.specs.OfRecords.{disjointMode, coverMode, sameMode};
-ghost use Rattle.runs.specs.Told.{Told, Grown, Placeable, numberIn, tableSheet};
+ghost use Rattle.reading.specs.SheetIn.{sheetIn, Tabled};
+ghost use Rattle.runs.specs.Told.{Told, Placeable, numberIn, runLimit};
 ghost use Rattle.runs.specs.Placed.{startBy, StartIs, Placed};
 
 // The start of a son with `own` members under a group of this mode, start and size.
 fn start_under(mode: u16, first: u32, ended: u32, size: u32, own: u32) -> u32
-    requires { ⌜ (own ≤ size) × (first + size ≤ 4000000000) × (ended + own ≤ 4000000000) ⌝ }
+    requires { ⌜ (own ≤ size) × (first + size ≤ runLimit) × (ended + own ≤ runLimit) ⌝ }
     ensures { λ r. ⌜ r ≡ startBy (sameMode mode) (disjointMode mode) (coverMode mode) first ended size own ⌝ }
 {
     if mode / 4 % 2 == 1 {
@@ -32,8 +33,8 @@ fn start_under(mode: u16, first: u32, ended: u32, size: u32, own: u32) -> u32
 
 // the parent of a group other than the root
 pub fn parent_group(groups: &[u16], size: u16, g: GroupNo) -> GroupNo
-    requires { ⌜ Grown (now groups) size × (2 ≤ g .0) × (g .0 ≤ size) ⌝ }
-    ensures { λ r. ⌜ Son (tableSheet (now (groups .entry)) size) (r .0) (g .0) × (1 ≤ r .0) × (r .0 < g .0) ⌝ }
+    requires { ⌜ Tabled (now groups) size × (2 ≤ g .0) × (g .0 ≤ size) ⌝ }
+    ensures { λ r. ⌜ Son (sheetIn (now (groups .entry)) size) (r .0) (g .0) × (1 ≤ r .0) × (r .0 < g .0) ⌝ }
 {
     parent_of(groups, g)
 }
@@ -49,10 +50,10 @@ fn start_of(
     g: GroupNo,
 ) -> u32
     requires { ⌜ Placeable (now groups) size (now sizes) (now firsts) (now ends) ⌝ }
-    requires { ⌜ (1 ≤ p .0) × (p .0 < g .0) × (g .0 ≤ size) × Son (tableSheet (now groups) size) (p .0) (g .0) ⌝ }
-    requires { ⌜ Placed (tableSheet (now groups) size) (numberIn (now sizes)) (numberIn (now firsts)) (numberIn (now ends))
+    requires { ⌜ (1 ≤ p .0) × (p .0 < g .0) × (g .0 ≤ size) × Son (sheetIn (now groups) size) (p .0) (g .0) ⌝ }
+    requires { ⌜ Placed (sheetIn (now groups) size) (numberIn (now sizes)) (numberIn (now firsts)) (numberIn (now ends))
         (g .0 - 1) ⌝ }
-    ensures { λ r. ⌜ StartIs (tableSheet (now (groups .entry)) size) (numberIn (now (sizes .entry))) (numberIn (now
+    ensures { λ r. ⌜ StartIs (sheetIn (now (groups .entry)) size) (numberIn (now (sizes .entry))) (numberIn (now
         (firsts .entry))) (numberIn (now (ends .entry))) (p .0) (g .0) r ⌝ }
 {
     let i = g.0 as usize;
@@ -76,9 +77,9 @@ fn place_son(
 )
     requires { ⌜ Placeable (now groups) size (now sizes) (now firsts) (now ends) ⌝ }
     requires { ⌜ (2 ≤ g .0) × (g .0 ≤ size) ⌝ }
-    requires { ⌜ Placed (tableSheet (now groups) size) (numberIn (now sizes)) (numberIn (now firsts)) (numberIn (now ends))
+    requires { ⌜ Placed (sheetIn (now groups) size) (numberIn (now sizes)) (numberIn (now firsts)) (numberIn (now ends))
         (g .0 - 1) ⌝ }
-    ensures { λ _. ⌜ Placed (tableSheet (now (groups .entry)) size) (numberIn (now (sizes .entry))) (numberIn (now
+    ensures { λ _. ⌜ Placed (sheetIn (now (groups .entry)) size) (numberIn (now (sizes .entry))) (numberIn (now
         (firsts .exit))) (numberIn (now (ends .exit))) (g .0) ⌝ }
 {
     let p = parent_group(groups, size, g);
@@ -92,7 +93,7 @@ fn place_son(
 
 pub fn place_runs(groups: &[u16], size: u16, sizes: &[u32], firsts: &mut [u32], ends: &mut [u32])
     requires { ⌜ Placeable (now groups) size (now sizes) (now firsts) (now ends) ⌝ }
-    ensures { λ _. ⌜ Told (tableSheet (now (groups .entry)) size) (numberIn (now (sizes .entry))) (numberIn (now
+    ensures { λ _. ⌜ Told (sheetIn (now (groups .entry)) size) (numberIn (now (sizes .entry))) (numberIn (now
         (firsts .exit))) ⌝ }
 {
     firsts[0] = 1;

@@ -1,5 +1,5 @@
--- The arrangement of document 01 fits: its sizes are sizes that the sheet allows, the root's the least, and its starts are
--- those of the runs that show them. It exists for any bounds.
+-- The arrangement of document 01 fits: its sizes are sizes that the sheet allows, and its starts are those of the runs that
+-- show them. For any bounds there is one, and one only.
 use Prim.Native.Nat.{ℕ, zero, suc, _+_, _-_, _≤_, _<_, zero-le, min}
 use mathlib.Core.Path.{_≡_, refl, sym, _∙_}
 use mathlib.Core.Bool.{Bool, true, false, _&&_}
@@ -7,15 +7,15 @@ use native.Mathlib.Omega.{arith}
 use native.Mathlib.Nat.{le-refl, add-zero}
 use lib.Dec.{ltb}
 use Rattle.meaning.specs.Sum.{sum}
-use Rattle.meaning.specs.Sheet.{Sheet, Group, Son, Tree, Top, AtMost}
+use Rattle.meaning.specs.Sheet.{Sheet, Group, Son, Tree, Rooted, Top, AtMost}
 use Rattle.meaning.specs.Shown.{shown, above}
 use Rattle.meaning.specs.Fits.{Fits}
 use Rattle.meaning.specs.Arranged.{cap, leftFor, sizeOf, ended, firstOf, Arranged}
 use Rattle.sizes.specs.Balanced.{isSon, only, sons, RuleAt}
 use Rattle.sizes.specs.Span.{Span, span, In, eq}
 use Rattle.sizes.specs.Fold.{kindOf, sonCount, shut, Measured}
-use Rattle.sizes.specs.Ranged.{Rooted, free}
-use Rattle.sizes.specs.SumLaws.{
+use Rattle.sizes.specs.Ranged.{free}
+use Rattle.meaning.proofs.SumLaws.{
   split,
   compare-le,
   below-suc,
@@ -30,16 +30,15 @@ use Rattle.sizes.specs.SumLaws.{
   sons-le,
   sons-prefix,
 }
-use Rattle.sizes.specs.Runs.{Starts, runs-first}
+use Rattle.sizes.specs.Runs.{Starts}
 use Rattle.sizes.specs.RunsInWords.{told-starts}
 use Rattle.sizes.specs.Members.{balanced-zero}
 use Rattle.sizes.specs.Possible.{Sizes, nowhere, sizes-fits-above}
 use Rattle.sizes.specs.SpanLaws.{at-le, cap-at, cap-most, cap-least}
 use Rattle.sizes.specs.RuleSteps.{Upto, upto-none, upto-son, upto-skip, kind-same, shut-same, rule-upto, rule-eq}
 use Rattle.sizes.specs.JoinedLaws.{in-own}
-use Rattle.sizes.specs.Exact.{in-span, sound, Grown, grow}
+use Rattle.sizes.specs.Exact.{in-span, span-proper, sound, Grown, grow}
 use Rattle.sizes.specs.PullLaws.{proper-least}
-use Rattle.sizes.specs.RangeExact.{sizes-in, span-proper}
 use Rattle.sizes.specs.RangedExists.{Alike, Down, down-exists, down-unique, root-or-son}
 
 -- a total of numbers that are all the same, where nobody is left
@@ -180,7 +179,7 @@ module _ {s : Sheet} {z : ℕ → Bool → Span} {L : ℕ → ℕ} {U : ℕ → 
     one = λ p q l. absurd (omega arith);
     within = λ g q l. root-or-son r g q
         (λ o. rw (o, a .rootSize, e 1 (r .one))
-        (proper-least (L 1) (U 1) (rw (e 1 (r .one)) at (span-proper t r m 1 (r .one) false))))
+        (proper-least (L 1) (U 1) (rw (e 1 (r .one)) at (span-proper s free z t m 1 (r .one) false))))
         (λ p k. absurd (omega arith));
   }
 
@@ -231,18 +230,11 @@ module _ {s : Sheet} {z : ℕ → Bool → Span} {L : ℕ → ℕ} {U : ℕ → 
         most = λ g q. own-bounds g q .1;
       }
 
-  -- the root has its least count
-  pub arrangement-least : (f : ℕ → ℕ) → Sizes s f → size 1 ≤ f 1
-  arrangement-least f w = omega (arith, a .rootSize, (rw (e 1 (r .one)) at (sizes-in t r m f w 1 (r .one))) .0)
-
   -- its starts are those of the runs
   pub arranged-starts : Starts s size first
   arranged-starts =
       told-starts t (arranged-sizes .balanced) (a .sonFirst)
       (λ g q o. root-or-son r g q (λ x. rw (x, a .rootFirst) (le-refl 1)) (λ p k. absurd (omega arith)))
-
-  pub arranged-first : (g : ℕ) → Group s g → 1 ≤ first g
-  arranged-first g q = runs-first t (arranged-sizes .balanced) arranged-starts g q
 
   -- its sets fit
   pub arranged-fits : Fits s (shown first size nowhere (above (s .size) first size))

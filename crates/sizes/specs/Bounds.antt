@@ -10,9 +10,9 @@ use lib.Dec.{leb, ltb, eqb}
 use Rattle.meaning.specs.Sum.{sum}
 use Rattle.meaning.specs.Sheet.{Sheet, Group, Tree, Top, fin, inf}
 use Rattle.meaning.specs.Sons.{isSon, only, sons}
-use Rattle.sizes.specs.Span.{Span, none, span, make, meet, hull, Kind, lap, add, eq, join, larger, smaller, plus}
+use Rattle.sizes.specs.Span.{Span, none, span, make, meet, hull, Kind, lap, add, eq, join, pull, larger, smaller, plus, less, shorter, reaches}
 use Rattle.sizes.specs.Fold.{kindOf, shut, start, joined, later, own, ownTo, Measured}
-use Rattle.sizes.specs.SumLaws.{
+use Rattle.meaning.proofs.SumLaws.{
   split,
   compare-le,
   compare-eq,
@@ -25,6 +25,7 @@ use Rattle.sizes.specs.SumLaws.{
   sum-longer,
   son-of,
 }
+use Rattle.sizes.specs.SpanLaws.{less-most}
 use Rattle.sizes.specs.RuleSteps.{sumLast, sum-son, sum-skip, sum-last-all}
 use Rattle.sizes.specs.LaterLaws.{later-none, later-son, later-skip}
 
@@ -60,7 +61,7 @@ top-larger (fin a) inf = zero-le
 top-larger inf (fin b) = zero-le
 top-larger inf inf = zero-le
 
-weight-meet : (a b : Span) → weight (meet a b) ≤ max (weight a) (weight b)
+pub weight-meet : (a b : Span) → weight (meet a b) ≤ max (weight a) (weight b)
 unfolding meet weight
 weight-meet none b = zero-le
 weight-meet (span l u) none = zero-le
@@ -80,6 +81,24 @@ weight-join q (span l u) none = zero-le
 weight-join lap (span l u) (span m v) = omega (arith, top-plus u v)
 weight-join add (span l u) (span m v) = omega (arith, top-plus u v)
 weight-join eq (span l u) (span m v) = omega (arith, weight-make (max l m) (smaller u v), top-smaller u v)
+
+-- what is pulled out of a span weighs no more than the two
+top-shorter : (u : Top) (m : ℕ) → topWeight (shorter u m) ≤ topWeight u
+top-shorter (fin a) m = omega arith
+top-shorter inf m = zero-le
+
+weight-reached : (m l : ℕ) (u v : Top) → weight (cond (reaches m u) (make l v) none) ≤ max l (topWeight v)
+weight-reached m l u v =
+    split (reaches m u) (λ e. rw e (weight-make l v)) (λ e. rw e (unfold weight in zero-le))
+
+pub weight-pull : (q : Kind) (a b : Span) → weight (pull q a b) ≤ max (weight a) (weight b)
+unfolding pull weight
+weight-pull q none b = zero-le
+weight-pull q (span l u) none = zero-le
+weight-pull lap (span l u) (span m v) = omega (arith, weight-reached m (less l v) u u, less-most v l)
+weight-pull add (span l u) (span m v) =
+    omega (arith, weight-reached m (less l v) u (shorter u m), less-most v l, top-shorter u m)
+weight-pull eq (span l u) (span m v) = omega (arith, weight-make (max l m) (smaller u v), top-smaller u v)
 
 -- the larger weight of the two states
 abbrev pub heavier : (Bool → Span) → ℕ

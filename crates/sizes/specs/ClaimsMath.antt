@@ -1,7 +1,7 @@
 -- When a claim can be broken, exactly: as a choice for a place (kinds 5 and 6), as sizes under a narrowed bound (kind 4).
 use Prim.Native.Nat.{ℕ, zero, suc, _+_, _-_, _≤_, _<_}
 use mathlib.Core.Path.{_≡_, refl, sym, _∙_, subst}
-use mathlib.Core.Bool.{Bool, true, false, not, Bool-discrete, false≢true}
+use mathlib.Core.Bool.{Bool, true, false, Bool-discrete, false≢true}
 use mathlib.Core.List.{
   List,
   [],
@@ -22,7 +22,7 @@ use Rattle.meaning.specs.Sets.{Sets, count}
 use Rattle.meaning.specs.Fits.{Possible, groupsOf}
 use Rattle.meaning.specs.Claim.{Claim, counted, within, separate, named, union, countNamed, Says, Breaks, Breakable}
 use Rattle.sizes.specs.Balanced.{Choice}
-use Rattle.sizes.specs.SumLaws.{
+use Rattle.meaning.proofs.SumLaws.{
   split,
   compare-le,
   below-suc,
@@ -244,36 +244,6 @@ pub shown-breaks : {s : Sheet} {l r ins outs : List ℕ} {b : Bool} {f : ℕ →
 shown-breaks {l = l} {r = r} {ins = ins} {outs = outs} {b = b} {f = f} {M = M} k m w c st n i =
     meeting-breaks b l r (shown st f M n)
     (way-meeting (shown st f M n) k m w 0 i (flags-placed ins outs M (c .allowed)))
-
--- the two kinds apart
-away-of : {l r ins outs : List ℕ} (P : List ℕ → List ℕ → Type 0) → Way l r false ins outs → P ins outs
-    → (g : ℕ) × List·Memᴰ g l × (1 ≤ g) × P (g ∷ []) r
-away-of P (away {g = g} m p) x = (g, m, p, x)
-
-along-of : {l r ins outs : List ℕ} (P : List ℕ → List ℕ → Type 0) → Way l r true ins outs → P ins outs
-    → (g h : ℕ) × List·Memᴰ g l × (1 ≤ g) × List·Memᴰ h r × (1 ≤ h) × P (g ∷ h ∷ []) []
-along-of P (along {g = g} {h = h} m p o q) x = (g, h, m, p, o, q, x)
-
--- some choice for the place
-abbrev pub Chosen : Sheet → List ℕ → List ℕ → Type 0
-Chosen s ins outs = (f : ℕ → ℕ) × (M : ℕ → Bool) × Choice s (placeIn ins outs) f M
-
-pub breakable-within : {s : Sheet} → Tree s → (l r : List ℕ) → Known s l → Known s r
-    → Breakable s (within l r) ↔ ((g : ℕ) × List·Memᴰ g l × (1 ≤ g) × Chosen s (g ∷ []) r)
-breakable-within {s} t l r k n =
-    let e = breakable-lists t false l r k n in (
-      λ w. let v = e .0 w in away-of (Chosen s) (v .2) (v .3, v .4, v .5),
-      λ w. e .1 (w .0 ∷ [], r, away (w .1) (w .2), w .3 .0, w .3 .1, w .3 .2),
-    )
-
-pub breakable-separate : {s : Sheet} → Tree s → (l r : List ℕ) → Known s l → Known s r
-    → Breakable s (separate l r)
-    ↔ ((g h : ℕ) × List·Memᴰ g l × (1 ≤ g) × List·Memᴰ h r × (1 ≤ h) × Chosen s (g ∷ h ∷ []) [])
-breakable-separate {s} t l r k n =
-    let e = breakable-lists t true l r k n in (
-      λ w. let v = e .0 w in along-of (Chosen s) (v .2) (v .3, v .4, v .5),
-      λ w. e .1 (w .0 ∷ w .1 ∷ [], [], along (w .2) (w .3) (w .4) (w .5), w .6 .0, w .6 .1, w .6 .2),
-    )
 
 -- kind 4
 pub countNamed-group : {X : Type 0} (A : Sets X) (g : ℕ) → 1 ≤ g → countNamed A g ≡ count A g

@@ -11,11 +11,11 @@ use Rattle.meaning.specs.Sons.{isSon}
 use Rattle.sizes.specs.Balanced.{RuleAt, Choice}
 use Rattle.sizes.specs.Span.{Span, In, eq, Makes, join}
 use Rattle.sizes.specs.Fold.{kindOf, own, later, Measured}
-use Rattle.sizes.specs.SumLaws.{split, compare-le, below-suc, son-of, son-is}
+use Rattle.meaning.proofs.SumLaws.{split, compare-le, below-suc, son-of, son-is}
 use Rattle.sizes.specs.SpanLaws.{Proper, in-meet, meet-join, near-join, near-proper}
 use Rattle.sizes.specs.JoinedLaws.{Nears, in-own, near-own}
 use Rattle.sizes.specs.RuleSteps.{Lasts, all-lasts, lasts-all, rule-upto, rule-eq, upto-eq, Upto}
-use Rattle.sizes.specs.LaterLaws.{later-of, later-in, near-later, Taken, Divided, divide-at, divide-states}
+use Rattle.sizes.specs.LaterLaws.{later-of, later-in, near-later, Taken, divide-states}
 
 -- a choice, at one group
 pub record ChoiceAt (s : Sheet) (may : ℕ → Bool → Bool) (p : ℕ) (f : ℕ → ℕ) (M : ℕ → Bool) : Type 0 where
@@ -224,14 +224,8 @@ module _ (s : Sheet) (may : ℕ → Bool → Bool) (z : ℕ → Bool → Span) (
     λ w. rw (w .3, w .4) at (sound (w .0) (w .1) (w .2) 1 r),
   )
 
-  -- A number of the fold at p's son `size - k`: some states of the sons after it and of that son can be joined to it; and
-  -- with any states that can, `restOf` and `sonOf` divide it.
+  -- a number of the fold at p's son `size - k`: some states of the sons after it and of that son can be joined to it
   pub step-states : (p k x : ℕ) (c : Bool) → isSon s p (s .size - k) ≡ true → In x (later s z p (suc k) c)
       → (b d : Bool) × Makes (kindOf s p) (bit b) (bit d) (bit c)
       × In x (join (kindOf s p) (later s z p k b) (z (s .size - k) d))
   step-states p k x c e h = divide-states s z p k x c (near-sons p (suc k)) e h
-
-  pub step-choice : (p k x : ℕ) (c b d : Bool) → isSon s p (s .size - k) ≡ true
-      → Makes (kindOf s p) (bit b) (bit d) (bit c) → In x (join (kindOf s p) (later s z p k b) (z (s .size - k) d))
-      → Divided s z p k x c b d
-  step-choice p k x c b d e w h = divide-at s z p k x c b d (near-sons p (suc k)) e w h

@@ -1,9 +1,9 @@
 -- The interval of a group from the intervals of its sons, taken from the last son to the first. Each group has two
 -- intervals, for one member out of it (false) and in it (true); the number does not count that member.
-use Prim.Native.Nat.{ℕ, zero, suc, _+_, _-_}
+use Prim.Native.Nat.{ℕ, zero, suc, _-_}
 use mathlib.Core.Path.{_≡_}
 use mathlib.Core.Bool.{Bool, true, false, cond}
-use lib.Dec.{ltb, leb}
+use lib.Dec.{ltb}
 unfoldable pub use Rattle.meaning.specs.Sons.{sonCount}
 use Rattle.meaning.specs.Sheet.{Sheet, Group, Top, fin, inf}
 use Rattle.sizes.specs.Balanced.{isSon}

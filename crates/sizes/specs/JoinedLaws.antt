@@ -12,7 +12,7 @@ use Rattle.meaning.specs.Sum.{bit}
 use Rattle.meaning.specs.Sheet.{Sheet, Top, fin, inf, AtMost}
 use Rattle.sizes.specs.Span.{Span, In, Kind, lap, add, eq, Makes, join}
 use Rattle.sizes.specs.Fold.{start, joined, own, ownTo}
-use Rattle.sizes.specs.SumLaws.{split, bit-eq}
+use Rattle.meaning.proofs.SumLaws.{split, bit-eq}
 use Rattle.sizes.specs.SpanLaws.{Near, near-make, near-join, near-hull, joint, join-of, hull-of, hull-in, in-make}
 
 -- the intervals of both states are near one number: no gap between them

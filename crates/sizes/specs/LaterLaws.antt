@@ -11,7 +11,7 @@ use Rattle.meaning.specs.Sheet.{Sheet}
 use Rattle.meaning.specs.Sons.{isSon}
 use Rattle.sizes.specs.Span.{Span, In, Makes, join}
 use Rattle.sizes.specs.Fold.{kindOf, shut, start, joined, later}
-use Rattle.sizes.specs.SumLaws.{split, son-of, true-not-false}
+use Rattle.meaning.proofs.SumLaws.{split, son-of, true-not-false}
 use Rattle.sizes.specs.SpanLaws.{join-in, near-proper, restOf, sonOf, joint}
 use Rattle.sizes.specs.JoinedLaws.{Nears, start-of, start-in, near-start, joined-of, joined-states, near-joined}
 use Rattle.sizes.specs.RuleSteps.{Upto, upto-none, upto-son, upto-skip, upto-bit, upto-eq, Lasts, lasts-more, lasts-less}

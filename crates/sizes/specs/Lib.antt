@@ -2,7 +2,6 @@ pub mod Balanced
 pub mod Span
 pub mod Fold
 pub mod Ranged
-pub mod SumLaws
 pub mod Members
 pub mod Renumbered
 pub mod Runs
@@ -24,3 +23,8 @@ pub mod RangeExact
 pub mod ArrangedFits
 pub mod Part
 pub mod ArrangedAlike
+pub mod ArrangedOnce
+pub mod Ends
+pub mod Widened
+pub mod Decidable
+pub mod Readable

@@ -1,4 +1,4 @@
--- Spans that meet the equation of the fold exist, are unique, and depend only on the groups at and below a group.
+-- Spans that meet the equation of the fold exist, and those of a group depend only on the groups at and below it.
 use Prim.Native.Nat.{ℕ, zero, suc, _+_, _-_, _≤_, _<_}
 use mathlib.Core.Path.{_≡_, refl, sym, ap, _∙_, fun-ext}
 use mathlib.Core.Bool.{Bool}
@@ -9,7 +9,7 @@ use Rattle.meaning.specs.Sheet.{Sheet, Group, Son, Tree}
 use Rattle.meaning.specs.Sons.{isSon, sonCount}
 use Rattle.sizes.specs.Span.{Span, none, Kind, meet}
 use Rattle.sizes.specs.Fold.{kindOf, shut, start, joined, later, own, Measured}
-use Rattle.sizes.specs.SumLaws.{split, sum-eq}
+use Rattle.meaning.proofs.SumLaws.{split, sum-eq}
 use Rattle.sizes.specs.RuleSteps.{Lasts, all-lasts, lasts-less, no-son}
 use Rattle.sizes.specs.LaterLaws.{later-none, later-son, later-skip}
 
@@ -97,18 +97,6 @@ pub measured-alike : (s r : Sheet) (may can : ℕ → Bool → Bool) (y x : ℕ 
     → ((p : ℕ) → Group s p → Q p → AlikeAt s r may can p) → (g : ℕ) → Group s g → Q g → (c : Bool) → y g c ≡ x g c
 measured-alike s r may can y x t m n e Q q a g k i c =
     alike-down s r may can y x t m n e Q q a (s .size) g k i (omega arith) c
-
--- the spans of a group depend only on the groups from it on
-pub measured-after : (s r : Sheet) (may can : ℕ → Bool → Bool) (y x : ℕ → Bool → Span) → Tree s → Measured s may y
-    → Measured r can x → s .size ≡ r .size → (n : ℕ) → ((p : ℕ) → Group s p → n ≤ p → AlikeAt s r may can p)
-    → (g : ℕ) → Group s g → n ≤ g → (c : Bool) → y g c ≡ x g c
-measured-after s r may can y x t m w e n a =
-    measured-alike s r may can y x t m w e (λ p. n ≤ p) (λ p g i j. omega (arith, t .before g (j .group))) a
-
-pub measured-unique : (s : Sheet) (may : ℕ → Bool → Bool) (y x : ℕ → Bool → Span) → Tree s → Measured s may y
-    → Measured s may x → (g : ℕ) → Group s g → (c : Bool) → y g c ≡ x g c
-measured-unique s may y x t m n g k c =
-    measured-alike s s may may y x t m n refl (λ p. Unit {0}) (λ p g i j. tt) (λ p g i. alike-self s may p) g k tt c
 
 -- existence: the fold done d times over
 unfoldable pub spansBy : Sheet → (ℕ → Bool → Bool) → ℕ → ℕ → Bool → Span

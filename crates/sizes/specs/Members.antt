@@ -12,7 +12,7 @@ use Rattle.meaning.specs.Sets.{Sets, count}
 use Rattle.meaning.specs.Fits.{Meets, groupsOf}
 use Rattle.meaning.specs.Sons.{isSon, only, sons}
 use Rattle.sizes.specs.Balanced.{Balanced}
-use Rattle.sizes.specs.SumLaws.{
+use Rattle.meaning.proofs.SumLaws.{
   split,
   bit-le,
   bit-le-true,

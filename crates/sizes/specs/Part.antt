@@ -15,7 +15,7 @@ use Rattle.meaning.specs.Part.{under, inPart, partAt, BottomUp}
 use Rattle.sizes.specs.Span.{Span, span, In}
 use Rattle.sizes.specs.Fold.{Measured}
 use Rattle.sizes.specs.Ranged.{free}
-use Rattle.sizes.specs.SumLaws.{split, compare-eq, compare-le, or-true, or-right, true-not-false}
+use Rattle.meaning.proofs.SumLaws.{split, compare-eq, compare-le, or-true, or-right, true-not-false}
 use Rattle.sizes.specs.Members.{balanced-zero}
 use Rattle.sizes.specs.Possible.{Sizes, nowhere, sizes-choice, choice-sizes, attains}
 use Rattle.sizes.specs.Exact.{ChoiceAt, sound, sound-at, had}

@@ -50,13 +50,6 @@ abbrev pub nowhere : ℕ → Bool
 nowhere g = false
 
 -- only the numbers and marks at groups matter
-pub sizes-eq : {s : Sheet} {f h : ℕ → ℕ} → ((g : ℕ) → Group s g → f g ≡ h g) → Sizes s f → Sizes s h
-sizes-eq {s} e z = record {
-  balanced = balanced-eq e (z .balanced);
-  least = λ g q. rw (← e g q) (z .least g q);
-  most = λ g q. rw (← e g q) (z .most g q);
-}
-
 pub choice-eq : {s : Sheet} {may : ℕ → Bool → Bool} {f h : ℕ → ℕ} {M N : ℕ → Bool} → ((g : ℕ) → Group s g → f g ≡ h g)
     → ((g : ℕ) → Group s g → M g ≡ N g) → Choice s may f M → Choice s may h N
 choice-eq e i c = record {

@@ -26,7 +26,7 @@ use Rattle.sizes.specs.Span.{
   reaches,
   pull,
 }
-use Rattle.sizes.specs.SumLaws.{split}
+use Rattle.meaning.proofs.SumLaws.{split}
 use Rattle.sizes.specs.SpanLaws.{Proper, at-le, at-max, at-smaller, in-make}
 
 -- x and y may be exchanged
@@ -110,10 +110,6 @@ pull-in eq (span l u) (span m v) x i j h =
     let w = in-make x (max l m) (smaller u v) .0 h in
     let t = at-smaller x u v .0 (w .1) in
     (x, x, (omega arith, t .1), (omega arith, t .0), (refl, refl))
-
-pub in-pull : (q : Kind) (a b : Span) (x : ℕ) → Proper a → Proper b
-    → In x (pull q a b) ↔ ((y z : ℕ) × In y b × In z a × Makes q x y z)
-in-pull q a b x i j = (pull-in q a b x i j, λ w. pull-of q a b x (w .0) (w .1) (w .3) (w .2) (w .4))
 
 -- a span with ends that `make` or `meet` gives is not empty
 pub proper-make : (l : ℕ) (u : Top) → Proper (make l u)

@@ -7,19 +7,19 @@ use native.Mathlib.Omega.{arith}
 use native.Mathlib.Nat.{le-refl}
 use borrow.Author.Tests.{eq-eqb, ne-eqb}
 use Rattle.meaning.specs.Sum.{bit}
-use Rattle.meaning.specs.Sheet.{Sheet, Group, Son, Tree, Top, fin, inf, AtMost}
+use Rattle.meaning.specs.Sheet.{Sheet, Group, Son, Tree, Rooted, Top, fin, inf, AtMost}
 use Rattle.meaning.specs.Fits.{Possible, Attains}
 use Rattle.sizes.specs.Balanced.{isSon, Choice}
 use Rattle.sizes.specs.Span.{Span, none, span, In, Makes, meet, pull}
 use Rattle.sizes.specs.Fold.{kindOf, later, Measured}
-use Rattle.sizes.specs.Ranged.{Rooted, free, held, Ranged}
-use Rattle.sizes.specs.SumLaws.{split, son-of, son-is, son-parent, false-bit, true-not-false}
+use Rattle.sizes.specs.Ranged.{free, held, Ranged}
+use Rattle.meaning.proofs.SumLaws.{split, son-of, son-is, son-parent, false-bit, true-not-false}
 use Rattle.sizes.specs.Possible.{Sizes, nowhere, sizes-choice, choice-sizes, possible, attains}
-use Rattle.sizes.specs.SpanLaws.{Proper, in-meet, near-proper}
+use Rattle.sizes.specs.SpanLaws.{Proper, in-meet}
 use Rattle.sizes.specs.JoinedLaws.{makes-zero}
 use Rattle.sizes.specs.RuleSteps.{no-son, Upto, upto-none, upto-son, upto-skip, rule-upto, Lasts, all-lasts, lasts-more}
-use Rattle.sizes.specs.LaterLaws.{later-of, later-in, near-later, put, Taken, taken-more}
-use Rattle.sizes.specs.Exact.{sound, near, near-sons, over-son, Grown, grown-more, grow, had-root}
+use Rattle.sizes.specs.LaterLaws.{later-of, later-in, put, Taken, taken-more}
+use Rattle.sizes.specs.Exact.{sound, span-proper, later-proper, near-sons, over-son, Grown, grown-more, grow, had-root}
 use Rattle.sizes.specs.PullLaws.{makes-swap, pull-of, pull-in, proper-meet, proper-least}
 use Rattle.sizes.specs.RangedExists.{root-or-son}
 
@@ -28,12 +28,12 @@ held-none : (s : Sheet) (z : ℕ → Bool → Span) (R : ℕ → Span) (p : ℕ)
 unfolding held
 held-none s z R p = rw (no-son s p)
 
-held-son : (s : Sheet) (z : ℕ → Bool → Span) (R : ℕ → Span) (p n : ℕ) → isSon s p n ≡ true
+pub held-son : (s : Sheet) (z : ℕ → Bool → Span) (R : ℕ → Span) (p n : ℕ) → isSon s p n ≡ true
     → held s z R p (suc n) ≡ meet (later s z p (s .size - n) false) (pull (kindOf s p) (held s z R p n) (z n false))
 unfolding held
 held-son s z R p n e = rw e
 
-held-skip : (s : Sheet) (z : ℕ → Bool → Span) (R : ℕ → Span) (p n : ℕ) → isSon s p n ≡ false
+pub held-skip : (s : Sheet) (z : ℕ → Bool → Span) (R : ℕ → Span) (p n : ℕ) → isSon s p n ≡ false
     → held s z R p (suc n) ≡ held s z R p n
 unfolding held
 held-skip s z R p n e = rw e
@@ -98,14 +98,6 @@ module _ {s : Sheet} {z : ℕ → Bool → Span} (t : Tree s) (r : Rooted s) (m 
   totals-in : (f : ℕ → ℕ) → Sizes s f → (p k x : ℕ) → Upto s p f k x → In x (later s z p k false)
   totals-in f w p k x u = later-of s z p f nowhere k x false u (upto-nothing s p k) (sons-in f w p k)
 
-  -- spans with ends are not empty
-  pub span-proper : (g : ℕ) → Group s g → (c : Bool) → Proper (z g c)
-  span-proper g q c = let w = near s free z t m g q in near-proper (bit c) (w .0) (z g c) (w .1 c)
-
-  later-proper : (p k : ℕ) (c : Bool) → Proper (later s z p k c)
-  later-proper p k c =
-      let w = near-later s z p k (near-sons s free z t m p k) in near-proper (bit c) (w .0) (later s z p k c) (w .1 c)
-
   -- every number of the root's span is had
   pub root-had : (k : ℕ) → In k (z 1 false) → Had s 1 k
   root-had k i =
@@ -115,7 +107,7 @@ module _ {s : Sheet} {z : ℕ → Bool → Span} (t : Tree s) (r : Rooted s) (m 
   pub possible-iff : ((f : ℕ → ℕ) × Sizes s f) ↔ (z 1 false ≡ none → ⊥)
   possible-iff = (
     λ w e. rw e at (sizes-in (w .0) (w .1) 1 (r .one)),
-    λ n. let e = some-in (z 1 false) (span-proper 1 (r .one) false) n in
+    λ n. let e = some-in (z 1 false) (span-proper s free z t m 1 (r .one) false) n in
         let w = root-had (e .0) (e .1) in
         (w .0, w .1),
   )
@@ -189,7 +181,7 @@ module _ {s : Sheet} {z : ℕ → Bool → Span} {R : ℕ → Span} (t : Tree s)
   pub range-proper : (g : ℕ) → Group s g → Proper (R g)
   range-proper g q =
       root-or-son r g q
-      (λ e. rw (e, h .root) (span-proper t r m 1 (r .one) false))
+      (λ e. rw (e, h .root) (span-proper s free z t m 1 (r .one) false))
       (λ p k. rw (h .son p g k) (proper-meet _ _))
 
   -- numbers and marks for the sons of p, with a total in its range, and y at its son g with the mark false
@@ -217,7 +209,7 @@ module _ {s : Sheet} {z : ℕ → Bool → Span} {R : ℕ → Span} (t : Tree s)
       split (isSon s p (suc n))
       (λ a. let k : Son s p (suc n) = son-of s p (suc n) (omega arith) a in
       let u = pull-in (kindOf s p) (held s z R p (suc n)) (z (suc n) false) x
-      (held-proper s z R p (suc n) (range-proper p q)) (span-proper t r m (suc n) (k .group) false)
+      (held-proper s z R p (suc n) (range-proper p q)) (span-proper s free z t m (suc n) (k .group) false)
       (in-meet x _ _ .0 (rw (held-son s z R p (suc n) a) at i) .1) in
       let other = ne-eqb g (suc n) (omega arith) in
       held-in p g y q n (omega arith) b (u .1) (put (suc n) (u .0) f) (put (suc n) false M) (u .3)
@@ -242,7 +234,7 @@ module _ {s : Sheet} {z : ℕ → Bool → Span} {R : ℕ → Span} (t : Tree s)
       let q = son-parent t k in
       let w = in-meet y _ _ .0 (rw (h .son p g k) at i) in
       let u = pull-in (kindOf s p) (held s z R p g) (later s z p (s .size - g) false) y
-      (held-proper s z R p g (range-proper p q)) (later-proper t r m p (s .size - g) false) (w .1) in
+      (held-proper s z R p g (range-proper p q)) (later-proper s free z t m p (s .size - g) false) (w .1) in
       let v = later-in s z p (s .size - g) (u .0) false (near-sons s free z t m p (s .size - g)) (u .2) in
       let c : suc (s .size - suc n) ≡ s .size - n = omega arith in
       let is = eq-eqb g g refl in

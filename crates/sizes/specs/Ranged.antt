@@ -1,18 +1,12 @@
 -- The ranges from the root down: each son's interval, cut to what its parent's range and the other sons leave it.
 -- Sons are taken off from the first one on; `held` is what the sons not yet taken off must make up.
-use Prim.Native.Nat.{ℕ, zero, suc, _-_, _≤_}
+use Prim.Native.Nat.{ℕ, zero, suc, _-_}
 use mathlib.Core.Path.{_≡_}
 use mathlib.Core.Bool.{Bool, true, false, cond}
-use Rattle.meaning.specs.Sheet.{Sheet, Group, Son}
+use Rattle.meaning.specs.Sheet.{Sheet, Son}
 use Rattle.sizes.specs.Balanced.{isSon}
 use Rattle.sizes.specs.Span.{Span, meet, pull}
 use Rattle.sizes.specs.Fold.{kindOf, later}
-
--- group 1 is the one group without a parent
-pub record Rooted (s : Sheet) : Type 0 where
-  pub one : Group s 1
-  pub top : s .parent 1 ≡ 0
-  pub rest : (g : ℕ) → Group s g → 2 ≤ g → 1 ≤ s .parent g
 
 -- no flag forbids anything
 abbrev pub free : ℕ → Bool → Bool

@@ -1,4 +1,4 @@
--- What is given at the root, and at each son by what stands at smaller groups, exists and is unique. So are the ranges.
+-- What is given at the root, and at each son by what stands at smaller groups, exists and is unique. So the ranges exist.
 use Prim.Native.Nat.{ℕ, zero, suc, _-_, _<_}
 use mathlib.Core.Path.{_≡_, refl, sym, _∙_}
 use mathlib.Core.Bool.{Bool, false, cond}
@@ -6,11 +6,11 @@ use native.Mathlib.Omega.{arith}
 use native.Mathlib.Nat.{le-refl}
 use borrow.Author.Tests.{ne-eqb}
 use lib.Dec.{eqb}
-use Rattle.meaning.specs.Sheet.{Sheet, Group, Son, Tree}
+use Rattle.meaning.specs.Sheet.{Sheet, Group, Son, Tree, Rooted}
 use Rattle.sizes.specs.Span.{Span, meet, pull}
 use Rattle.sizes.specs.Fold.{kindOf, later}
-use Rattle.sizes.specs.Ranged.{Rooted, held, Ranged}
-use Rattle.sizes.specs.SumLaws.{compare-eq, son-parent}
+use Rattle.sizes.specs.Ranged.{held, Ranged}
+use Rattle.meaning.proofs.SumLaws.{compare-eq, son-parent}
 
 -- h and k are equal at the groups below n
 abbrev pub Alike : Sheet → {A : Type 0} → (ℕ → A) → (ℕ → A) → ℕ → Type 0
@@ -74,7 +74,7 @@ module _ {s : Sheet} {A : Type 0} (t : Tree s) (r : Rooted s) (top : A) (F : (�
   down-unique h k i j g q = down-agree h k i j (suc g) g q (le-refl (suc g))
 
 -- `held` speaks of the range of p only
-held-eq : (s : Sheet) (z : ℕ → Bool → Span) (h k : ℕ → Span) (p n : ℕ) → h p ≡ k p → held s z h p n ≡ held s z k p n
+pub held-eq : (s : Sheet) (z : ℕ → Bool → Span) (h k : ℕ → Span) (p n : ℕ) → h p ≡ k p → held s z h p n ≡ held s z k p n
 unfolding held
 held-eq s z h k p zero e = e
 held-eq s z h k p (suc n) e = rw (held-eq s z h k p n e)
@@ -90,9 +90,3 @@ module _ {s : Sheet} (t : Tree s) (r : Rooted s) (z : ℕ → Bool → Span) whe
   ranged-exists =
       let w = down-exists t r (z 1 false) (rangeAt s z) range-local in
       (w .0, record { root = w .1 .root; son = w .1 .son })
-
-  pub ranged-unique : (R T : ℕ → Span) → Ranged s z R → Ranged s z T → (g : ℕ) → Group s g → R g ≡ T g
-  ranged-unique R T x y =
-      down-unique t r (z 1 false) (rangeAt s z) range-local R T
-      (record { root = x .root; son = x .son })
-      (record { root = y .root; son = y .son })

@@ -1,10 +1,13 @@
--- Sets over any type of member have the counts of sets whose members are numbers, and these fit where the first do.
-use Prim.Native.Nat.{ℕ}
+-- Sets over any type of member have the counts of sets whose members are numbers, and these fit where the first do and
+-- break the claims that the first break: 'some finite sets' may be read over any type of member.
+use Prim.Native.Nat.{ℕ, zero, suc}
 use mathlib.Core.Path.{_≡_, refl}
 use mathlib.Core.Bool.{Bool}
+use mathlib.Core.List.{List, [], _∷_}
 use Rattle.meaning.specs.Sheet.{Sheet}
 use Rattle.meaning.specs.Sets.{Sets, Distinct, count, numbered}
 use Rattle.meaning.specs.Fits.{Fits, groupsOf}
+use Rattle.meaning.specs.Claim.{Claim, counted, within, separate, named, union, countNamed, Says, Breaks, Breakable}
 
 -- every member replaced by its number in the list
 abbrev pub renumbered : {X : Type 0} → Sets X → Sets ℕ
@@ -21,3 +24,22 @@ pub renumbered-fits : {X : Type 0} {s : Sheet} {A : Sets X} → Fits s A → Fit
 unfolding count
 renumbered-fits {A = A} f =
     record { distinct = numbered-distinct _ _; rules = f .rules; least = f .least; most = f .most }
+
+-- named sets and their unions have the same members
+named-renumbered : {X : Type 0} (A : Sets X) (g i : ℕ) → named (renumbered A) g i ≡ named A g (A .who i)
+named-renumbered A zero i = refl
+named-renumbered A (suc g) i = refl
+
+union-renumbered : {X : Type 0} (A : Sets X) (l : List ℕ) (i : ℕ) → union (renumbered A) l i ≡ union A l (A .who i)
+union-renumbered A [] i = refl
+union-renumbered A (g ∷ l) i = rw (named-renumbered A g i, union-renumbered A l i)
+
+renumbered-says : {X : Type 0} (c : Claim) (A : Sets X) → Says c (renumbered A) → Says c A
+unfolding countNamed
+renumbered-says (counted g lo hi) A w = simp (named-renumbered A) at w
+renumbered-says (within l r) A w = λ i k. rw (← union-renumbered A l i, ← union-renumbered A r i) (w i k)
+renumbered-says (separate l r) A w = λ i k. rw (← union-renumbered A l i, ← union-renumbered A r i) (w i k)
+
+-- Sets over any type of member that fit and break a claim give such sets of numbers.
+pub renumbered-breaks : {X : Type 0} {s : Sheet} (c : Claim) {A : Sets X} → Fits s A → Breaks c A → Breakable s c
+renumbered-breaks c {A} f n = (renumbered A, renumbered-fits f, λ w. n (renumbered-says c A w))

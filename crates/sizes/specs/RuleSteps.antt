@@ -15,7 +15,7 @@ use Rattle.sizes.specs.Balanced.{RuleAt}
 use Rattle.sizes.specs.Span.{Kind, lap, add, eq, Makes}
 use Rattle.sizes.specs.Fold.{kindOf, shut}
 use Rattle.sizes.specs.JoinedLaws.{bit-of, makes-first}
-use Rattle.sizes.specs.SumLaws.{
+use Rattle.meaning.proofs.SumLaws.{
   split,
   below-suc,
   true-not-false,

@@ -11,9 +11,9 @@ use Rattle.meaning.specs.Sum.{sum, bit}
 use Rattle.meaning.specs.Sheet.{Sheet, Group, Son, Tree}
 use Rattle.meaning.specs.Sets.{count}
 use Rattle.meaning.specs.Fits.{Meets, Fits, groupsOf}
-use Rattle.meaning.specs.Sons.{only, sons}
+use Rattle.meaning.specs.Sons.{only}
 use Rattle.sizes.specs.Balanced.{Balanced, Choice}
-use Rattle.sizes.specs.SumLaws.{
+use Rattle.meaning.proofs.SumLaws.{
   split,
   compare-le,
   compare-eq,
@@ -23,7 +23,6 @@ use Rattle.sizes.specs.SumLaws.{
   sum-run,
   sum-term,
   son-parent,
-  only-eq,
   sons-prefix,
   only-prefix,
   sons-locate,
@@ -48,17 +47,6 @@ startAt s f st p g = startUnder (s .same p) (s .disjoint p) (s .cover p) (st p) 
 pub record Starts (s : Sheet) (f st : ℕ → ℕ) : Type 0 where
   pub top : (g : ℕ) → Group s g → s .parent g ≡ 0 → 1 ≤ st g
   pub under : (p g : ℕ) → Son s p g → st g ≡ startAt s f st p g
-
--- only the numbers at groups matter
-pub starts-eq : {s : Sheet} {f h st first : ℕ → ℕ} → Tree s → ((g : ℕ) → Group s g → f g ≡ h g)
-    → ((g : ℕ) → Group s g → st g ≡ first g) → Starts s f st → Starts s h first
-starts-eq {s} {f} {h} t e i w = record {
-  top = λ g q o. rw (← i g q) (w .top g q o);
-  under = λ p g k.
-      let q = son-parent t k in
-      let sums = only-eq s p f h g (omega arith) (λ j o. e j (o .group)) in
-      rw (← i g (k .group), ← i p q, ← e p q, ← e g (k .group), ← sums) (w .under p g k);
-}
 
 -- a run as numbers
 pub run-of : (a c m : ℕ) → inRun a c m ≡ true → (a ≤ m) × (m < a + c)

@@ -8,7 +8,7 @@ use Rattle.meaning.specs.Sheet.{Sheet, Group, Son, Tree}
 use Rattle.meaning.specs.Sons.{isSon, only}
 use Rattle.meaning.specs.Arranged.{ended, firstOf}
 use Rattle.sizes.specs.Balanced.{Balanced}
-use Rattle.sizes.specs.SumLaws.{split, son-of, son-parent}
+use Rattle.meaning.proofs.SumLaws.{split, son-of, son-parent}
 use Rattle.sizes.specs.Runs.{startUnder, Starts}
 
 -- the two forms of a start, w being where the previous son ended

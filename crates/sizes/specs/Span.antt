@@ -1,7 +1,7 @@
 -- Intervals of numbers, and how the interval of a group's sons so far is joined with that of one more son.
 use Prim.Native.Nat.{ℕ, _+_, _-_, _≤_, min, max}
 use mathlib.Core.Path.{_≡_}
-use mathlib.Core.Bool.{Bool, true, false, cond}
+use mathlib.Core.Bool.{Bool, true, cond}
 use lib.Dec.{leb}
 use Rattle.meaning.specs.Sheet.{Top, fin, inf, AtMost}
 

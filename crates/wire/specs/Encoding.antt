@@ -1,12 +1,12 @@
--- The bytes of records, sheets and registers, and which sheets and registers are within the limits: definitions only.
-use Prim.Native.Nat.{ℕ, _+_, _-_, _*_, _≤_, _<_}
+-- The bytes of records, sheets and registers, and which sheets and registers are within the limits: document 01, "What it reads
+-- and gives", "Records of a sheet", "Registers". Definitions only.
+use Prim.Native.Nat.{ℕ, _+_, _-_, _≤_, _<_}
 use mathlib.Core.Path.{_≡_}
 use mathlib.Core.Bool.{true, false}
 use mathlib.Core.List.{List, [], _∷_, _++_}
 use lib.ListN.{length, getD}
-use Rattle.wire.specs.Limits.{edition, groupLimit, nameLimit, claimLimit, sideLimit, labelLimit, boundLimit, noEnd}
-use Rattle.wire.specs.Limits.{modeLimit}
-use Rattle.wire.specs.Limits.{rowLimit, membershipBytes}
+use Rattle.wire.specs.Limits.{nameLimit, claimLimit, sideLimit, boundLimit, noEnd, modeLimit, rowLimit}
+use Rattle.wire.specs.Edition.{Edition, editionNumber, membershipBytes, groupLimit, labelLimit, rowKind}
 use Rattle.wire.specs.Bytes.{le16, le32}
 use Rattle.wire.specs.SheetFormat.{GroupRecord, NameRecord, ClaimRecord, count, inside, apart, Records}
 use Rattle.wire.specs.SheetFormat.{parentAllowed, labelBytes, used, allWithin}
@@ -30,7 +30,8 @@ encodeAll encode [] = []
 encodeAll encode (x ∷ xs) = encode x ++ encodeAll encode xs
 
 unfoldable pub encodeHead : Records → List ℕ
-encodeHead d = encodeRecord 1 (le16s (edition ∷ length (d .groups) ∷ length (d .names) ∷ length (d .claims) ∷ []))
+encodeHead d =
+    encodeRecord 1 (le16s (editionNumber (d .edition) ∷ length (d .groups) ∷ length (d .names) ∷ length (d .claims) ∷ []))
 
 unfoldable pub encodeGroup : GroupRecord → List ℕ
 encodeGroup g = encodeRecord 2 (le16s (g .parent ∷ g .lo ∷ g .hi ∷ g .mode ∷ []))
@@ -48,27 +49,28 @@ encodeSheet d =
     encodeHead d
     ++ (encodeAll encodeGroup (d .groups) ++ (encodeAll encodeName (d .names) ++ encodeAll encodeClaim (d .claims)))
 
-unfoldable pub encodeRow : Row → List ℕ
-encodeRow r = encodeRecord 32 (le32 (r .member) ++ r .bits)
+unfoldable pub encodeRow : Edition → Row → List ℕ
+encodeRow e r = encodeRecord (rowKind e) (le32 (r .member) ++ r .bits)
 
-unfoldable pub encodeRegister : List Row → List ℕ
-encodeRegister rs = encodeAll encodeRow rs
+unfoldable pub encodeRegister : Edition → List Row → List ℕ
+encodeRegister e rs = encodeAll (encodeRow e) rs
 
 -- Each of the items ys is right after those before it, the items xs standing before them all.
 pub data Each {A : Type 0} (P : List A → A → Type 0) : List A → List A → Type 0 where
   none : {xs : List A} → Each P xs []
   more : {xs ys : List A} {y : A} → P xs y → Each P (xs ++ (y ∷ [])) ys → Each P xs (y ∷ ys)
 
--- A group after the groups gs; a name after the names ns, of `groups` groups; a side of a claim, and a claim, of `names` names.
+-- A group after the groups gs; a name after the names ns, of `groups` groups, in edition e; a side of a claim, and a claim, of
+-- `names` names.
 pub record GroupRight (gs : List GroupRecord) (g : GroupRecord) : Type 0 where
   pub parent : parentAllowed (length gs + 1) (g .parent) ≡ true
   pub lo : g .lo ≤ boundLimit
   pub mode : g .mode ≤ modeLimit
 
-pub record NameRight (groups : ℕ) (ns : List NameRecord) (n : NameRecord) : Type 0 where
+pub record NameRight (e : Edition) (groups : ℕ) (ns : List NameRecord) (n : NameRecord) : Type 0 where
   pub group : n .group ≤ groups
   pub first : 1 ≤ length (n .label)
-  pub last : length (n .label) ≤ labelLimit
+  pub last : length (n .label) ≤ labelLimit e
   pub bytes : labelBytes (n .label) ≡ true
   pub new : used ns (n .label) ≡ false
 
@@ -94,30 +96,30 @@ ClaimEnd cs (apart l r) = Unit {0}
 -- what reading ensures of any list of numbers
 pub record Right (d : Records) : Type 0 where
   pub someGroup : 1 ≤ length (d .groups)
-  pub groupCount : length (d .groups) ≤ groupLimit
+  pub groupCount : length (d .groups) ≤ groupLimit (d .edition)
   pub nameCount : length (d .names) ≤ nameLimit
   pub claimCount : length (d .claims) ≤ claimLimit
   pub groups : Each GroupRight [] (d .groups)
-  pub names : Each (NameRight (length (d .groups))) [] (d .names)
+  pub names : Each (NameRight (d .edition) (length (d .groups))) [] (d .names)
   pub claims : Each (ClaimRight (length (d .names))) [] (d .claims)
 
 -- a sheet within the limits
-pub record WithinLimits (d : Records) : Type 0 where
+pub record SheetWithin (d : Records) : Type 0 where
   pub right : Right d
   pub groupEnds : Each GroupEnd [] (d .groups)
   pub claimEnds : Each ClaimEnd [] (d .claims)
 
--- A row after the rows rs, in a sheet of `groups` groups; what fits its fields; and rows within the limits.
-pub record RowRight (groups : ℕ) (rs : List Row) (r : Row) : Type 0 where
+-- A row after the rows rs, under a sheet of edition e with `groups` groups; what fits its fields; and rows within the limits.
+pub record RowRight (e : Edition) (groups : ℕ) (rs : List Row) (r : Row) : Type 0 where
   pub rises : lastMember rs < r .member
-  pub width : length (r .bits) ≡ membershipBytes
-  pub clear : clearAbove r groups (8 * membershipBytes - groups) ≡ true
+  pub width : length (r .bits) ≡ membershipBytes e
+  pub clear : clearAbove r groups (groupLimit e - groups) ≡ true
 
 pub record RowFits (rs : List Row) (r : Row) : Type 0 where
   pub member : r .member < 4294967296
   pub bytes : Bytes (r .bits)
 
-pub record RowsWithin (groups : ℕ) (rs : List Row) : Type 0 where
+pub record RowsWithin (e : Edition) (groups : ℕ) (rs : List Row) : Type 0 where
   pub rowCount : length rs ≤ rowLimit
-  pub right : Each (RowRight groups) [] rs
+  pub right : Each (RowRight e groups) [] rs
   pub fits : Each RowFits [] rs

@@ -1,20 +1,23 @@
 -- What holds of a sheet that was read, and of the numbers of a refusal.
 use Prim.Native.Nat.{ℕ, zero, suc, _+_, _≤_, _<_}
-use mathlib.Core.Path.{_≡_, refl, sym, ap, _∙_}
+use mathlib.Core.Path.{_≡_, refl, sym, ap, _∙_, subst}
 use mathlib.Core.Bool.{true, _&&_}
 use mathlib.Core.List.{List, [], _∷_}
 use native.Mathlib.Omega.{arith}
+use native.Mathlib.Nat.{mul-le-mul-left}
 use lib.ListN.{length, take, drop, getD, length-take, length-drop}
 use lib.Seq.{getD-drop}
 use lib.Dec.{leb, ltb, eqb}
 use borrow.Author.Tests.{leb-true, ltb-true, eqb-true}
-use Rattle.wire.specs.Limits.{recordLimit, sheetLimit, noEnd}
+use Rattle.wire.specs.Limits.{groupCapacity, recordLimit, noEnd, groupBytes, claimBytes}
+use Rattle.wire.specs.Edition.{Edition, editionOf, nameBytes, sheetLimit}
+use Rattle.wire.specs.EditionFacts.{groups-within}
 use Rattle.wire.specs.Bytes.{u16At}
 use Rattle.wire.specs.Record.{lengthOf, after, test, read, refused}
 use Rattle.wire.specs.SheetFormat.{headTests, groupTests, nameTests, claimTests, headOf, groupOf, nameOf, claimOf}
 use Rattle.wire.specs.SheetFormat.{HeadRecord, GroupRecord, NameRecord, ClaimRecord, count, Records}
 use Rattle.wire.specs.SheetFormat.{parentAllowed, allWithin, closing, readClaims, readNames, readGroups, readSheet}
-use Rattle.wire.specs.Encoding.{Bytes, GroupRight, NameRight, ClaimRight, GroupEnd, ClaimEnd, Right, WithinLimits}
+use Rattle.wire.specs.Encoding.{Bytes, GroupRight, NameRight, ClaimRight, GroupEnd, ClaimEnd, Right, SheetWithin}
 use Rattle.wire.specs.Passing.{split, and-true, Pass, Numbered, onward-read, Refuses, onward-refuses}
 use Rattle.wire.specs.Many.{Reads, reads-same, empty-of-length, each-at, each-read, kept-read, reads-length, many-read}
 use Rattle.wire.specs.Many.{many-refuses}
@@ -25,13 +28,14 @@ use Rattle.wire.specs.Sorts.{claim-inside, claim-apart}
 -- The bytes b are a head, groups, names and claims that pass their tests, and nothing else; they carry d.
 pub record SheetRead (b : List ℕ) (d : Records) : Type 0 where
   pub head : HeadRight b
+  pub edition : d .edition ≡ editionOf (u16At b 4)
   pub groupCount : length (d .groups) ≡ u16At b 6
   pub nameCount : length (d .names) ≡ u16At b 8
   pub claimCount : length (d .claims) ≡ u16At b 10
   pub afterGroups : List ℕ
   pub afterNames : List ℕ
   pub groups : Reads groupTests groupOf [] (after b) (d .groups) afterGroups
-  pub names : Reads (nameTests (length (d .groups))) nameOf [] afterGroups (d .names) afterNames
+  pub names : Reads (nameTests (d .edition) (length (d .groups))) nameOf [] afterGroups (d .names) afterNames
   pub claims : Reads (claimTests (length (d .names))) claimOf [] afterNames (d .claims) []
 
 closing-numbered : (c : List ℕ) → Numbered 1 7 (test 7 (eqb (length c) 0) ∷ [])
@@ -39,23 +43,26 @@ closing-numbered c = omega arith
 
 claims-read : (h : HeadRecord) (gs : List GroupRecord) (r : ℕ) (ns : List NameRecord) (b : List ℕ) (d : Records)
     → readClaims h gs r ns b ≡ read d
-    → (d .groups ≡ gs) × (d .names ≡ ns) × (length (d .claims) ≡ h .claims)
+    → (d .edition ≡ h .edition) × (d .groups ≡ gs) × (d .names ≡ ns) × (length (d .claims) ≡ h .claims)
     × Reads (claimTests (h .names)) claimOf [] b (d .claims) []
 unfolding readClaims closing
 claims-read h gs r ns b d e =
-    let c = many-read (claimTests (h .names)) claimOf (closing gs ns) 7 (claim-numbered (h .names)) (h .claims) r [] b d e in
+    let c = many-read (claimTests (h .names)) claimOf (closing (h .edition) gs ns) 7 (claim-numbered (h .names)) (h .claims) r []
+    b d e in
     let l = onward-read 1 7 (test 7 (eqb (length (c .1)) 0) ∷ []) (closing-numbered (c .1)) (omega arith) _ _ d (c .4) in
-    let same : record { groups = gs; names = ns; claims = c .0 } ≡ d = cc (l .1) in
-    rw (← same) (refl, refl, c .2, reads-same refl (empty-of-length (c .1) (eqb-true _ _ (l .0 .0))) (c .3))
+    let same : record { edition = h .edition; groups = gs; names = ns; claims = c .0 } ≡ d = cc (l .1) in
+    rw (← same) (refl, refl, refl, c .2, reads-same refl (empty-of-length (c .1) (eqb-true _ _ (l .0 .0))) (c .3))
 
 names-read : (h : HeadRecord) (r : ℕ) (gs : List GroupRecord) (b : List ℕ) (d : Records) → readNames h r gs b ≡ read d
-    → (c : List ℕ) × (d .groups ≡ gs) × (length (d .names) ≡ h .names) × (length (d .claims) ≡ h .claims)
-    × Reads (nameTests (h .groups)) nameOf [] b (d .names) c × Reads (claimTests (h .names)) claimOf [] c (d .claims) []
+    → (c : List ℕ) × (d .edition ≡ h .edition) × (d .groups ≡ gs) × (length (d .names) ≡ h .names)
+    × (length (d .claims) ≡ h .claims) × Reads (nameTests (h .edition) (h .groups)) nameOf [] b (d .names) c
+    × Reads (claimTests (h .names)) claimOf [] c (d .claims) []
 unfolding readNames
 names-read h r gs b d e =
-    let n = many-read (nameTests (h .groups)) nameOf (readClaims h gs) 7 (name-numbered (h .groups)) (h .names) r [] b d e in
+    let n = many-read (nameTests (h .edition) (h .groups)) nameOf (readClaims h gs) 7 (name-numbered (h .edition) (h .groups))
+    (h .names) r [] b d e in
     let l = claims-read h gs _ (n .0) (n .1) d (n .4) in
-    (n .1, l .0, ap length (l .1) ∙ n .2, l .2, reads-same (sym (l .1)) refl (n .3), l .3)
+    (n .1, l .0, l .1, ap length (l .2) ∙ n .2, l .3, reads-same (sym (l .2)) refl (n .3), l .4)
 
 pub sheet-read : (b : List ℕ) (d : Records) → readSheet b ≡ read d → SheetRead b d
 unfolding readSheet readGroups headOf
@@ -63,17 +70,18 @@ sheet-read b d e =
     let h = onward-read 1 7 (headTests b) (head-numbered b) (omega arith) 1 (readGroups (headOf b) (after b)) d e in
     let g = many-read groupTests groupOf (readNames (headOf b)) 7 group-numbered (u16At b 6) 2 [] (after b) d (h .1) in
     let l = names-read (headOf b) _ (g .0) (g .1) d (g .4) in
-    let count : length (d .groups) ≡ u16At b 6 = ap length (l .1) ∙ g .2 in
+    let count : length (d .groups) ≡ u16At b 6 = ap length (l .2) ∙ g .2 in
     record {
       head = head-right b (h .0);
+      edition = l .1;
       groupCount = count;
-      nameCount = l .2;
-      claimCount = l .3;
+      nameCount = l .3;
+      claimCount = l .4;
       afterGroups = g .1;
       afterNames = l .0;
-      groups = reads-same (sym (l .1)) refl (g .3);
-      names = rw count (l .4);
-      claims = rw (l .2) (l .5);
+      groups = reads-same (sym (l .2)) refl (g .3);
+      names = rw count (subst (λ v. Reads (nameTests v (u16At b 6)) nameOf [] (g .1) (d .names) (l .0)) (sym (l .1)) (l .5));
+      claims = rw (l .3) (l .6);
     }
 
 -- what was read meets the limits that the tests ensure
@@ -82,13 +90,17 @@ read-right b d e =
     let s = sheet-read b d e in
     record {
       someGroup = omega arith;
-      groupCount = omega arith;
+      groupCount = rw (s .edition, s .groupCount) (s .head .groups);
       nameCount = omega arith;
       claimCount = omega arith;
       groups = each-read (λ c. Unit {0}) (λ c k. tt) (λ xs c k. group-right xs c) tt (s .groups);
-      names = each-read (λ c. Unit {0}) (λ c k. tt) (λ xs c k. name-right (length (d .groups)) xs c) tt (s .names);
+      names = each-read (λ c. Unit {0}) (λ c k. tt) (λ xs c k. name-right (d .edition) (length (d .groups)) xs c) tt (s .names);
       claims = each-read (λ c. Unit {0}) (λ c k. tt) (λ xs c k. claim-right (length (d .names)) xs c) tt (s .claims);
     }
+
+-- tables hold the groups of a sheet that is right
+pub right-few : {d : Records} → Right d → length (d .groups) ≤ groupCapacity
+right-few {d} R = omega (arith, R .groupCount, groups-within (d .edition))
 
 -- Facts by place. Groups, names and claims are numbered from 1; place i is number i + 1, and z stands past the end.
 -- group i + 1 has a parent up to i, and one from 1 on unless it is the first
@@ -117,7 +129,7 @@ module _ {d : Records} (R : Right d) (i : ℕ) where
       parent-right i (getD (d .groups) i z .parent) (rw size at (group-at z l .parent))
 
   pub name-at : (z : NameRecord) → i < length (d .names)
-      → NameRight (length (d .groups)) (take i (d .names)) (getD (d .names) i z)
+      → NameRight (d .edition) (length (d .groups)) (take i (d .names)) (getD (d .names) i z)
   name-at z l = each-at (R .names) i z l
 
   pub claim-at : (z : ClaimRecord) → i < length (d .claims)
@@ -159,7 +171,7 @@ claim-end names cs b k p =
     (λ e f. rw (claim-apart b e) tt)
 
 -- what was read is within the limits
-pub read-within : (b : List ℕ) → Bytes b → (d : Records) → readSheet b ≡ read d → WithinLimits d
+pub read-within : (b : List ℕ) → Bytes b → (d : Records) → readSheet b ≡ read d → SheetWithin d
 read-within b k d e =
     let s = sheet-read b d e in
     let g = kept-read Bytes bytes-after (bytes-after b k) (s .groups) in
@@ -170,38 +182,41 @@ read-within b k d e =
       claimEnds = each-read Bytes bytes-after (claim-end (length (d .names))) n (s .claims);
     }
 
-pub end-at : {d : Records} → WithinLimits d → (i : ℕ) (z : GroupRecord) → i < length (d .groups)
+pub end-at : {d : Records} → SheetWithin d → (i : ℕ) (z : GroupRecord) → i < length (d .groups)
     → getD (d .groups) i z .hi ≤ noEnd
 end-at w i z l = each-at (w .groupEnds) i z l
 
 -- at most sheetLimit bytes are readable
-group-bytes : (gs : List GroupRecord) (b : List ℕ) → Pass (groupTests gs b) → lengthOf b + 2 ≤ 12
+group-bytes : (gs : List GroupRecord) (b : List ℕ) → Pass (groupTests gs b) → lengthOf b + 2 ≤ groupBytes
 group-bytes gs b p = omega (arith, group-frame gs b p)
 
-name-bytes : (groups : ℕ) (ns : List NameRecord) (b : List ℕ) → Pass (nameTests groups ns b) → lengthOf b + 2 ≤ 22
-name-bytes groups ns b p = omega (arith, name-frame groups ns b p)
+name-bytes : (e : Edition) (groups : ℕ) (ns : List NameRecord) (b : List ℕ) → Pass (nameTests e groups ns b)
+    → lengthOf b + 2 ≤ nameBytes e
+name-bytes e groups ns b p = omega (arith, name-frame e groups ns b p)
 
-claim-bytes : (names : ℕ) (cs : List ClaimRecord) (b : List ℕ) → Pass (claimTests names cs b) → lengthOf b + 2 ≤ 40
+claim-bytes : (names : ℕ) (cs : List ClaimRecord) (b : List ℕ) → Pass (claimTests names cs b) → lengthOf b + 2 ≤ claimBytes
 claim-bytes names cs b p =
     claim-cases names cs b p (λ e f. omega arith) (λ e f. omega arith) (λ e f. omega arith)
 
-pub readable-length : (b : List ℕ) (d : Records) → readSheet b ≡ read d → length b ≤ sheetLimit
+pub readable-length : (b : List ℕ) (d : Records) → readSheet b ≡ read d → length b ≤ sheetLimit (d .edition)
 unfolding after
 readable-length b d e =
     let s = sheet-read b d e in
+    let right = read-right b d e in
     omega (
       arith,
-      reads-length 12 group-bytes (s .groups),
-      reads-length 22 (name-bytes (length (d .groups))) (s .names),
-      reads-length 40 (claim-bytes (length (d .names))) (s .claims),
+      reads-length groupBytes group-bytes (s .groups),
+      reads-length (nameBytes (d .edition)) (name-bytes (d .edition) (length (d .groups))) (s .names),
+      reads-length claimBytes (claim-bytes (length (d .names))) (s .claims),
+      mul-le-mul-left (nameBytes (d .edition)) (right .nameCount),
       length-drop (lengthOf b + 2) b,
     )
 
 -- a refusal of a sheet is from 1 to 7, its record number at most one past the last record
-refuses-closing : (gs : List GroupRecord) (ns : List NameRecord) (r : ℕ) (cs : List ClaimRecord) (b : List ℕ) → 1 ≤ r → r ≤ recordLimit
-    → Refuses 1 7 recordLimit (closing gs ns r cs b)
+refuses-closing : (e : Edition) (gs : List GroupRecord) (ns : List NameRecord) (r : ℕ) (cs : List ClaimRecord) (b : List ℕ)
+    → 1 ≤ r → r ≤ recordLimit → Refuses 1 7 recordLimit (closing e gs ns r cs b)
 unfolding closing
-refuses-closing gs ns r cs b h k =
+refuses-closing e gs ns r cs b h k =
     onward-refuses 1 7 recordLimit (test 7 (eqb (length b) 0) ∷ []) (closing-numbered b) (omega arith) r _ h k (λ p. tt)
 
 refuses-sheet : (b : List ℕ) → Refuses 1 7 recordLimit (readSheet b)
@@ -210,14 +225,16 @@ refuses-sheet b =
     onward-refuses 1 7 recordLimit (headTests b) (head-numbered b) (omega arith) 1 _ (omega arith) (omega arith)
     (λ p.
     let h = head-right b p in
+    let e = editionOf (u16At b 4) in
+    let few : u16At b 6 ≤ groupCapacity = omega (arith, groups-within e) in
     many-refuses groupTests groupOf _ 7 recordLimit group-numbered (u16At b 6) 2 [] (after b) (omega arith) (omega arith)
     (λ gs c.
-    many-refuses (nameTests (u16At b 6)) nameOf _ 7 recordLimit (name-numbered (u16At b 6)) (u16At b 8) (2 + u16At b 6) [] c (omega arith)
-    (omega arith)
-    (λ ns e.
+    many-refuses (nameTests e (u16At b 6)) nameOf _ 7 recordLimit (name-numbered e (u16At b 6)) (u16At b 8) (2 + u16At b 6) [] c
+    (omega arith) (omega arith)
+    (λ ns f.
     many-refuses (claimTests (u16At b 8)) claimOf _ 7 recordLimit (claim-numbered (u16At b 8)) (u16At b 10)
-    (2 + u16At b 6 + u16At b 8) [] e (omega arith) (omega arith)
-    (λ cs f. refuses-closing gs ns _ cs f (omega arith) (omega arith)))))
+    (2 + u16At b 6 + u16At b 8) [] f (omega arith) (omega arith)
+    (λ cs k. refuses-closing e gs ns _ cs k (omega arith) (omega arith)))))
 
 pub sheet-refusal : (b : List ℕ) (n r : ℕ) → readSheet b ≡ refused n r → (1 ≤ n) × (n ≤ 7) × (1 ≤ r) × (r ≤ recordLimit)
 sheet-refusal b n r e = rw e at (refuses-sheet b)

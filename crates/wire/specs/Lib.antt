@@ -1,5 +1,8 @@
 pub mod Limits
+pub mod Edition
+pub mod EditionFacts
 pub mod Bytes
+pub mod Wide
 pub mod Record
 pub mod SheetFormat
 pub mod RegisterFormat

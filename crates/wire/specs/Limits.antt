@@ -1,15 +1,10 @@
--- The capacities and lengths of edition 1, each named once: document 01, "Records of a sheet", "Registers", "Replies".
+-- The capacities and lengths that hold in every edition, each named once: document 01, "Records of a sheet", "Registers",
+-- "Replies". `Edition` has those that an edition sets.
 use Prim.Native.Nat.{ℕ, _+_, _*_}
 
-abbrev pub edition : ℕ
-edition = 1
-
--- the membership bytes of a row, a bit for each group: so many groups a sheet may have
-abbrev pub membershipBytes : ℕ
-membershipBytes = 16
-
-abbrev pub groupLimit : ℕ
-groupLimit = 8 * membershipBytes
+-- the groups that tables hold; no edition has more (`groups-within`)
+abbrev pub groupCapacity : ℕ
+groupCapacity = 128
 
 -- most names and claims of a sheet, most names on one side of a claim
 abbrev pub nameLimit : ℕ
@@ -20,10 +15,6 @@ claimLimit = 64
 
 abbrev pub sideLimit : ℕ
 sideLimit = 8
-
--- most bytes of a label
-abbrev pub labelLimit : ℕ
-labelLimit = 16
 
 -- the greatest bound of a count, and the field that stands for no upper end
 abbrev pub boundLimit : ℕ
@@ -36,19 +27,25 @@ noEnd = 65535
 abbrev pub modeLimit : ℕ
 modeLimit = 7
 
--- most rows of a register; a row: length and kind (four bytes), member (four), membership
+-- most rows of a register
 abbrev pub rowLimit : ℕ
 rowLimit = 2048
-
-abbrev pub rowBytes : ℕ
-rowBytes = 8 + membershipBytes
 
 -- the number that stands for 'no greatest' in a reply
 abbrev pub noGreatest : ℕ
 noGreatest = 4294967295
 
--- bytes of the records of a reply, length field and kind among them: kind 17 (range and run), 18 (verdict), 19 (run and
--- mark), 20 (group and rule)
+-- bytes of the records of a sheet, length field and kind among them: kind 1 (head), 2 (group), 4 to 6 (claim, the most)
+abbrev pub headBytes : ℕ
+headBytes = 12
+
+abbrev pub groupBytes : ℕ
+groupBytes = 12
+
+abbrev pub claimBytes : ℕ
+claimBytes = 8 + 2 * (sideLimit + sideLimit)
+
+-- bytes of the records of a reply: kind 17 (range and run), 18 (verdict), 19 (run and mark), 20 (group and rule)
 abbrev pub rangeBytes : ℕ
 rangeBytes = 20
 
@@ -61,9 +58,6 @@ shownBytes = 14
 abbrev pub answerBytes : ℕ
 answerBytes = 8
 
--- most records of a sheet, and one past the last of them; most bytes of a readable sheet
+-- most records of a sheet, and one past the last of them
 abbrev pub recordLimit : ℕ
-recordLimit = 2 + groupLimit + nameLimit + claimLimit
-
-abbrev pub sheetLimit : ℕ
-sheetLimit = 12 + 12 * groupLimit + (labelLimit + 6) * nameLimit + (8 + 2 * (sideLimit + sideLimit)) * claimLimit
+recordLimit = 2 + groupCapacity + nameLimit + claimLimit

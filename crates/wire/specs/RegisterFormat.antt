@@ -1,10 +1,11 @@
 -- The reading of a register's rows, to an end or to a refusal: document 01, "Registers" and "Turned back", 10 to 13.
-use Prim.Native.Nat.{ℕ, zero, suc, _+_, _-_, _*_, _/_, _%_, _^_}
+use Prim.Native.Nat.{ℕ, zero, suc, _+_, _-_, _/_, _%_, _^_}
 use mathlib.Core.Bool.{Bool, true, false, cond, _&&_}
 use mathlib.Core.List.{List, [], _∷_, _++_}
 use lib.ListN.{length, take, drop, getD}
 use lib.Dec.{leb, ltb, eqb}
-use Rattle.wire.specs.Limits.{rowLimit, rowBytes, membershipBytes}
+use Rattle.wire.specs.Limits.{rowLimit}
+use Rattle.wire.specs.Edition.{Edition, membershipBytes, groupLimit, rowKind, rowBytes}
 use Rattle.wire.specs.Bytes.{u16At, u32At}
 use Rattle.wire.specs.Record.{Test, test, refusal, Reading, read, onward}
 
@@ -13,8 +14,8 @@ pub record Row : Type 0 where
   pub member : ℕ
   pub bits : List ℕ
 
-unfoldable pub rowOf : List ℕ → Row
-rowOf b = record { member = u32At b 4; bits = take membershipBytes (drop 8 b) }
+unfoldable pub rowOf : Edition → List ℕ → Row
+rowOf e b = record { member = u32At b 4; bits = take (membershipBytes e) (drop 8 b) }
 
 -- "group g is bit (g − 1) mod 8 of byte (g − 1) div 8, bit 0 the lowest"
 unfoldable pub inGroup : Row → ℕ → Bool
@@ -31,23 +32,23 @@ lastMember [] = 0
 lastMember (r ∷ []) = r .member
 lastMember (r ∷ (q ∷ rs)) = lastMember (q ∷ rs)
 
--- The tests of the row that comes after the rows rs, in a sheet of `groups` groups: 11, it is cut, or its kind or length is
--- wrong; 12, its member is 0 or not above the row before; 13, a bit above the groups is set.
-unfoldable pub rowTests : ℕ → List Row → List ℕ → List Test
-rowTests groups rs b =
-    test 11 (leb rowBytes (length b) && eqb (u16At b 0) (rowBytes - 2) && eqb (u16At b 2) 32)
+-- The tests of the row that comes after the rows rs, under a sheet of edition e with `groups` groups: 11, it is cut, or its kind
+-- or length is wrong; 12, its member is 0 or not above the row before; 13, a bit above the groups is set.
+unfoldable pub rowTests : Edition → ℕ → List Row → List ℕ → List Test
+rowTests e groups rs b =
+    test 11 (leb (rowBytes e) (length b) && eqb (u16At b 0) (rowBytes e - 2) && eqb (u16At b 2) (rowKind e))
     ∷ test 12 (ltb (lastMember rs) (u32At b 4))
-    ∷ test 13 (clearAbove (rowOf b) groups (8 * membershipBytes - groups))
+    ∷ test 13 (clearAbove (rowOf e b) groups (groupLimit e - groups))
     ∷ []
 
 -- 10: bytes follow where no more rows are left. Rows are numbered from 1.
-unfoldable pub readRows : ℕ → ℕ → List Row → List ℕ → Reading (List Row)
-readRows groups zero rs b = onward (refusal (test 10 (eqb (length b) 0) ∷ [])) (length rs + 1) (read rs)
-readRows groups (suc left) rs b =
+unfoldable pub readRows : Edition → ℕ → ℕ → List Row → List ℕ → Reading (List Row)
+readRows e groups zero rs b = onward (refusal (test 10 (eqb (length b) 0) ∷ [])) (length rs + 1) (read rs)
+readRows e groups (suc left) rs b =
     cond (eqb (length b) 0) (read rs)
-    (onward (refusal (rowTests groups rs b)) (length rs + 1)
-    (readRows groups left (rs ++ (rowOf b ∷ [])) (drop rowBytes b)))
+    (onward (refusal (rowTests e groups rs b)) (length rs + 1)
+    (readRows e groups left (rs ++ (rowOf e b ∷ [])) (drop (rowBytes e) b)))
 
--- the reading of a register's bytes, under a sheet of `groups` groups
-unfoldable pub readRegister : ℕ → List ℕ → Reading (List Row)
-readRegister groups b = readRows groups rowLimit [] b
+-- the reading of a register's bytes, under a sheet of edition e with `groups` groups
+unfoldable pub readRegister : Edition → ℕ → List ℕ → Reading (List Row)
+readRegister e groups b = readRows e groups rowLimit [] b

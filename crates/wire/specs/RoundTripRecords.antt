@@ -10,7 +10,9 @@ use lib.ListN.{length, take, drop, length-append, take-append-drop}
 use lib.Seq.{drop-drop, take-append-seam}
 use lib.Dec.{leb}
 use borrow.Author.Tests.{leb-true, le-leb, eq-eqb, ne-eqb}
-use Rattle.wire.specs.Limits.{edition, groupLimit, nameLimit, boundLimit, noEnd}
+use Rattle.wire.specs.Limits.{groupCapacity, nameLimit, sideLimit, boundLimit, noEnd}
+use Rattle.wire.specs.Edition.{Edition, editionNumber, editionOf, labelLimit}
+use Rattle.wire.specs.EditionFacts.{edition-back, edition-fits, name-fits}
 use Rattle.wire.specs.Bytes.{u16At, le16}
 use Rattle.wire.specs.Record.{lengthOf, kindOf, after, framed, Test}
 use Rattle.wire.specs.SheetFormat.{HeadRecord, GroupRecord, NameRecord, ClaimRecord, count, inside, apart, Records}
@@ -23,7 +25,7 @@ use Rattle.wire.specs.Sorts.{Framed, HeadRight, group-frame, name-frame,
 use Rattle.wire.specs.Sorts.{claim-cases, claim-frame, claim-count, claim-inside, claim-apart, length-u16s, label-length}
 use Rattle.wire.specs.Fields.{Fields, none, more, u16s-drop, u16s-le16s, length-le16, length-le16s, drop-le16, drop-le16s}
 use Rattle.wire.specs.Fields.{length-encoded, kind-encoded, body-encoded, after-encoded, framed-encoded, encode-read}
-use Rattle.wire.specs.Facts.{parent-right}
+use Rattle.wire.specs.Facts.{right-few, parent-right}
 
 -- A record whose body is fields of two bytes.
 pub record FieldsOf (b : List ℕ) (kind : ℕ) (xs c : List ℕ) : Type 0 where
@@ -33,7 +35,7 @@ pub record FieldsOf (b : List ℕ) (kind : ℕ) (xs c : List ℕ) : Type 0 where
   pub rest : after b ≡ c
   pub fields : u16s b 4 (length xs) ≡ xs
 
-fields-encoded : (kind : ℕ) {xs : List ℕ} → kind ≤ 6 → length xs ≤ 18 → Fields xs → (c : List ℕ)
+fields-encoded : (kind : ℕ) {xs : List ℕ} → kind ≤ 6 → length xs ≤ 2 + (sideLimit + sideLimit) → Fields xs → (c : List ℕ)
     → FieldsOf (encodeRecord kind (le16s xs) ++ c) kind xs c
 fields-encoded kind {xs} k l f c =
     let n = length-le16s xs in
@@ -88,7 +90,7 @@ abbrev pub Good : {A : Type 0} → (List ℕ → List Test) → (List ℕ → A)
 Good tests value y b c = Pass (tests b) × (value b ≡ y) × (after b ≡ c)
 
 pub group-good : (gs : List GroupRecord) (g : GroupRecord) (c : List ℕ)
-    → GroupRight gs g → GroupEnd gs g → length gs < groupLimit → Good (groupTests gs) groupOf g (encodeGroup g ++ c) c
+    → GroupRight gs g → GroupEnd gs g → length gs < groupCapacity → Good (groupTests gs) groupOf g (encodeGroup g ++ c) c
 group-good gs g c R e l =
     let p = parent-right (length gs) (g .parent) (R .parent) in
     let f = group-fields g (more (omega arith) (more (omega arith) (more e (more (omega arith) none)))) c in
@@ -96,12 +98,12 @@ group-good gs g c R e l =
     (group-passes gs (encodeGroup g ++ c) (f .frame) (f .kind-is) (f .size) (rw v R), v, f .rest)
 
 -- names
-pub name-back : (groups : ℕ) (ns : List NameRecord) (b : List ℕ) → Bytes b → Pass (nameTests groups ns b)
+pub name-back : (e : Edition) (groups : ℕ) (ns : List NameRecord) (b : List ℕ) → Bytes b → Pass (nameTests e groups ns b)
     → encodeName (nameOf b) ++ after b ≡ b
 unfolding encodeName nameOf after
-name-back groups ns b k p =
-    let f = name-frame groups ns b p in
-    let l = label-length b f in
+name-back e groups ns b k p =
+    let f = name-frame e groups ns b p in
+    let l = label-length e b f in
     let same : lengthOf b + 2 ≡ 6 + (lengthOf b - 4) = omega arith in
     let tail : take (lengthOf b - 4) (drop 6 b) ++ drop (lengthOf b + 2) b ≡ drop 6 b =
     rw (same, ← drop-drop (lengthOf b - 4) 6 b) (take-append-drop (lengthOf b - 4) (drop 6 b)) in
@@ -110,8 +112,8 @@ name-back groups ns b k p =
     (rw (append-assoc, tail) (drop-le16 b k 4 (omega arith)))
     (omega (arith, length-le16 (u16At b 4) (take (lengthOf b - 4) (drop 6 b)))))
 
-module _ (groups : ℕ) (ns : List NameRecord) (n : NameRecord) (c : List ℕ) (R : NameRight groups ns n)
-    (most : groups ≤ groupLimit) where
+module _ (e : Edition) (groups : ℕ) (ns : List NameRecord) (n : NameRecord) (c : List ℕ) (R : NameRight e groups ns n)
+    (most : groups ≤ groupCapacity) where
   name-size : length (le16 (n .group) ++ n .label) ≡ 2 + length (n .label)
   name-size = length-le16 (n .group) (n .label)
 
@@ -126,7 +128,7 @@ module _ (groups : ℕ) (ns : List NameRecord) (n : NameRecord) (c : List ℕ) (
   name-length : lengthOf (encodeName n ++ c) ≡ length (n .label) + 4
   unfolding encodeName
   name-length =
-      let fits : length (le16 (n .group) ++ n .label) + 2 ≤ noEnd = omega (arith, R .last, name-size) in
+      let fits : length (le16 (n .group) ++ n .label) + 2 ≤ noEnd = omega (arith, R .last, name-fits e, name-size) in
       omega (arith, name-size, length-encoded 3 (le16 (n .group) ++ n .label) c (omega arith) fits)
 
   name-value : nameOf (encodeName n ++ c) ≡ n
@@ -139,28 +141,28 @@ module _ (groups : ℕ) (ns : List NameRecord) (n : NameRecord) (c : List ℕ) (
   unfolding encodeName
   name-framed =
       let body = le16 (n .group) ++ n .label in
-      let fits : length body + 2 ≤ noEnd = omega (arith, R .last, name-size) in
+      let fits : length body + 2 ≤ noEnd = omega (arith, R .last, name-fits e, name-size) in
       let small : 3 ≤ noEnd = omega arith in
       (framed-encoded 3 body c small fits, kind-encoded 3 body c small fits, after-encoded 3 body c small fits)
 
-  name-passes : Pass (nameTests groups ns (encodeName n ++ c))
+  name-passes : Pass (nameTests e groups ns (encodeName n ++ c))
   unfolding nameTests
   name-passes =
       let f = name-framed in
       let v = name-value in
-      let five : 5 ≤ length (n .label) + 4 = omega (arith, R .first) in
-      let twenty : length (n .label) + 4 ≤ 20 = omega (arith, R .last) in (
+      let least : 5 ≤ length (n .label) + 4 = omega (arith, R .first) in
+      let most : length (n .label) + 4 ≤ labelLimit e + 4 = omega (arith, R .last) in (
         f .0,
         (
           eq-eqb _ _ (f .1),
           (
-            rw (name-length, le-leb _ _ five, le-leb _ _ twenty),
+            rw (name-length, le-leb _ _ least, le-leb _ _ most),
             (rw v (R .bytes), (rw name-group (le-leb _ _ (R .group)), (rw (v, R .new), tt))),
           ),
         ),
       )
 
-  pub name-good : Good (nameTests groups ns) nameOf n (encodeName n ++ c) c
+  pub name-good : Good (nameTests e groups ns) nameOf n (encodeName n ++ c) c
   name-good = (name-passes, name-value, name-framed .2)
 
 -- claims: the fields of two sides
@@ -248,7 +250,7 @@ sides-passes names cs b l r c kind five six f L R =
     let other = ne-eqb kind 4 (omega arith) in
     let even : lengthOf b % 2 ≡ 0 = omega (arith, f .size) in
     let least : 10 ≤ lengthOf b = omega (arith, f .size, L .first, R .first) in
-    let most : lengthOf b ≤ 38 = omega (arith, f .size, L .last, R .last) in
+    let most : lengthOf b ≤ 6 + 2 * (sideLimit + sideLimit) = omega (arith, f .size, L .last, R .last) in
     let size : 6 + 2 * (length l + length r) ≡ lengthOf b = omega (arith, f .size) in (
       f .frame,
       (
@@ -298,7 +300,7 @@ sides-encoded : (names : ℕ) (l r : List ℕ) → names ≤ nameLimit → SideR
 sides-encoded names l r most L R kind six c =
     let some : names ≤ noEnd = omega arith in
     let fields = fields-append (within-fields names l some (L .allowed)) (within-fields names r some (R .allowed)) in
-    let size : length (sides l r) ≤ 18 = omega (arith, length-append l r, L .last, R .last) in
+    let size : length (sides l r) ≤ 2 + (sideLimit + sideLimit) = omega (arith, length-append l r, L .last, R .last) in
     let first : length l ≤ noEnd = omega (arith, L .last) in
     let second : length r ≤ noEnd = omega (arith, R .last) in
     fields-encoded kind six size (more first (more second fields)) c
@@ -312,6 +314,16 @@ count-value b c n lo hi f =
     let high : u16At b 8 ≡ hi = cc in
     rw (claim-count b (f .kind-is), name, low, high)
 
+-- a claim of two sides, of the kind that `made` is read from
+sides-good : (names : ℕ) → names ≤ nameLimit → (cs : List ClaimRecord) (made : List ℕ → List ℕ → ClaimRecord) (l r c : List ℕ)
+    (kind : ℕ) → 5 ≤ kind → kind ≤ 6 → ((b : List ℕ) → kindOf b ≡ kind → claimOf b ≡ made (leftOf b) (rightOf b))
+    → SideRight names l → SideRight names r
+    → Good (claimTests names cs) claimOf (made l r) (encodeRecord kind (le16s (sides l r)) ++ c) c
+sides-good names most cs made l r c kind five six value L R =
+    let f = sides-encoded names l r most L R kind six c in
+    let s = sides-of _ l r (f .fields) in
+    (sides-passes names cs _ l r c kind five six f L R, value _ (f .kind-is) ∙ rw (s .left, s .right), f .rest)
+
 pub claim-good : (names : ℕ) → names ≤ nameLimit → (cs : List ClaimRecord) (x : ClaimRecord) (c : List ℕ)
     → ClaimRight names cs x → ClaimEnd cs x → Good (claimTests names cs) claimOf x (encodeClaim x ++ c) c
 unfolding encodeClaim
@@ -321,31 +333,22 @@ claim-good names most cs (count n lo hi) c R e =
     let f = fields-encoded 4 (omega arith) (omega arith) fields c in
     (count-passes names cs _ c n lo hi f R, count-value _ c n lo hi f, f .rest)
 claim-good names most cs (inside l r) c R e =
-    let f = sides-encoded names l r most (R .0) (R .1) 5 (omega arith) c in
-    let s = sides-of _ l r (f .fields) in (
-      sides-passes names cs _ l r c 5 (omega arith) (omega arith) f (R .0) (R .1),
-      claim-inside _ (f .kind-is) ∙ rw (s .left, s .right),
-      f .rest,
-    )
+    sides-good names most cs inside l r c 5 (omega arith) (omega arith) claim-inside (R .0) (R .1)
 claim-good names most cs (apart l r) c R e =
-    let f = sides-encoded names l r most (R .0) (R .1) 6 (omega arith) c in
-    let s = sides-of _ l r (f .fields) in (
-      sides-passes names cs _ l r c 6 (omega arith) (omega arith) f (R .0) (R .1),
-      claim-apart _ (f .kind-is) ∙ rw (s .left, s .right),
-      f .rest,
-    )
+    sides-good names most cs apart l r c 6 (omega arith) (omega arith) claim-apart (R .0) (R .1)
 
 -- the head
 abbrev pub headFor : Records → HeadRecord
-headFor d = record { groups = length (d .groups); names = length (d .names); claims = length (d .claims) }
+headFor d = record { edition = d .edition; groups = length (d .groups); names = length (d .names); claims = length (d .claims) }
 
 head-passes : (b c : List ℕ) (d : Records) → Right d
-    → FieldsOf b 1 (edition ∷ length (d .groups) ∷ length (d .names) ∷ length (d .claims) ∷ []) c
+    → FieldsOf b 1 (editionNumber (d .edition) ∷ length (d .groups) ∷ length (d .names) ∷ length (d .claims) ∷ []) c
     → Pass (headTests b) × (headOf b ≡ headFor d)
 unfolding headTests headOf u16s
 head-passes b c d R f =
     let e = f .fields in
-    let one : u16At b 4 ≡ edition = cc in
+    let number : u16At b 4 ≡ editionNumber (d .edition) = cc in
+    let back = edition-back (d .edition) in
     let groups : u16At b 6 ≡ length (d .groups) = cc in
     let names : u16At b 8 ≡ length (d .names) = cc in
     let claims : u16At b 10 ≡ length (d .claims) = cc in (
@@ -357,7 +360,9 @@ head-passes b c d R f =
             eq-eqb _ _ (f .size),
             (
               rw (
-                one,
+                number,
+                back,
+                eq-eqb (editionNumber (d .edition)) (editionNumber (d .edition)) refl,
                 groups,
                 names,
                 claims,
@@ -371,22 +376,22 @@ head-passes b c d R f =
           ),
         ),
       ),
-      rw (groups, names, claims),
+      rw (number, back, groups, names, claims),
     )
 
 pub head-good : (d : Records) → Right d → (c : List ℕ) → Good headTests headOf (headFor d) (encodeHead d ++ c) c
 unfolding encodeHead
 head-good d R c =
-    let groups : length (d .groups) ≤ noEnd = omega (arith, R .groupCount) in
+    let groups : length (d .groups) ≤ noEnd = omega (arith, right-few R) in
     let names : length (d .names) ≤ noEnd = omega (arith, R .nameCount) in
     let claims : length (d .claims) ≤ noEnd = omega (arith, R .claimCount) in
-    let one : edition ≤ noEnd = omega arith in
-    let f = fields-encoded 1 (omega arith) (omega arith) (more one (more groups (more names (more claims none)))) c in
+    let f = fields-encoded 1 (omega arith) (omega arith) (more (edition-fits (d .edition)) (more groups (more names (more claims none)))) c in
     let p = head-passes _ c d R f in
     (p .0, p .1, f .rest)
 
-pub head-back : (b : List ℕ) → Bytes b → HeadRight b → (d : Records) → length (d .groups) ≡ u16At b 6
-    → length (d .names) ≡ u16At b 8 → length (d .claims) ≡ u16At b 10 → encodeHead d ++ after b ≡ b
+pub head-back : (b : List ℕ) → Bytes b → HeadRight b → (d : Records) → d .edition ≡ editionOf (u16At b 4)
+    → length (d .groups) ≡ u16At b 6 → length (d .names) ≡ u16At b 8 → length (d .claims) ≡ u16At b 10
+    → encodeHead d ++ after b ≡ b
 unfolding encodeHead u16s
-head-back b k h d groups names claims =
-    rw (groups, names, claims) (rw (h .edition) at (fields-read b k (h .frame) 4 (h .size) 1 (h .kind)))
+head-back b k h d edition groups names claims =
+    rw (edition, ← h .edition, groups, names, claims) (fields-read b k (h .frame) 4 (h .size) 1 (h .kind))

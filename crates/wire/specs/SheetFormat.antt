@@ -4,12 +4,14 @@ use mathlib.Core.Bool.{Bool, true, false, cond, _&&_, _||_, not}
 use mathlib.Core.List.{List, [], _∷_, _++_}
 use lib.ListN.{length, take, drop}
 use lib.Dec.{leb, ltb, eqb}
-use Rattle.wire.specs.Limits.{edition, groupLimit, nameLimit, claimLimit, sideLimit, labelLimit, boundLimit, modeLimit}
+use Rattle.wire.specs.Limits.{nameLimit, claimLimit, sideLimit, boundLimit, modeLimit}
+use Rattle.wire.specs.Edition.{Edition, editionNumber, editionOf, groupLimit, labelLimit}
 use Rattle.wire.specs.Bytes.{u16At}
 use Rattle.wire.specs.Record.{lengthOf, kindOf, after, framed, Test, test, refusal, Reading, read, onward}
 
 -- What the records carry.
 pub record HeadRecord : Type 0 where
+  pub edition : Edition
   pub groups : ℕ
   pub names : ℕ
   pub claims : ℕ
@@ -31,19 +33,20 @@ pub data ClaimRecord : Type 0 where
   apart : List ℕ → List ℕ → ClaimRecord
 
 pub record Records : Type 0 where
+  pub edition : Edition
   pub groups : List GroupRecord
   pub names : List NameRecord
   pub claims : List ClaimRecord
 
 -- Kind 1, head: edition, group count, name count, claim count.
 unfoldable pub headOf : List ℕ → HeadRecord
-headOf b = record { groups = u16At b 6; names = u16At b 8; claims = u16At b 10 }
+headOf b = record { edition = editionOf (u16At b 4); groups = u16At b 6; names = u16At b 8; claims = u16At b 10 }
 
 unfoldable pub headTests : List ℕ → List Test
 headTests b =
     test 1 (framed b) ∷ test 2 (eqb (kindOf b) 1) ∷ test 3 (eqb (lengthOf b) 10)
-    ∷ test 4 (eqb (u16At b 4) edition && leb 1 (u16At b 6) && leb (u16At b 6) groupLimit && leb (u16At b 8) nameLimit
-    && leb (u16At b 10) claimLimit)
+    ∷ test 4 (eqb (u16At b 4) (editionNumber (editionOf (u16At b 4))) && leb 1 (u16At b 6)
+    && leb (u16At b 6) (groupLimit (editionOf (u16At b 4))) && leb (u16At b 8) nameLimit && leb (u16At b 10) claimLimit)
     ∷ []
 
 -- Kind 2, group: parent, lo, hi, mode. Group 1 has parent 0, any other a parent from 1 to its own number less one.
@@ -85,10 +88,10 @@ unfoldable pub used : List NameRecord → List ℕ → Bool
 used [] l = false
 used (n ∷ ns) l = sameLabel (n .label) l || used ns l
 
--- the tests of the name that comes after the names ns, in a sheet of `groups` groups
-unfoldable pub nameTests : ℕ → List NameRecord → List ℕ → List Test
-nameTests groups ns b =
-    test 1 (framed b) ∷ test 2 (eqb (kindOf b) 3) ∷ test 3 (leb 5 (lengthOf b) && leb (lengthOf b) (labelLimit + 4))
+-- the tests of the name that comes after the names ns, in a sheet of edition e with `groups` groups
+unfoldable pub nameTests : Edition → ℕ → List NameRecord → List ℕ → List Test
+nameTests e groups ns b =
+    test 1 (framed b) ∷ test 2 (eqb (kindOf b) 3) ∷ test 3 (leb 5 (lengthOf b) && leb (lengthOf b) (labelLimit e + 4))
     ∷ test 4 (labelBytes (nameOf b .label))
     ∷ test 5 (leb (u16At b 4) groups)
     ∷ test 6 (not (used ns (nameOf b .label)))
@@ -144,14 +147,15 @@ readMany tests value rest (suc left) r xs b =
     onward (refusal (tests xs b)) r (readMany tests value rest left (r + 1) (xs ++ (value b ∷ [])) (after b))
 
 -- 7: bytes follow the last record
-unfoldable pub closing : List GroupRecord → List NameRecord → ℕ → List ClaimRecord → List ℕ → Reading Records
-closing gs ns r cs b = onward (refusal (test 7 (eqb (length b) 0) ∷ [])) r (read (record { groups = gs; names = ns; claims = cs }))
+unfoldable pub closing : Edition → List GroupRecord → List NameRecord → ℕ → List ClaimRecord → List ℕ → Reading Records
+closing e gs ns r cs b =
+    onward (refusal (test 7 (eqb (length b) 0) ∷ [])) r (read (record { edition = e; groups = gs; names = ns; claims = cs }))
 
 unfoldable pub readClaims : HeadRecord → List GroupRecord → ℕ → List NameRecord → List ℕ → Reading Records
-readClaims h gs r ns b = readMany (claimTests (h .names)) claimOf (closing gs ns) (h .claims) r [] b
+readClaims h gs r ns b = readMany (claimTests (h .names)) claimOf (closing (h .edition) gs ns) (h .claims) r [] b
 
 unfoldable pub readNames : HeadRecord → ℕ → List GroupRecord → List ℕ → Reading Records
-readNames h r gs b = readMany (nameTests (h .groups)) nameOf (readClaims h gs) (h .names) r [] b
+readNames h r gs b = readMany (nameTests (h .edition) (h .groups)) nameOf (readClaims h gs) (h .names) r [] b
 
 unfoldable pub readGroups : HeadRecord → List ℕ → Reading Records
 readGroups h b = readMany groupTests groupOf (readNames h) (h .groups) 2 [] b

@@ -7,7 +7,8 @@ use native.Mathlib.Omega.{arith}
 use lib.ListN.{length, length-take, length-drop}
 use lib.Dec.{leb, eqb}
 use borrow.Author.Tests.{leb-true, le-leb, eqb-true, eqb-false, not-true}
-use Rattle.wire.specs.Limits.{edition, groupLimit, nameLimit, claimLimit, sideLimit, boundLimit, modeLimit}
+use Rattle.wire.specs.Limits.{nameLimit, claimLimit, sideLimit, boundLimit, modeLimit}
+use Rattle.wire.specs.Edition.{Edition, editionNumber, editionOf, groupLimit, labelLimit}
 use Rattle.wire.specs.Bytes.{u16At}
 use Rattle.wire.specs.Record.{lengthOf, kindOf, framed}
 use Rattle.wire.specs.SheetFormat.{headTests, groupTests, nameTests, claimTests, groupOf, nameOf, claimOf, leftOf, rightOf}
@@ -38,9 +39,9 @@ pub record HeadRight (b : List ℕ) : Type 0 where
   pub frame : Framed b
   pub kind : kindOf b ≡ 1
   pub size : lengthOf b ≡ 10
-  pub edition : u16At b 4 ≡ edition
+  pub edition : u16At b 4 ≡ editionNumber (editionOf (u16At b 4))
   pub someGroup : 1 ≤ u16At b 6
-  pub groups : u16At b 6 ≤ groupLimit
+  pub groups : u16At b 6 ≤ groupLimit (editionOf (u16At b 4))
   pub names : u16At b 8 ≤ nameLimit
   pub claims : u16At b 10 ≤ claimLimit
 
@@ -51,12 +52,12 @@ head-numbered b = omega arith
 pub head-right : (b : List ℕ) → Pass (headTests b) → HeadRight b
 unfolding headTests
 head-right b p =
-    let d = and-true (eqb (u16At b 4) edition && leb 1 (u16At b 6) && leb (u16At b 6) groupLimit && leb (u16At b 8) nameLimit)
-    (leb (u16At b 10) claimLimit) (p .1 .1 .1 .0) in
-    let c = and-true (eqb (u16At b 4) edition && leb 1 (u16At b 6) && leb (u16At b 6) groupLimit)
-    (leb (u16At b 8) nameLimit) (d .0) in
-    let a = and-true (eqb (u16At b 4) edition && leb 1 (u16At b 6)) (leb (u16At b 6) groupLimit) (c .0) in
-    let e = and-true (eqb (u16At b 4) edition) (leb 1 (u16At b 6)) (a .0) in
+    let known = eqb (u16At b 4) (editionNumber (editionOf (u16At b 4))) in
+    let few = leb (u16At b 6) (groupLimit (editionOf (u16At b 4))) in
+    let d = and-true (known && leb 1 (u16At b 6) && few && leb (u16At b 8) nameLimit) (leb (u16At b 10) claimLimit) (p .1 .1 .1 .0) in
+    let c = and-true (known && leb 1 (u16At b 6) && few) (leb (u16At b 8) nameLimit) (d .0) in
+    let a = and-true (known && leb 1 (u16At b 6)) few (c .0) in
+    let e = and-true known (leb 1 (u16At b 6)) (a .0) in
     record {
       frame = framed-true b (p .0);
       kind = eqb-true _ _ (p .1 .0);
@@ -89,20 +90,20 @@ group-right gs b p =
     record { parent = p .1 .1 .1 .1 .0; lo = leb-true _ _ (s .0); mode = leb-true _ _ (s .1) }
 
 -- a name
-pub name-numbered : (groups : ℕ) (ns : List NameRecord) (b : List ℕ) → Numbered 1 7 (nameTests groups ns b)
+pub name-numbered : (e : Edition) (groups : ℕ) (ns : List NameRecord) (b : List ℕ) → Numbered 1 7 (nameTests e groups ns b)
 unfolding nameTests
-name-numbered groups ns b = omega arith
+name-numbered e groups ns b = omega arith
 
-pub record NameFrame (b : List ℕ) : Type 0 where
+pub record NameFrame (e : Edition) (b : List ℕ) : Type 0 where
   pub frame : Framed b
   pub kind : kindOf b ≡ 3
   pub least : 5 ≤ lengthOf b
-  pub most : lengthOf b ≤ 20
+  pub most : lengthOf b ≤ labelLimit e + 4
 
-pub name-frame : (groups : ℕ) (ns : List NameRecord) (b : List ℕ) → Pass (nameTests groups ns b) → NameFrame b
+pub name-frame : (e : Edition) (groups : ℕ) (ns : List NameRecord) (b : List ℕ) → Pass (nameTests e groups ns b) → NameFrame e b
 unfolding nameTests
-name-frame groups ns b p =
-    let s = and-true (leb 5 (lengthOf b)) (leb (lengthOf b) 20) (p .1 .1 .0) in
+name-frame e groups ns b p =
+    let s = and-true (leb 5 (lengthOf b)) (leb (lengthOf b) (labelLimit e + 4)) (p .1 .1 .0) in
     record {
       frame = framed-true b (p .0);
       kind = eqb-true _ _ (p .1 .0);
@@ -110,15 +111,16 @@ name-frame groups ns b p =
       most = leb-true _ _ (s .1);
     }
 
-pub label-length : (b : List ℕ) → NameFrame b → length (nameOf b .label) ≡ lengthOf b - 4
+pub label-length : (e : Edition) (b : List ℕ) → NameFrame e b → length (nameOf b .label) ≡ lengthOf b - 4
 unfolding nameOf
-label-length b f = simp (length-take, length-drop) (omega arith)
+label-length e b f = simp (length-take, length-drop) (omega arith)
 
-pub name-right : (groups : ℕ) (ns : List NameRecord) (b : List ℕ) → Pass (nameTests groups ns b) → NameRight groups ns (nameOf b)
+pub name-right : (e : Edition) (groups : ℕ) (ns : List NameRecord) (b : List ℕ) → Pass (nameTests e groups ns b)
+    → NameRight e groups ns (nameOf b)
 unfolding nameTests
-name-right groups ns b p =
-    let f = name-frame groups ns b p in
-    let l = label-length b f in
+name-right e groups ns b p =
+    let f = name-frame e groups ns b p in
+    let l = label-length e b f in
     record {
       group = unfold nameOf in leb-true _ _ (p .1 .1 .1 .1 .0);
       first = omega arith;
@@ -215,21 +217,22 @@ pub claim-apart : (b : List ℕ) → kindOf b ≡ 6 → claimOf b ≡ apart (lef
 unfolding claimOf
 claim-apart b e = rw e
 
-left-right : (names : ℕ) (b : List ℕ) → SidesFrame names b → SideRight names (leftOf b)
-unfolding leftOf
-left-right names b f =
-    let l = length-u16s b 8 (u16At b 4) in
-    record { first = omega arith; last = omega arith; allowed = unfold leftOf in f .leftNames }
+side-right : (names : ℕ) (b : List ℕ) (i n : ℕ) → 1 ≤ n → n ≤ sideLimit → allWithin names (u16s b i n) ≡ true
+    → SideRight names (u16s b i n)
+side-right names b i n l m a =
+    let size = length-u16s b i n in
+    record { first = omega arith; last = omega arith; allowed = a }
 
-right-right : (names : ℕ) (b : List ℕ) → SidesFrame names b → SideRight names (rightOf b)
-unfolding rightOf
-right-right names b f =
-    let l = length-u16s b (8 + 2 * u16At b 4) (u16At b 6) in
-    record { first = omega arith; last = omega arith; allowed = unfold rightOf in f .rightNames }
+sides-right : (names : ℕ) (b : List ℕ) → SidesFrame names b → SideRight names (leftOf b) × SideRight names (rightOf b)
+unfolding leftOf rightOf
+sides-right names b f = (
+  side-right names b 8 (u16At b 4) (f .leftFirst) (f .leftLast) (f .leftNames),
+  side-right names b (8 + 2 * u16At b 4) (u16At b 6) (f .rightFirst) (f .rightLast) (f .rightNames),
+)
 
 pub claim-right : (names : ℕ) (cs : List ClaimRecord) (b : List ℕ) → Pass (claimTests names cs b)
     → ClaimRight names cs (claimOf b)
 claim-right names cs b p =
     claim-cases names cs b p (λ k f. rw (claim-count b k) (f .name, f .lo))
-    (λ k f. rw (claim-inside b k) (left-right names b f, right-right names b f))
-    (λ k f. rw (claim-apart b k) (left-right names b f, right-right names b f))
+    (λ k f. rw (claim-inside b k) (sides-right names b f))
+    (λ k f. rw (claim-apart b k) (sides-right names b f))

@@ -1,9 +1,10 @@
-// Fields of two and four bytes, low byte first, read from and stored into lent bytes.
+// Fields of two, four and eight bytes, low byte first, read from and stored into lent bytes.
 ghost use mathlib.Core.Path.{_≡_};
 ghost use Prim.Native.Nat.{_+_, _*_, _<_};
 ghost use lib.ListN.{length};
 ghost use lib.Seq.{sets};
 ghost use Rattle.wire.specs.Bytes.{u16At, u32At, le16, le32};
+ghost use Rattle.wire.specs.Wide.{u64At};
 
 // a byte and the one above it
 fn pair(low: u8, high: u8) -> u16
@@ -19,6 +20,13 @@ fn pair_of_words(low: u16, high: u16) -> u32
     low as u32 + 65536 * (high as u32)
 }
 
+// a field of four bytes and the one above it
+fn pair_of_longs(low: u32, high: u32) -> u64
+    ensures { λ r. ⌜ r ≡ low + 4294967296 * high ⌝ }
+{
+    low as u64 + 4294967296 * (high as u64)
+}
+
 pub fn word(s: &[u8], at: usize) -> u16
     requires { ⌜ at + 1 < length (now s) ⌝ }
     ensures { λ r. ⌜ r ≡ u16At (now (s .entry)) at ⌝ }
@@ -31,6 +39,13 @@ pub fn long(s: &[u8], at: usize) -> u32
     ensures { λ r. ⌜ r ≡ u32At (now (s .entry)) at ⌝ }
 {
     pair_of_words(word(s, at), word(s, at + 2))
+}
+
+pub fn wide(s: &[u8], at: usize) -> u64
+    requires { ⌜ at + 7 < length (now s) ⌝ }
+    ensures { λ r. ⌜ r ≡ u64At (now (s .entry)) at ⌝ }
+{
+    pair_of_longs(long(s, at), long(s, at + 4))
 }
 
 pub fn put_word(out: &mut [u8], at: usize, x: u16)

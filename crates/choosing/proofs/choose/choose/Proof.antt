@@ -3,9 +3,9 @@ use mathlib.Core.Path.{_∙_, subst}
 use native.Mathlib.Omega.{arith}
 use Rattle.sizes.specs.Span.{In}
 use Rattle.sizes.specs.MeasuredLaws.{spans-measured}
-use Rattle.measuring.specs.Tables.{size-in}
-use Rattle.choosing.specs.Divided.{in-tree, in-rooted}
-use Rattle.choosing.specs.Chosen.{folded-table, chose-none, chose-some, root-small, least-in}
+use Rattle.reading.specs.SheetIn.{size-in}
+use Rattle.measuring.specs.DoneLaws.{room-span}
+use Rattle.choosing.specs.Chosen.{folded-table, chose-none, chose-some, least-in}
 use borrow.Author.Needs.{needs}
 use Rattle.choosing.proofs.choose.choose.Statement.{statement}
 use Rattle.choosing.proofs.choose.choose.Tie as tie
@@ -27,17 +27,7 @@ measure-sheet-requires c κs =
     let s = c .before .before .before .before .before .before .before .before in
     let w = s .pre .0 .grown in
     let small = w .small in (
-      (
-        record {
-          small = w .small;
-          groups-long = w .long;
-          flags-long = s .pre .1;
-          last-long = omega arith;
-          prev-long = omega arith;
-          tree = in-tree w;
-        },
-        in-rooted w,
-      ),
+      record { tabled = w; flags-long = s .pre .1; last-long = omega arith; prev-long = omega arith },
       record { spans-long = omega arith; after-long = omega arith },
     )
 
@@ -57,8 +47,8 @@ returns c =
     let w = s .pre .0 .grown in
     let b = s .args .c in
     let e = c .before .before .at-state .ensures ∙ c .before .before .before .pair-at .ensures b in
-    chose-none (spans-measured _ _ (in-tree w)) (c .before .before .before .before .before .before .before .before
-    .before .measure-sheet .ensures) (in-tree w) (in-rooted w .one) b _ _ _ _ (c .if1 .taken) e
+    chose-none (spans-measured _ _ (w .tree)) (c .before .before .before .before .before .before .before .before
+    .before .measure-sheet .ensures) (w .tree) (w .rooted .one) b _ _ _ _ (c .if1 .taken) e
 
 slice-aggregate-divide : tie.Need-slice-aggregate-divide
 slice-aggregate-divide c = search needs
@@ -79,8 +69,10 @@ divide-requires c κs =
     let e = r .ensures ∙ c .before .before .before .before .before .before .before .pair-at .ensures b in (
       (
         w,
-        folded-table (spans-measured _ _ (in-tree w)) (m .ensures) (omega (arith, w .small, m .kept .1 .1 .1 .1 .1 .0))
-            (omega (arith, w .small, m .kept .1 .1 .1 .1 .1 .1 .0)),
+        folded-table (spans-measured _ _ (w .tree)) (m .ensures) (record {
+          spans-long = omega (arith, w .small, m .kept .1 .1 .1 .1 .1 .0);
+          after-long = omega (arith, w .small, m .kept .1 .1 .1 .1 .1 .1 .0);
+        }),
       ),
       (
         s .pre .0 .sizes-long,
@@ -105,16 +97,17 @@ returns-2 c =
     let e = c .before .before .before .before .before .before .before .before .before .before .before .at-state .ensures
     ∙ c .before .before .before .before .before .before .before .before .before .before .before
     .before .pair-at .ensures b in
-    let small = root-small (s .args .groups .now) (s .args .size) (s .args .flags .now) w
+    let small = room-span w
     (λ i. omega (
       arith,
       c .before .before .before .before .before .before .before .before .before .before .before
           .before .before .before .before .before .before .before .before .before .before .before .before .before
           .before .before .shared-slice-known .given i,
-    )) b in
-    chose-some (spans-measured _ _ (in-tree w)) (c .before .before .before .before .before .before .before .before
+    ))
+    (spans-measured _ _ (w .tree)) 1 (w .rooted .one) b in
+    chose-some (spans-measured _ _ (w .tree)) (c .before .before .before .before .before .before .before .before
     .before .before .before .before .before .before .before .before .before .before .measure-sheet .ensures) b _ _ _ _
-    (in-rooted w .one) (c .before .before .before .before .before .before .before .before .before .if1 .left) e small
+    (w .rooted .one) (c .before .before .before .before .before .before .before .before .before .if1 .left) e small
     (c .before .before .before .before .divide .ensures)
 
 pub choose-spec : {M : Type 1} → statement M

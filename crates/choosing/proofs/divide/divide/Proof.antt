@@ -4,16 +4,14 @@ use mathlib.Core.Path.{_≡_, refl, ap, _∙_}
 use native.Mathlib.Omega.{arith}
 use borrow.Author.Needs.{needs}
 use lib.ListN.{length, replicate}
-use Rattle.runs.specs.Told.{numberIn}
-use Rattle.measuring.specs.Tables.{sheetIn, size-in}
+use Rattle.wire.specs.Limits.{groupCapacity}
+use Rattle.runs.specs.Told.{numberIn, number-same}
+use Rattle.reading.specs.SheetIn.{sheetIn, size-in}
 use Rattle.measuring.specs.Pairs.{pairIn}
 use Rattle.choosing.specs.Divided.{
   markedIn,
   Room,
   DividedTo,
-  in-tree,
-  in-rooted,
-  number-same,
   mark-same,
   divided-root,
   divided-all,
@@ -23,8 +21,8 @@ use Rattle.choosing.proofs.divide.divide.Tie as tie
 
 abbrev Inv-loop : tie.InvT-loop
 Inv-loop groups size spans after r c sizes₀ marks₀ rest₀ states₀ i₀ sizes marks rest states i =
-    (1 ≤ i) × (i ≤ size) × (length sizes ≡ length sizes₀) × (length marks ≡ length marks₀) × (length rest ≡ 128)
-    × (length states ≡ 128) × (numberIn sizes 1 ≡ r) × (markedIn marks 1 ≡ c)
+    (1 ≤ i) × (i ≤ size) × (length sizes ≡ length sizes₀) × (length marks ≡ length marks₀) × (length rest ≡ groupCapacity)
+    × (length states ≡ groupCapacity) × (numberIn sizes 1 ≡ r) × (markedIn marks 1 ≡ c)
     × DividedTo (sheetIn groups size) (pairIn spans) sizes marks rest states i
 
 abbrev μ-loop : tie.MeasureT-loop
@@ -36,10 +34,10 @@ slice-aggregate-give c = search needs
 slice-aggregate-give-2 : tie.Need-slice-aggregate-give-2 Inv-loop μ-loop
 slice-aggregate-give-2 c = search needs
 
-room : (s : tie.Start Inv-loop μ-loop) → Room 1 (s .args .sizes .now) (s .args .marks .now) (replicate 128 0) (replicate 128 0)
+room : (s : tie.Start Inv-loop μ-loop) → Room 1 (s .args .sizes .now) (s .args .marks .now)
+    (replicate groupCapacity 0) (replicate groupCapacity 0)
 room s =
-    let n = in-rooted (s .pre .0 .0) .one .last in
-    let e = size-in (s .args .groups .now) (s .args .size) in
+    let n = s .pre .0 .0 .some in
     record {
       sizes-long = omega (arith, s .pre .1 .0);
       marks-long = omega (arith, s .pre .1 .1);
@@ -58,10 +56,9 @@ loop-holds c =
     let k = g .give .kept in
     let w = s .pre in
     let l = room s in
-    let n = in-rooted (w .0 .0) .one .last in
-    let q = in-rooted (w .0 .0) .one in (
+    let t = w .0 .0 in (
       omega arith,
-      omega (arith, size-in (s .args .groups .now) (s .args .size)),
+      t .some,
       refl,
       refl,
       k .1 .1 .0,
@@ -69,8 +66,8 @@ loop-holds c =
       ap (λ t. numberIn t 1) (e .0) ∙ number-same (s .args .sizes .now) 1 (s .args .r) (omega arith) (l .sizes-long),
       ap (λ t. markedIn t 1) (e .1 .0) ∙ mark-same (s .args .marks .now) 1 (s .args .c) (omega arith) (l .marks-long),
       rw (e .0, e .1 .0, e .1 .1 .0, e .1 .1 .1)
-          (divided-root (in-tree (w .0 .0)) (w .0 .1 .measured) (s .args .sizes .now) (s .args .marks .now) (replicate 128 0)
-          (replicate 128 0) (s .args .r) (s .args .c) q l (w .1 .2)),
+          (divided-root (t .tree) (w .0 .1 .measured) (s .args .sizes .now) (s .args .marks .now) (replicate groupCapacity 0)
+          (replicate groupCapacity 0) (s .args .r) (s .args .c) (t .rooted .one) l (w .1 .2)),
     )
 
 add-i : tie.Need-add-i Inv-loop μ-loop
@@ -139,7 +136,7 @@ returns c =
     let i = c .before .loop .inv in
     let e : c .before .loop .i ≡ sheetIn (s .args .groups .now) (s .args .size) .size =
     omega (arith, size-in (s .args .groups .now) (s .args .size)) in
-    divided-all (in-tree (s .pre .0 .0)) (rw e at (i .8)) (i .6) (i .7)
+    divided-all (s .pre .0 .0 .tree) (rw e at (i .8)) (i .6) (i .7)
 
 pub divide-spec : {M : Type 1} → statement M
 divide-spec =

@@ -2,19 +2,16 @@
 use mathlib.Core.Path.{ap, _∙_}
 use native.Mathlib.Omega.{arith}
 use Rattle.meaning.specs.Sum.{bit}
-use Rattle.runs.specs.Told.{numberIn}
-use Rattle.measuring.specs.Tables.{size-in}
+use Rattle.runs.specs.Told.{numberIn, number-other}
+use Rattle.reading.specs.SheetIn.{size-in}
 use Rattle.choosing.specs.Divided.{
   markedIn,
-  in-tree,
-  in-son,
   divisible-alike,
   shared-alike,
   divided-divisible,
   divided-more,
   kind-table,
   rest-table,
-  number-other,
   mark-other,
 }
 use borrow.Author.Needs.{needs}
@@ -37,13 +34,13 @@ pair-at-requires : tie.Need-pair-at-requires
 pair-at-requires c κs =
     let s = c .before .before .before .before .before .before .before .before .before .before .before in
     let n = size-in (s .args .groups .now) (s .args .size) in
-    (omega arith, omega (arith, s .pre .0 .1 .after-long))
+    (omega arith, omega (arith, s .pre .0 .1 .lent .after-long))
 
 pair-at-requires-2 : tie.Need-pair-at-requires-2
 pair-at-requires-2 c κs =
     let s = c .before .before .before .before .before .before .before .before .before .before .before .before in
     let n = size-in (s .args .groups .now) (s .args .size) in
-    (omega arith, omega (arith, s .pre .0 .1 .spans-long))
+    (omega arith, omega (arith, s .pre .0 .1 .lent .spans-long))
 
 sub-divided : tie.Need-sub-divided
 sub-divided c = search needs
@@ -75,14 +72,14 @@ divided-requires c κs =
     let c7 = c5 .before .before in
     let s = c7 .before .before .before .before .before .before .before .before in
     let f = c7 .parent-group in
-    let k = in-son _ _ (f .ensures .0) in
+    let k = f .ensures .0 in
     let p = f .result .0 in
     let g = s .args .g .0 in
     rw (kind-table _ _ p g _ _ (s .pre .0 .0) k (c5 .mode-of .ensures) (c4 .kind-of .ensures))
     (divisible-alike _ _ (markedIn (s .args .states .now) p) (rest-table p g (s .pre .0 .1) k
     (c .before .before .before .pair-at .ensures))
     (c .before .before .pair-at2 .ensures)
-    (divided-divisible (in-tree (s .pre .0 .0)) (s .pre .0 .1 .measured) p g k (s .pre .1 .1)))
+    (divided-divisible (s .pre .0 .0 .tree) (s .pre .0 .1 .measured) p g k (s .pre .1 .1)))
 
 give-requires : tie.Need-give-requires
 give-requires c κs =
@@ -137,7 +134,7 @@ returns c =
     let t = s .pre .0 .0 in
     let r = s .pre .1 .0 .2 in
     let n = size-in (s .args .groups .now) (s .args .size) in
-    let k = in-son _ _ (c28 .parent-group .ensures .0) in
+    let k = c28 .parent-group .ensures .0 in
     let d = c20 .divided in
     let e = c15 .give .ensures in
     let l = c4 .leave .ensures in
@@ -147,7 +144,7 @@ returns c =
     let rest = rest-table p g (s .pre .0 .1) k (c24 .pair-at .ensures) in
     let share = shared-alike rest (c23 .pair-at2 .ensures) (rw kind at (d .ensures)) in (
       rw (l .0, l .1, e .0, e .1 .0, e .1 .1 .0, e .1 .1 .1)
-          (divided-more (in-tree t) (s .pre .0 .1 .measured) (s .args .sizes .now) (s .args .marks .now) (s .args .rest .now)
+          (divided-more (t .tree) (s .pre .0 .1 .measured) (s .args .sizes .now) (s .args .marks .now) (s .args .rest .now)
           (s .args .states .now) p g (d .result .rest) (d .result .son) (d .result .rest_in) (d .result .son_in) k
           (record {
             sizes-long = omega (arith, r .sizes-long);

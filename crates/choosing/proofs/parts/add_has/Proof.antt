@@ -26,8 +26,8 @@ returns-4 c =
     let k = in-add {r = e .before .before .before .before .args .r} (e .before .before .if1 .left) (e .if2 .left) (omega arith) in
     (λ o. absurd (false≢true o), λ w. absurd (let v = k .1 w in omega arith))
 
-less-requires : tie.Need-less-requires
-less-requires c κs = search needs
+minus-requires : tie.Need-minus-requires
+minus-requires c κs = search needs
 
 returns-5 : tie.Need-returns-5
 returns-5 c =
@@ -39,4 +39,4 @@ returns-5 c =
     )
 
 pub add-has-spec : {M : Type 1} → statement M
-add-has-spec = tie.close (tie.spec returns returns-2 returns-3 returns-4 less-requires returns-5)
+add-has-spec = tie.close (tie.spec returns returns-2 returns-3 returns-4 minus-requires returns-5)

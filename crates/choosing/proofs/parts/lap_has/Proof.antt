@@ -23,8 +23,8 @@ returns-3 c =
     let k = in-lap {r = e .before .before .before .before .args .r} (e .before .before .if1 .left) (e .if2 .left) (omega arith) in
     (λ o. absurd (false≢true o), λ w. absurd (let v = k .1 w in omega arith))
 
-less-requires : tie.Need-less-requires
-less-requires c κs = search needs
+minus-requires : tie.Need-minus-requires
+minus-requires c κs = search needs
 
 returns-4 : tie.Need-returns-4
 returns-4 c =
@@ -37,4 +37,4 @@ returns-4 c =
 
 pub lap-has-spec : {M : Type 1} → statement M
 lap-has-spec =
-    tie.close (tie.spec returns returns-2 larger-requires returns-3 less-requires returns-4)
+    tie.close (tie.spec returns returns-2 larger-requires returns-3 minus-requires returns-4)

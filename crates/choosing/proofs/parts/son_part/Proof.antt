@@ -17,8 +17,8 @@ smaller-requires c κs = search needs
 enum-told-2 : tie.Need-enum-told-2
 enum-told-2 c = search needs
 
-less-requires : tie.Need-less-requires
-less-requires c κs = search needs
+minus-requires : tie.Need-minus-requires
+minus-requires c κs = search needs
 
 larger-requires : tie.Need-larger-requires
 larger-requires c κs = search needs
@@ -56,7 +56,7 @@ son-part-spec =
     enum-told
     smaller-requires
     enum-told-2
-    less-requires
+    minus-requires
     larger-requires
     enum-told-3
     returns

@@ -1,5 +1,6 @@
 -- `any_sets` meets its contract.
-use Rattle.choosing.specs.Divided.{in-small}
+use native.Mathlib.Omega.{arith}
+use Rattle.reading.specs.SheetIn.{size-in}
 use Rattle.claims.specs.Counts.{chose-sized}
 use borrow.Author.Needs.{needs}
 use Rattle.claims.proofs.count.any_sets.Statement.{statement}
@@ -21,7 +22,7 @@ returns : tie.Need-returns
 returns c =
     let c4 = c .before .before .before .before in
     let c11 = c4 .before .before .before .before .before .before .before in
-    chose-sized (in-small (c11 .pre .grown)) (c4 .choose .ensures)
+    chose-sized (omega (arith, size-in (c11 .args .groups .now) (c11 .args .size), c11 .pre .grown .small)) (c4 .choose .ensures)
 
 pub any-sets-spec : {M : Type 1} → statement M
 any-sets-spec =

@@ -1,6 +1,5 @@
 -- `decide` meets its contract.
 use native.Mathlib.Omega.{arith}
-use Rattle.choosing.specs.Divided.{in-tree, in-rooted, in-balanced, in-told}
 use Rattle.claims.specs.Decided.{denial-shows, decided-denied, decided-holds}
 use borrow.Author.Needs.{needs}
 use Rattle.claims.proofs.decide.decide.Statement.{statement}
@@ -19,15 +18,15 @@ place-runs-requires c κs =
     let s = c11 .before .before .before .before .before .before .before .before .before .before in
     let w = s .pre .0 in
     let j = c11 .judge in
-    let d = j .ensures .0 .broken (c4 .if1 .taken) in
+    let d = j .ensures .0 .found (c4 .if1 .taken) in
     rw (j .ensures .1)
     (record {
       grown = w .grown;
       sizes-long = omega (arith, w .sizes-long, j .kept .1 .1 .1 .1 .1 .0);
       firsts-long = s .pre .2;
       ends-long = omega (arith, w .grown .small);
-      balanced = in-balanced (s .args .groups .now) (s .args .size) (d .choice .others);
-      top = d .top;
+      balanced = d .fitting .choice .others;
+      top = d .fitting .top;
     })
 
 same-length : tie.Need-same-length
@@ -49,9 +48,9 @@ returns c =
     let s = c15 .before .before .before .before .before .before .before .before .before .before in
     let w = s .pre .0 .grown in
     let j = c15 .judge in
-    let d = j .ensures .0 .broken (c8 .if1 .taken) in
+    let d = j .ensures .0 .found (c8 .if1 .taken) in
     let t = rw (j .ensures .1) at (c .before .before .before .place-runs .ensures) in
-    (decided-denied (denial-shows (in-tree w) (in-rooted w) d (in-told (s .args .groups .now) (s .args .size) t)), j .ensures .1)
+    (decided-denied (denial-shows (w .tree) (w .rooted) d t), j .ensures .1)
 
 same-length-5 : tie.Need-same-length-5
 same-length-5 c = search needs
@@ -65,7 +64,7 @@ same-length-7 c = search needs
 returns-2 : tie.Need-returns-2
 returns-2 c =
     let j = c .before .before .before .before .before .before .before .judge in
-    (decided-holds (j .ensures .0 .kept (c .if1 .left)), j .ensures .1)
+    (decided-holds (j .ensures .0 .lacking (c .if1 .left)), j .ensures .1)
 
 pub decide-spec : {M : Type 1} → statement M
 decide-spec =

@@ -1,57 +1,36 @@
-use mathlib.Core.Path.{refl}
+-- `answer` meets its contract: refusal 8, refusal 14, or the records.
+use Prim.Native.Nat.{_*_}
+use mathlib.Core.Path.{refl, sym, ap, _∙_}
+use mathlib.Core.Bool.{false≢true}
 use native.Mathlib.Omega.{arith}
+use denote.Ref.{now}
 use borrow.Author.Tests.{not-true, not-false}
-use lib.ListN.{length-replicate}
-use Rattle.group_sheet.proofs.RangesLaws.{root-told, arrangeable, given-impossible, given-short, given-replied}
+use Rattle.measuring.specs.Tables.{size-in}
+use Rattle.wire.specs.Limits.{rangeBytes}
+use Rattle.group_sheet.proofs.ReplyLaws.{written}
 use borrow.Author.Needs.{needs}
 use Rattle.group_sheet.proofs.ranges.answer.Statement.{statement}
 use Rattle.group_sheet.proofs.ranges.answer.Tie as tie
 
-slice-aggregate-measure-sheet : tie.Need-slice-aggregate-measure-sheet
-slice-aggregate-measure-sheet c = search needs
+slice-aggregate-measure : tie.Need-slice-aggregate-measure
+slice-aggregate-measure c = search needs
 
-slice-aggregate-measure-sheet-2 : tie.Need-slice-aggregate-measure-sheet-2
-slice-aggregate-measure-sheet-2 c = search needs
+slice-aggregate-measure-2 : tie.Need-slice-aggregate-measure-2
+slice-aggregate-measure-2 c = search needs
 
-slice-aggregate-measure-sheet-3 : tie.Need-slice-aggregate-measure-sheet-3
-slice-aggregate-measure-sheet-3 c = search needs
-
-slice-aggregate-measure-sheet-4 : tie.Need-slice-aggregate-measure-sheet-4
-slice-aggregate-measure-sheet-4 c = search needs
-
-slice-aggregate-measure-sheet-5 : tie.Need-slice-aggregate-measure-sheet-5
-slice-aggregate-measure-sheet-5 c = search needs
-
-measure-sheet-requires : tie.Need-measure-sheet-requires
-measure-sheet-requires c κs =
-    let p = c .before .before .before .before .before .before .before .pre in (
-      (
-        record {
-          small = p .few;
-          groups-long = p .room;
-          flags-long = simp length-replicate (p .few);
-          last-long = simp length-replicate (p .few);
-          prev-long = simp length-replicate (p .few);
-          tree = p .tree;
-        },
-        p .rooted,
-      ),
-      record { spans-long = simp length-replicate (omega (arith, p .few)); after-long = simp length-replicate (omega (arith, p .few)) },
-    )
-
-slice-aggregate-possible : tie.Need-slice-aggregate-possible
-slice-aggregate-possible c = search needs
-
-possible-requires : tie.Need-possible-requires
-possible-requires c κs = search needs
+measure-requires : tie.Need-measure-requires
+measure-requires c κs = search needs
 
 pack-requires : tie.Need-pack-requires
 pack-requires c κs = search needs
 
 returns : tie.Need-returns
 returns c =
-    given-impossible _ (root-told (c .before .before .before .before .before .before .before .before .before .before .before .before .before .before .before .before .pre) (c .before .before .before .before .before .before .before .before .measure-sheet .ensures) _ (c .before .before .possible .ensures))
-    (not-true _ (c .before .if1 .taken)) (c .pack .ensures) refl
+    let w = c .before .before .before .before .measure .ensures in
+    record {
+      impossible = λ i. record { returned = c .pack .ensures; unchanged = refl };
+      possible = λ p. absurd (false≢true (sym (not-true _ (c .before .if1 .taken)) ∙ w .told .1 p));
+    }
 
 mul-bytes : tie.Need-mul-bytes
 mul-bytes c = search needs
@@ -61,8 +40,14 @@ pack-requires-2 c κs = search needs
 
 returns-2 : tie.Need-returns-2
 returns-2 c =
-    given-short _ (root-told (c .before .before .before .before .before .before .before .before .before .before .before .before .before .before .before .before .before .pre) (c .before .before .before .before .before .before .before .before .before .measure-sheet .ensures) _ (c .before .before .before .possible .ensures))
-    (not-false _ (c .before .before .if1 .left)) (c .before .if2 .taken) (c .pack2 .ensures) refl
+    let w = c .before .before .before .before .before .measure .ensures in
+    record {
+      impossible = λ i. absurd (i (w .told .0 (not-false _ (c .before .before .if1 .left))));
+      possible = λ p. rw size-in (record {
+        short = λ l. record { returned = c .pack2 .ensures; unchanged = refl };
+        replied = λ l. absurd (omega arith);
+      });
+    }
 
 slice-aggregate-put : tie.Need-slice-aggregate-put
 slice-aggregate-put c = search needs
@@ -72,11 +57,10 @@ slice-aggregate-put-2 c = search needs
 
 put-requires : tie.Need-put-requires
 put-requires c κs =
-    let p = c .before .before .before .before .before .before .before .before .before .before .before .before .before .before .before .before .before .before .before .pre in
-    let w = c .before .before .before .before .before .before .before .before .before .before .before .measure-sheet .ensures in
+    let w = c .before .before .before .before .before .before .before .measure .ensures in
     record {
-      tabled = p;
-      measured = arrangeable p w (search needs) (search needs) (root-told p w _ (c .before .before .before .before .before .possible .ensures) .0 (not-false _ (c .before .before .before .before .if1 .left)));
+      tabled = c .before .before .before .before .before .before .before .before .before .before .before .before .pre;
+      measured = w .measured (w .told .0 (not-false _ (c .before .before .before .before .if1 .left)));
       room = c .before .before .before .if2 .left;
     }
 
@@ -91,21 +75,24 @@ same-length c = search needs
 
 returns-3 : tie.Need-returns-3
 returns-3 c =
-    given-replied _ (root-told (c .before .before .before .before .before .before .before .before .before .before .before .before .before .before .before .before .before .before .before .before .before .before .before .pre) (c .before .before .before .before .before .before .before .before .before .before .before .before .before .before .before .measure-sheet .ensures) _ (c .before .before .before .before .before .before .before .before .before .possible .ensures))
-    (not-false _ (c .before .before .before .before .before .before .before .before .if1 .left)) (c .before .before .before .before .before .before .before .if2 .left) (c .pack3 .ensures) (c .before .before .before .put .ensures)
+    let w = c .before .before .before .before .before .before .before .before .before .before .before .measure .ensures in
+    let put = c .before .before .before .put .ensures in
+    let size = size-in (now (c .before .before .before .before .before .before .before .before .before .before .before .before .before .before .before .before .args .groups)) (c .before .before .before .before .before .before .before .before .before .before .before .before .before .before .before .before .args .size) in
+    record {
+      impossible = λ i. absurd (i (w .told .0 (not-false _ (c .before .before .before .before .before .before .before .before .if1 .left))));
+      possible = λ p. record {
+        short = λ l. absurd (omega (arith, size, c .before .before .before .before .before .before .before .if2 .left));
+        replied = λ l. (written (ap (λ m. rangeBytes * m) (sym size)) (put .wrote) (c .pack3 .ensures), put .ranges);
+      };
+    }
 
 pub answer-spec : {M : Type 1} → statement M
 answer-spec =
     tie.close
     (tie.spec
-    slice-aggregate-measure-sheet
-    slice-aggregate-measure-sheet-2
-    slice-aggregate-measure-sheet-3
-    slice-aggregate-measure-sheet-4
-    slice-aggregate-measure-sheet-5
-    measure-sheet-requires
-    slice-aggregate-possible
-    possible-requires
+    slice-aggregate-measure
+    slice-aggregate-measure-2
+    measure-requires
     pack-requires
     returns
     mul-bytes

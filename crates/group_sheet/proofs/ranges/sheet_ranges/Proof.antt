@@ -1,7 +1,11 @@
 use mathlib.Core.Path.{refl}
 use native.Mathlib.Omega.{arith}
 use Rattle.group_sheet.proofs.LoadedLaws.{sheet-loaded, sheet-held, sheet-refused}
-use Rattle.group_sheet.proofs.RangesLaws.{tabled, ranges-refused, ranges-read}
+use Rattle.measuring.specs.Tables.{sheetIn}
+use Rattle.group_sheet.specs.RangesReply.{RangesUnder}
+use Rattle.meaning.specs.OfRecords.{sheetOf}
+use Rattle.group_sheet.proofs.ReplyLaws.{read-not-refused, as-read, turned-back}
+use Rattle.group_sheet.proofs.RangesLaws.{tabled}
 use borrow.Author.Needs.{needs}
 use Rattle.group_sheet.proofs.ranges.sheet_ranges.Statement.{statement}
 use Rattle.group_sheet.proofs.ranges.sheet_ranges.Tie as tie
@@ -41,16 +45,23 @@ answer-requires c κs =
 
 returns : tie.Need-returns
 returns c =
-    ranges-refused _ _ (sheet-refused (c .before .before .before .before .before .before .before .before .load-sheet .ensures) _ _ (c .before .before .n .given .1)) (c .pack .ensures) refl
+    let e = sheet-refused (c .before .before .before .before .before .before .before .before .load-sheet .ensures) _ _ (c .before .before .n .given .1) in
+    record {
+      turned = turned-back e (c .pack .ensures);
+      passed = λ d f. absurd (read-not-refused f e);
+    }
 
 same-length : tie.Need-same-length
 same-length c = search needs
 
 returns-2 : tie.Need-returns-2
+unfolding sheetIn
 returns-2 c =
-    let w = c .before .before .before .before .before .before .before .before .before .before .before .before .load-sheet .ensures in
-    let e = c .before .before .before .before .before .before .head .given .1 in
-    ranges-read _ (sheet-loaded w _ e) _ _ refl (c .before .before .answer .ensures)
+    let e = sheet-loaded (c .before .before .before .before .before .before .before .before .before .before .before .before .load-sheet .ensures) _ (c .before .before .before .before .before .before .head .given .1) in
+    record {
+      turned = λ n k f. absurd (read-not-refused e f);
+      passed = as-read (λ d. RangesUnder (sheetOf (d .groups)) _) e (c .before .before .answer .ensures);
+    }
 
 pub sheet-ranges-spec : {M : Type 1} → statement M
 sheet-ranges-spec =

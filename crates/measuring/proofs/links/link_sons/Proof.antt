@@ -3,9 +3,9 @@ use mathlib.Core.Path.{_≡_, refl, subst}
 use native.Mathlib.Omega.{arith}
 use Prim.Native.Nat.{_+_, _-_, _≤_}
 use lib.ListN.{length}
-use Rattle.measuring.specs.Tables.{sheetIn}
+use Rattle.reading.specs.SheetIn.{sheetIn, parent-below}
 use Rattle.measuring.specs.Links.{Links}
-use Rattle.measuring.specs.LinksLaws.{parent-before, links-step}
+use Rattle.measuring.specs.LinksLaws.{links-step}
 use Rattle.measuring.proofs.links.link_sons.Statement.{statement}
 use Rattle.measuring.proofs.links.link_sons.Tie as tie
 
@@ -31,8 +31,7 @@ link-one-requires c κs =
     let i = c .before .before .before in
     let s = i .before .before .before .before .before in
     let a = s .args in (
-      parent-before (a .groups .now) (a .size) (i .before .loop .n + 1) _ (s .pre .1) (omega arith) (omega arith)
-          (c .before .before .parent-of .ensures),
+      parent-below (s .pre .0) (i .before .loop .n + 1) _ (omega arith) (c .before .before .parent-of .ensures) (omega arith),
       omega arith,
       omega arith,
     )
@@ -48,7 +47,7 @@ loop-again c =
       omega arith,
       omega arith,
       omega arith,
-      links-step (s .args .groups .now) (s .args .size) _ _ _ _ (i .before .loop .n) _ (s .pre .1) (i .loop-test .taken)
+      links-step (s .args .groups .now) (s .args .size) _ _ _ _ (i .before .loop .n) _ (s .pre .0 .tree) (i .loop-test .taken)
           (d .before .before .before .parent-of .ensures) (i .before .loop .inv .3) (d .link-one .ensures),
     )
 

@@ -8,7 +8,8 @@ use Rattle.measuring.specs.LinksLaws.{next-less}
 use native.Mathlib.Omega.{arith}
 use mathlib.Core.Path.{_≡_, refl, _∙_}
 use Rattle.measuring.specs.Held.{pairOf}
-use Rattle.measuring.specs.Tables.{sheetIn, spansIn, size-in}
+use Rattle.reading.specs.SheetIn.{sheetIn, size-in}
+use Rattle.measuring.specs.Tables.{spansIn}
 use Rattle.measuring.specs.DoneLaws.{AtSon, put-alike, done-put, finished, at-last, at-next, at-end, room-sum, room-son}
 use borrow.Fn.Kinds.{In}
 use borrow.Fn.PlainCycle.{Measures, is, falls, and}
@@ -33,121 +34,6 @@ abbrev μ-measure-group : Measures 6 measure-group-kinds.ps ℕ
 abbrev μ-measure-sons : Measures 6 measure-sons-kinds.ps ℕ
 μ-measure-sons κs a = 2 * (a .1 .0 - a .1 .1 .1 .1 .1 .1 .1 .0 .0) + 1
 
-abbrev measure-group-at : ℕ → In 6 measure-group-kinds.ps
-measure-group-at t =
-    and 6 measure-group-kinds.ps (is 6 measure-group-kinds.ps μ-measure-group t) measure-group.Pre
-
-abbrev measure-group-below : ℕ → In 6 measure-group-kinds.ps
-measure-group-below t =
-    and
-    6
-    measure-group-kinds.ps
-    (falls 6 measure-group-kinds.ps _<_ μ-measure-group t)
-    measure-group.Pre
-
-abbrev measure-sons-at : ℕ → In 6 measure-sons-kinds.ps
-measure-sons-at t =
-    and 6 measure-sons-kinds.ps (is 6 measure-sons-kinds.ps μ-measure-sons t) measure-sons.Pre
-
-abbrev measure-sons-below : ℕ → In 6 measure-sons-kinds.ps
-measure-sons-below t =
-    and
-    6
-    measure-sons-kinds.ps
-    (falls 6 measure-sons-kinds.ps _<_ μ-measure-sons t)
-    measure-sons.Pre
-
-measure-group-measure-sons-requires : (t : ℕ) → measure-group-lts.Need-measure-sons-requires (
-  measure-sons-below t,
-  measure-sons.Post,
-  finish-reads.Asked,
-  finish-reads.Learnt,
-  put-pair-reads.Asked,
-  put-pair-reads.Learnt,
-) (measure-group-at t) measure-group.Post
-measure-group-measure-sons-requires t c κs =
-    let s = c .before .before .before .before .before .before .before .before in
-    (omega arith, s .pre .1)
-
-measure-group-finish-requires : (t : ℕ) → measure-group-lts.Need-finish-requires (
-  measure-sons-below t,
-  measure-sons.Post,
-  finish-reads.Asked,
-  finish-reads.Learnt,
-  put-pair-reads.Asked,
-  put-pair-reads.Learnt,
-) (measure-group-at t) measure-group.Post
-measure-group-finish-requires t c κs =
-    let m = c .before .before .before .before .before in
-    let s = m .before .before .before .before .before .before .before .before .before in
-    let a = s .args in
-    let r = s .pre .1 .0 in
-    let g = s .pre .1 .1 .1 in
-    ((r .long .groups-long, r .long .flags-long), g)
-
-measure-group-put-pair-requires : (t : ℕ) → measure-group-lts.Need-put-pair-requires (
-  measure-sons-below t,
-  measure-sons.Post,
-  finish-reads.Asked,
-  finish-reads.Learnt,
-  put-pair-reads.Asked,
-  put-pair-reads.Learnt,
-) (measure-group-at t) measure-group.Post
-measure-group-put-pair-requires t c κs =
-    let m = c .before .before .before .before .before .before in
-    let s = m .before .before .before .before .before .before .before .before .before in
-    let a = s .args in
-    let r = s .pre .1 .0 in
-    let g = s .pre .1 .1 .1 in
-    omega (arith, size-in (a .groups .now) (a .size), s .pre .1 .1 .0 .spans-long, m .measure-sons .kept .1 .1 .1 .1 .1 .0)
-
-measure-group-same-length : (t : ℕ) → measure-group-lts.Need-same-length (
-  measure-sons-below t,
-  measure-sons.Post,
-  finish-reads.Asked,
-  finish-reads.Learnt,
-  put-pair-reads.Asked,
-  put-pair-reads.Learnt,
-) (measure-group-at t) measure-group.Post
-measure-group-same-length t c =
-    let m = c .before .before .before .before .before .before .before .before .before in
-    c .before .before .put-pair .kept .0 ∙ m .measure-sons .kept .1 .1 .1 .1 .1 .0
-
-measure-group-same-length-2 : (t : ℕ) → measure-group-lts.Need-same-length-2 (
-  measure-sons-below t,
-  measure-sons.Post,
-  finish-reads.Asked,
-  finish-reads.Learnt,
-  put-pair-reads.Asked,
-  put-pair-reads.Learnt,
-) (measure-group-at t) measure-group.Post
-measure-group-same-length-2 t c =
-    let m = c .before .before .before .before .before .before .before .before .before in
-    m .measure-sons .kept .1 .1 .1 .1 .1 .1 .0
-
-measure-group-returns : (t : ℕ) → measure-group-lts.Need-returns (
-  measure-sons-below t,
-  measure-sons.Post,
-  finish-reads.Asked,
-  finish-reads.Learnt,
-  put-pair-reads.Asked,
-  put-pair-reads.Learnt,
-) (measure-group-at t) measure-group.Post
-measure-group-returns t c =
-    let f = c .before .before .before in
-    let m = f .before .before .before .before .before .before in
-    let s = m .before .before .before .before .before .before .before .before .before in
-    let a = s .args in
-    let r = s .pre .1 .0 in
-    let g = s .pre .1 .1 .1 in
-    let d = m .measure-sons .ensures in
-    let z = finished (a .groups .now) (a .size) (a .flags .now) (a .last .now) (a .prev .now) r (a .g .0) g
-    (pairOf (m .measure-sons .result)) (d .1) (pairOf (f .finish .result)) (f .finish .ensures) in
-    let p = put-alike z (c .before .before .put-pair .ensures) in
-    let q = done-put (sheetIn (a .groups .now) (a .size)) (spansIn (a .groups .now) (a .size) (a .flags .now)) (a .g .0)
-    _ _ _ _ _ (d .0) p in
-    (q, p .put)
-
 abbrev measure-sons-Inv-loop : measure-sons-lts.InvT-loop
 measure-sons-Inv-loop groups size flags last prev spans₀ after₀ g sum₀ i₀ spans after sum i =
     (length spans ≡ length spans₀) × (length after ≡ length after₀)
@@ -156,341 +42,221 @@ measure-sons-Inv-loop groups size flags last prev spans₀ after₀ g sum₀ i�
 abbrev measure-sons-μ-loop : measure-sons-lts.MeasureT-loop
 measure-sons-μ-loop groups size flags last prev spans₀ after₀ g sum₀ i₀ spans after sum i = i .0
 
-measure-sons-start-of-requires : (t : ℕ) → measure-sons-lts.Need-start-of-requires (
-  start-of-reads.Asked,
-  start-of-reads.Learnt,
-  link-at-reads.Asked,
-  link-at-reads.Learnt,
-  measure-group-below t,
-  measure-group.Post,
-  put-pair-reads.Asked,
-  put-pair-reads.Learnt,
-  pair-at-reads.Asked,
-  pair-at-reads.Learnt,
-  join-son-reads.Asked,
-  join-son-reads.Learnt,
-) (measure-sons-at t) measure-sons.Post measure-sons-Inv-loop measure-sons-μ-loop
-measure-sons-start-of-requires t c κs =
-    let s = c .before .before .before .before .before .before in
-    let a = s .args in
-    let r = s .pre .1 .0 in
-    let g = s .pre .1 .1 .1 in
-    ((r .long .groups-long, r .long .last-long, r .long .prev-long), (g, r .links))
+-- the measure being t
+module _ (t : ℕ) where
+  abbrev group-at : In 6 measure-group-kinds.ps
+  group-at = and 6 measure-group-kinds.ps (is 6 measure-group-kinds.ps μ-measure-group t) measure-group.Pre
 
-measure-sons-link-at-requires : (t : ℕ) → measure-sons-lts.Need-link-at-requires (
-  start-of-reads.Asked,
-  start-of-reads.Learnt,
-  link-at-reads.Asked,
-  link-at-reads.Learnt,
-  measure-group-below t,
-  measure-group.Post,
-  put-pair-reads.Asked,
-  put-pair-reads.Learnt,
-  pair-at-reads.Asked,
-  pair-at-reads.Learnt,
-  join-son-reads.Asked,
-  join-son-reads.Learnt,
-) (measure-sons-at t) measure-sons.Post measure-sons-Inv-loop measure-sons-μ-loop
-measure-sons-link-at-requires t c κs =
-    let s = c .before .before .before .before .before .before .before in
-    let a = s .args in
-    let r = s .pre .1 .0 in
-    let g = s .pre .1 .1 .1 in
-    omega (arith, size-in (a .groups .now) (a .size))
+  abbrev group-below : In 6 measure-group-kinds.ps
+  group-below = and 6 measure-group-kinds.ps (falls 6 measure-group-kinds.ps _<_ μ-measure-group t) measure-group.Pre
 
-measure-sons-loop-holds : (t : ℕ) → measure-sons-lts.Need-loop-holds (
-  start-of-reads.Asked,
-  start-of-reads.Learnt,
-  link-at-reads.Asked,
-  link-at-reads.Learnt,
-  measure-group-below t,
-  measure-group.Post,
-  put-pair-reads.Asked,
-  put-pair-reads.Learnt,
-  pair-at-reads.Asked,
-  pair-at-reads.Learnt,
-  join-son-reads.Asked,
-  join-son-reads.Learnt,
-) (measure-sons-at t) measure-sons.Post measure-sons-Inv-loop measure-sons-μ-loop
-measure-sons-loop-holds t c =
-    let s = c .before .before .before .before .before .before .before .before in
-    let a = s .args in
-    let r = s .pre .1 .0 in
-    let g = s .pre .1 .1 .1 in (
-      refl,
-      refl,
-      at-last (a .groups .now) (a .size) (a .flags .now) (a .last .now) (a .prev .now) r (a .g .0) g
-          _ _ _ _ (c .link-at .ensures) (c .before .start-of .ensures),
-    )
+  abbrev sons-at : In 6 measure-sons-kinds.ps
+  sons-at = and 6 measure-sons-kinds.ps (is 6 measure-sons-kinds.ps μ-measure-sons t) measure-sons.Pre
 
-measure-sons-measure-group-requires : (t : ℕ) → measure-sons-lts.Need-measure-group-requires (
-  start-of-reads.Asked,
-  start-of-reads.Learnt,
-  link-at-reads.Asked,
-  link-at-reads.Learnt,
-  measure-group-below t,
-  measure-group.Post,
-  put-pair-reads.Asked,
-  put-pair-reads.Learnt,
-  pair-at-reads.Asked,
-  pair-at-reads.Learnt,
-  join-son-reads.Asked,
-  join-son-reads.Learnt,
-) (measure-sons-at t) measure-sons.Post measure-sons-Inv-loop measure-sons-μ-loop
-measure-sons-measure-group-requires t c κs =
-    let e = c .before .before in
-    let l = e .before .before in
-    let s = l .before .before .before .before .before .before .before .before .before in
-    let a = s .args in
-    let r = s .pre .1 .0 in
-    let g = s .pre .1 .1 .1 in
-    let k = l .loop .inv .2 .chain (omega (arith, e .if1 .taken)) in (
-      omega (arith, size-in (a .groups .now) (a .size), r .long .tree .before _ (k .group)),
-      (r, (record { spans-long = omega arith; after-long = omega arith }, k .group)),
-    )
+  abbrev sons-below : In 6 measure-sons-kinds.ps
+  sons-below = and 6 measure-sons-kinds.ps (falls 6 measure-sons-kinds.ps _<_ μ-measure-sons t) measure-sons.Pre
 
-measure-sons-put-pair-requires : (t : ℕ) → measure-sons-lts.Need-put-pair-requires (
-  start-of-reads.Asked,
-  start-of-reads.Learnt,
-  link-at-reads.Asked,
-  link-at-reads.Learnt,
-  measure-group-below t,
-  measure-group.Post,
-  put-pair-reads.Asked,
-  put-pair-reads.Learnt,
-  pair-at-reads.Asked,
-  pair-at-reads.Learnt,
-  join-son-reads.Asked,
-  join-son-reads.Learnt,
-) (measure-sons-at t) measure-sons.Post measure-sons-Inv-loop measure-sons-μ-loop
-measure-sons-put-pair-requires t c κs =
-    let m = c .before .before .before .before .before in
-    let e = m .before .before .before in
-    let l = e .before .before in
-    let s = l .before .before .before .before .before .before .before .before .before in
-    let a = s .args in
-    let r = s .pre .1 .0 in
-    let g = s .pre .1 .1 .1 in
-    let k = l .loop .inv .2 .chain (omega (arith, e .if1 .taken)) in
-    omega (arith, size-in (a .groups .now) (a .size))
+  -- what the callees ask and leave
+  abbrev group-claims : measure-group-lts.Claims
+  group-claims = (
+    sons-below,
+    measure-sons.Post,
+    finish-reads.Asked,
+    finish-reads.Learnt,
+    put-pair-reads.Asked,
+    put-pair-reads.Learnt,
+  )
 
-measure-sons-pair-at-requires : (t : ℕ) → measure-sons-lts.Need-pair-at-requires (
-  start-of-reads.Asked,
-  start-of-reads.Learnt,
-  link-at-reads.Asked,
-  link-at-reads.Learnt,
-  measure-group-below t,
-  measure-group.Post,
-  put-pair-reads.Asked,
-  put-pair-reads.Learnt,
-  pair-at-reads.Asked,
-  pair-at-reads.Learnt,
-  join-son-reads.Asked,
-  join-son-reads.Learnt,
-) (measure-sons-at t) measure-sons.Post measure-sons-Inv-loop measure-sons-μ-loop
-measure-sons-pair-at-requires t c κs =
-    let put = c .before .before .before in
-    let m = put .before .before .before .before .before .before in
-    let e = m .before .before .before in
-    let l = e .before .before in
-    let s = l .before .before .before .before .before .before .before .before .before in
-    let a = s .args in
-    let r = s .pre .1 .0 in
-    let g = s .pre .1 .1 .1 in
-    let k = l .loop .inv .2 .chain (omega (arith, e .if1 .taken)) in
-    omega (arith, size-in (a .groups .now) (a .size), m .measure-group .kept .1 .1 .1 .1 .1 .0)
+  abbrev sons-claims : measure-sons-lts.Claims
+  sons-claims = (
+    start-of-reads.Asked,
+    start-of-reads.Learnt,
+    link-at-reads.Asked,
+    link-at-reads.Learnt,
+    group-below,
+    measure-group.Post,
+    put-pair-reads.Asked,
+    put-pair-reads.Learnt,
+    pair-at-reads.Asked,
+    pair-at-reads.Learnt,
+    join-son-reads.Asked,
+    join-son-reads.Learnt,
+  )
 
-measure-sons-join-son-requires : (t : ℕ) → measure-sons-lts.Need-join-son-requires (
-  start-of-reads.Asked,
-  start-of-reads.Learnt,
-  link-at-reads.Asked,
-  link-at-reads.Learnt,
-  measure-group-below t,
-  measure-group.Post,
-  put-pair-reads.Asked,
-  put-pair-reads.Learnt,
-  pair-at-reads.Asked,
-  pair-at-reads.Learnt,
-  join-son-reads.Asked,
-  join-son-reads.Learnt,
-) (measure-sons-at t) measure-sons.Post measure-sons-Inv-loop measure-sons-μ-loop
-measure-sons-join-son-requires t c κs =
-    let put = c .before .before .before .before in
-    let m = put .before .before .before .before .before .before in
-    let e = m .before .before .before in
-    let l = e .before .before in
-    let s = l .before .before .before .before .before .before .before .before .before in
-    let a = s .args in
-    let r = s .pre .1 .0 in
-    let g = s .pre .1 .1 .1 in
-    let k = l .loop .inv .2 .chain (omega (arith, e .if1 .taken)) in
-    let b : (j : ℕ) → getD (a .groups .now) j 0 ≤ noEnd =
-    λ j. let h = l .before .before .before .before .before .before .before .before .shared-slice-known .given j in omega arith in (
-      r .long .groups-long,
-      (
-        g,
+  measure-group-measure-sons-requires : measure-group-lts.Need-measure-sons-requires group-claims group-at measure-group.Post
+  measure-group-measure-sons-requires c κs =
+      let s = c .before .before .before .before .before .before .before .before in
+      (omega arith, s .pre .1)
+
+  measure-group-finish-requires : measure-group-lts.Need-finish-requires group-claims group-at measure-group.Post
+  measure-group-finish-requires c κs =
+      let m = c .before .before .before .before .before in
+      let s = m .before .before .before .before .before .before .before .before .before in
+      let r = s .pre .1 .0 .long in
+      ((r .tabled .long, r .flags-long), s .pre .1 .1 .1)
+
+  measure-group-put-pair-requires : measure-group-lts.Need-put-pair-requires group-claims group-at measure-group.Post
+  measure-group-put-pair-requires c κs =
+      let m = c .before .before .before .before .before .before in
+      let s = m .before .before .before .before .before .before .before .before .before in
+      let g = s .pre .1 .1 .1 in
+      omega (
+        arith,
+        size-in (s .args .groups .now) (s .args .size),
+        s .pre .1 .1 .0 .spans-long,
+        m .measure-sons .kept .1 .1 .1 .1 .1 .0,
+      )
+
+  measure-group-same-length : measure-group-lts.Need-same-length group-claims group-at measure-group.Post
+  measure-group-same-length c =
+      let m = c .before .before .before .before .before .before .before .before .before in
+      c .before .before .put-pair .kept .0 ∙ m .measure-sons .kept .1 .1 .1 .1 .1 .0
+
+  measure-group-same-length-2 : measure-group-lts.Need-same-length-2 group-claims group-at measure-group.Post
+  measure-group-same-length-2 c =
+      let m = c .before .before .before .before .before .before .before .before .before in
+      m .measure-sons .kept .1 .1 .1 .1 .1 .1 .0
+
+  measure-group-returns : measure-group-lts.Need-returns group-claims group-at measure-group.Post
+  measure-group-returns c =
+      let f = c .before .before .before in
+      let m = f .before .before .before .before .before .before in
+      let s = m .before .before .before .before .before .before .before .before .before in
+      let d = m .measure-sons .ensures in
+      let z = finished (s .pre .1 .0) (s .pre .1 .1 .1)
+      (pairOf (m .measure-sons .result)) (d .1) (pairOf (f .finish .result)) (f .finish .ensures) in
+      let p = put-alike z (c .before .before .put-pair .ensures) in
+      (done-put (d .0) p, p .put)
+
+  measure-sons-start-of-requires : measure-sons-lts.Need-start-of-requires sons-claims sons-at measure-sons.Post
+      measure-sons-Inv-loop measure-sons-μ-loop
+  measure-sons-start-of-requires c κs =
+      let s = c .before .before .before .before .before .before in
+      let r = s .pre .1 .0 in
+      ((r .long .tabled .long, r .long .last-long, r .long .prev-long), (s .pre .1 .1 .1, r .links))
+
+  measure-sons-link-at-requires : measure-sons-lts.Need-link-at-requires sons-claims sons-at measure-sons.Post
+      measure-sons-Inv-loop measure-sons-μ-loop
+  measure-sons-link-at-requires c κs =
+      let s = c .before .before .before .before .before .before .before in
+      omega (arith, size-in (s .args .groups .now) (s .args .size), s .pre .1 .1 .1 .last, s .pre .1 .0 .long .last-long)
+
+  measure-sons-loop-holds : measure-sons-lts.Need-loop-holds sons-claims sons-at measure-sons.Post
+      measure-sons-Inv-loop measure-sons-μ-loop
+  measure-sons-loop-holds c =
+      let s = c .before .before .before .before .before .before .before .before in
+      (refl, refl, at-last (s .pre .1 .0) (s .pre .1 .1 .1) _ _ _ _ (c .link-at .ensures) (c .before .start-of .ensures))
+
+  measure-sons-measure-group-requires : measure-sons-lts.Need-measure-group-requires sons-claims sons-at measure-sons.Post
+      measure-sons-Inv-loop measure-sons-μ-loop
+  measure-sons-measure-group-requires c κs =
+      let e = c .before .before in
+      let l = e .before .before in
+      let s = l .before .before .before .before .before .before .before .before .before in
+      let k = l .loop .inv .2 .chain (omega (arith, e .if1 .taken)) in
+      let r = s .pre .1 .0 in (
+        omega (arith, size-in (s .args .groups .now) (s .args .size), r .long .tabled .tree .before _ (k .group)),
+        (r, (record { spans-long = omega arith; after-long = omega arith }, k .group)),
+      )
+
+  measure-sons-put-pair-requires : measure-sons-lts.Need-put-pair-requires sons-claims sons-at measure-sons.Post
+      measure-sons-Inv-loop measure-sons-μ-loop
+  measure-sons-put-pair-requires c κs =
+      let e = c .before .before .before .before .before .before .before .before in
+      let l = e .before .before in
+      let s = l .before .before .before .before .before .before .before .before .before in
+      let k = l .loop .inv .2 .chain (omega (arith, e .if1 .taken)) in
+      omega (arith, size-in (s .args .groups .now) (s .args .size))
+
+  measure-sons-pair-at-requires : measure-sons-lts.Need-pair-at-requires sons-claims sons-at measure-sons.Post
+      measure-sons-Inv-loop measure-sons-μ-loop
+  measure-sons-pair-at-requires c κs =
+      let m = c .before .before .before .before .before .before .before .before .before in
+      let e = m .before .before .before in
+      let l = e .before .before in
+      let s = l .before .before .before .before .before .before .before .before .before in
+      let k = l .loop .inv .2 .chain (omega (arith, e .if1 .taken)) in
+      omega (arith, size-in (s .args .groups .now) (s .args .size), m .measure-group .kept .1 .1 .1 .1 .1 .0)
+
+  measure-sons-join-son-requires : measure-sons-lts.Need-join-son-requires sons-claims sons-at measure-sons.Post
+      measure-sons-Inv-loop measure-sons-μ-loop
+  measure-sons-join-son-requires c κs =
+      let m = c .before .before .before .before .before .before .before .before .before .before in
+      let e = m .before .before .before in
+      let l = e .before .before in
+      let s = l .before .before .before .before .before .before .before .before .before in
+      let k = l .loop .inv .2 .chain (omega (arith, e .if1 .taken)) in
+      let r = s .pre .1 .0 in
+      let b : (j : ℕ) → getD (s .args .groups .now) j 0 ≤ noEnd =
+      λ j. let h = l .before .before .before .before .before .before .before .before .shared-slice-known .given j in omega arith in (
+        r .long .tabled .long,
         (
-          room-sum (a .groups .now) (a .size) (a .flags .now) (a .last .now) (a .prev .now) r (a .g .0) g b
-              _ _ _ _ _ _ (l .loop .inv .2),
-          room-son (a .groups .now) (a .size) (a .flags .now) (a .last .now) (a .prev .now) r (a .g .0) g b
-              _ _ _ (k .group) (c .pair-at .ensures) (m .measure-group .ensures .1),
+          s .pre .1 .1 .1,
+          (
+            room-sum r (s .pre .1 .1 .1) b (l .loop .inv .2),
+            room-son r (s .pre .1 .1 .1) b _ (k .group) (c .pair-at .ensures) (m .measure-group .ensures .1),
+          ),
         ),
-      ),
-    )
+      )
 
-measure-sons-link-at-requires-2 : (t : ℕ) → measure-sons-lts.Need-link-at-requires-2 (
-  start-of-reads.Asked,
-  start-of-reads.Learnt,
-  link-at-reads.Asked,
-  link-at-reads.Learnt,
-  measure-group-below t,
-  measure-group.Post,
-  put-pair-reads.Asked,
-  put-pair-reads.Learnt,
-  pair-at-reads.Asked,
-  pair-at-reads.Learnt,
-  join-son-reads.Asked,
-  join-son-reads.Learnt,
-) (measure-sons-at t) measure-sons.Post measure-sons-Inv-loop measure-sons-μ-loop
-measure-sons-link-at-requires-2 t c κs =
-    let put = c .before .before .before .before .before in
-    let m = put .before .before .before .before .before .before in
-    let e = m .before .before .before in
-    let l = e .before .before in
-    let s = l .before .before .before .before .before .before .before .before .before in
-    let a = s .args in
-    let r = s .pre .1 .0 in
-    let g = s .pre .1 .1 .1 in
-    let k = l .loop .inv .2 .chain (omega (arith, e .if1 .taken)) in
-    omega (arith, size-in (a .groups .now) (a .size))
+  measure-sons-link-at-requires-2 : measure-sons-lts.Need-link-at-requires-2 sons-claims sons-at measure-sons.Post
+      measure-sons-Inv-loop measure-sons-μ-loop
+  measure-sons-link-at-requires-2 c κs =
+      let e =
+      c .before .before .before .before .before .before .before .before .before .before .before .before .before .before in
+      let l = e .before .before in
+      let s = l .before .before .before .before .before .before .before .before .before in
+      let k = l .loop .inv .2 .chain (omega (arith, e .if1 .taken)) in
+      omega (arith, size-in (s .args .groups .now) (s .args .size))
 
-measure-sons-loop-less : (t : ℕ) → measure-sons-lts.Need-loop-less (
-  start-of-reads.Asked,
-  start-of-reads.Learnt,
-  link-at-reads.Asked,
-  link-at-reads.Learnt,
-  measure-group-below t,
-  measure-group.Post,
-  put-pair-reads.Asked,
-  put-pair-reads.Learnt,
-  pair-at-reads.Asked,
-  pair-at-reads.Learnt,
-  join-son-reads.Asked,
-  join-son-reads.Learnt,
-) (measure-sons-at t) measure-sons.Post measure-sons-Inv-loop measure-sons-μ-loop
-measure-sons-loop-less t c =
-    let put = c .before .before .before .before .before .before in
-    let m = put .before .before .before .before .before .before in
-    let e = m .before .before .before in
-    let l = e .before .before in
-    let s = l .before .before .before .before .before .before .before .before .before in
-    let a = s .args in
-    let r = s .pre .1 .0 in
-    let g = s .pre .1 .1 .1 in
-    omega (
-      arith,
-      c .link-at2 .ensures,
-      next-less (a .groups .now) (a .size) (a .last .now) (a .prev .now) (r .links) (a .g .0) g
-          (l .loop .i .0) (l .loop .inv .2 .chain) (omega (arith, e .if1 .taken)),
-    )
+  measure-sons-loop-less : measure-sons-lts.Need-loop-less sons-claims sons-at measure-sons.Post
+      measure-sons-Inv-loop measure-sons-μ-loop
+  measure-sons-loop-less c =
+      let e =
+      c .before .before .before .before .before .before .before .before .before .before .before .before .before .before .before in
+      let l = e .before .before in
+      let s = l .before .before .before .before .before .before .before .before .before in
+      omega (
+        arith,
+        c .link-at2 .ensures,
+        next-less _ _ _ _ (s .pre .1 .0 .links) _ (s .pre .1 .1 .1) _ (l .loop .inv .2 .chain) (omega (arith, e .if1 .taken)),
+      )
 
-measure-sons-loop-again : (t : ℕ) → measure-sons-lts.Need-loop-again (
-  start-of-reads.Asked,
-  start-of-reads.Learnt,
-  link-at-reads.Asked,
-  link-at-reads.Learnt,
-  measure-group-below t,
-  measure-group.Post,
-  put-pair-reads.Asked,
-  put-pair-reads.Learnt,
-  pair-at-reads.Asked,
-  pair-at-reads.Learnt,
-  join-son-reads.Asked,
-  join-son-reads.Learnt,
-) (measure-sons-at t) measure-sons.Post measure-sons-Inv-loop measure-sons-μ-loop
-measure-sons-loop-again t c =
-    let put = c .before .before .before .before .before .before in
-    let m = put .before .before .before .before .before .before in
-    let e = m .before .before .before in
-    let l = e .before .before in
-    let s = l .before .before .before .before .before .before .before .before .before in
-    let a = s .args in
-    let r = s .pre .1 .0 in
-    let g = s .pre .1 .1 .1 in (
-      m .measure-group .kept .1 .1 .1 .1 .1 .0 ∙ l .loop .inv .0,
-      put .put-pair .kept .0 ∙ m .measure-group .kept .1 .1 .1 .1 .1 .1 .0 ∙ l .loop .inv .1,
-      at-next (a .groups .now) (a .size) (a .flags .now) (a .last .now) (a .prev .now) r (a .g .0) g
-          _ _ _ (pairOf (c .before .join-son .result)) (pairOf (c .before .before .pair-at .result)) _ _ _ _ _ _ _
-          (l .loop .inv .2) (omega (arith, e .if1 .taken)) (m .measure-group .ensures .0) (m .measure-group .ensures .1)
-          (put .put-pair .ensures) (c .before .before .pair-at .ensures) (c .before .join-son .ensures) (c .link-at2 .ensures),
-    )
+  measure-sons-loop-again : measure-sons-lts.Need-loop-again sons-claims sons-at measure-sons.Post
+      measure-sons-Inv-loop measure-sons-μ-loop
+  measure-sons-loop-again c =
+      let put = c .before .before .before .before .before .before in
+      let m = put .before .before .before .before .before .before in
+      let e = m .before .before .before in
+      let l = e .before .before in
+      let s = l .before .before .before .before .before .before .before .before .before in (
+        m .measure-group .kept .1 .1 .1 .1 .1 .0 ∙ l .loop .inv .0,
+        put .put-pair .kept .0 ∙ m .measure-group .kept .1 .1 .1 .1 .1 .1 .0 ∙ l .loop .inv .1,
+        at-next (s .pre .1 .0) (s .pre .1 .1 .1)
+            (pairOf (c .before .join-son .result)) (pairOf (c .before .before .pair-at .result))
+            (l .loop .inv .2) (omega (arith, e .if1 .taken)) (m .measure-group .ensures .0) (m .measure-group .ensures .1)
+            (put .put-pair .ensures) (c .before .before .pair-at .ensures) (c .before .join-son .ensures) (c .link-at2 .ensures),
+      )
 
-measure-sons-same-length : (t : ℕ) → measure-sons-lts.Need-same-length (
-  start-of-reads.Asked,
-  start-of-reads.Learnt,
-  link-at-reads.Asked,
-  link-at-reads.Learnt,
-  measure-group-below t,
-  measure-group.Post,
-  put-pair-reads.Asked,
-  put-pair-reads.Learnt,
-  pair-at-reads.Asked,
-  pair-at-reads.Learnt,
-  join-son-reads.Asked,
-  join-son-reads.Learnt,
-) (measure-sons-at t) measure-sons.Post measure-sons-Inv-loop measure-sons-μ-loop
-measure-sons-same-length t c = c .before .before .loop .inv .0
+  measure-sons-same-length : measure-sons-lts.Need-same-length sons-claims sons-at measure-sons.Post
+      measure-sons-Inv-loop measure-sons-μ-loop
+  measure-sons-same-length c = c .before .before .loop .inv .0
 
-measure-sons-same-length-2 : (t : ℕ) → measure-sons-lts.Need-same-length-2 (
-  start-of-reads.Asked,
-  start-of-reads.Learnt,
-  link-at-reads.Asked,
-  link-at-reads.Learnt,
-  measure-group-below t,
-  measure-group.Post,
-  put-pair-reads.Asked,
-  put-pair-reads.Learnt,
-  pair-at-reads.Asked,
-  pair-at-reads.Learnt,
-  join-son-reads.Asked,
-  join-son-reads.Learnt,
-) (measure-sons-at t) measure-sons.Post measure-sons-Inv-loop measure-sons-μ-loop
-measure-sons-same-length-2 t c = c .before .before .loop .inv .1
+  measure-sons-same-length-2 : measure-sons-lts.Need-same-length-2 sons-claims sons-at measure-sons.Post
+      measure-sons-Inv-loop measure-sons-μ-loop
+  measure-sons-same-length-2 c = c .before .before .loop .inv .1
 
-measure-sons-returns : (t : ℕ) → measure-sons-lts.Need-returns (
-  start-of-reads.Asked,
-  start-of-reads.Learnt,
-  link-at-reads.Asked,
-  link-at-reads.Learnt,
-  measure-group-below t,
-  measure-group.Post,
-  put-pair-reads.Asked,
-  put-pair-reads.Learnt,
-  pair-at-reads.Asked,
-  pair-at-reads.Learnt,
-  join-son-reads.Asked,
-  join-son-reads.Learnt,
-) (measure-sons-at t) measure-sons.Post measure-sons-Inv-loop measure-sons-μ-loop
-measure-sons-returns t c =
-    let l = c .before .before in
-    let s = l .before .before .before .before .before .before .before .before .before in
-    let a = s .args in
-    let r = s .pre .1 .0 in
-    let g = s .pre .1 .1 .1 in
-    at-end (a .groups .now) (a .size) (a .flags .now) (a .last .now) (a .prev .now) r (a .g .0) g
-    _ _ _ _ _ _ (l .loop .inv .2) (c .if1 .left)
+  measure-sons-returns : measure-sons-lts.Need-returns sons-claims sons-at measure-sons.Post
+      measure-sons-Inv-loop measure-sons-μ-loop
+  measure-sons-returns c =
+      let l = c .before .before in
+      let s = l .before .before .before .before .before .before .before .before .before in
+      at-end (s .pre .1 .0) (s .pre .1 .1 .1) (l .loop .inv .2) (c .if1 .left)
 
 pub +measure-group+measure-sons-spec : {M : Type 1} → statement M
 +measure-group+measure-sons-spec =
-    close μ-measure-group μ-measure-sons (λ t. measure-group-lts.spec (
-      measure-sons-below t,
-      measure-sons.Post,
-      finish-reads.Asked,
-      finish-reads.Learnt,
-      put-pair-reads.Asked,
-      put-pair-reads.Learnt,
-    )
-    (measure-group-at t)
+    close μ-measure-group μ-measure-sons (λ t. measure-group-lts.spec (group-claims t)
+    (group-at t)
     measure-group.Post
     (measure-group-measure-sons-requires t)
     (measure-group-finish-requires t)
@@ -498,21 +264,8 @@ pub +measure-group+measure-sons-spec : {M : Type 1} → statement M
     (measure-group-same-length t)
     (measure-group-same-length-2 t)
     (measure-group-returns t))
-    λ t. measure-sons-lts.spec (
-      start-of-reads.Asked,
-      start-of-reads.Learnt,
-      link-at-reads.Asked,
-      link-at-reads.Learnt,
-      measure-group-below t,
-      measure-group.Post,
-      put-pair-reads.Asked,
-      put-pair-reads.Learnt,
-      pair-at-reads.Asked,
-      pair-at-reads.Learnt,
-      join-son-reads.Asked,
-      join-son-reads.Learnt,
-    )
-    (measure-sons-at t)
+    λ t. measure-sons-lts.spec (sons-claims t)
+    (sons-at t)
     measure-sons.Post
     measure-sons-Inv-loop
     measure-sons-μ-loop

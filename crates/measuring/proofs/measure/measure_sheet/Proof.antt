@@ -12,19 +12,17 @@ measure-group-requires : tie.Need-measure-group-requires
 measure-group-requires c κs =
     let k = c .before .before .before .before .before .before .before .before in
     let s = k .before .before .before .before .before .before .before .before .before in
-    let g = s .pre .0 .0 in (
+    let g = s .pre .0 in (
       record {
         long = record {
-          small = g .small;
-          groups-long = g .groups-long;
+          tabled = g .tabled;
           flags-long = g .flags-long;
           last-long = omega (arith, k .link-sons .kept .1 .1 .0);
           prev-long = omega (arith, k .link-sons .kept .1 .1 .1 .0);
-          tree = g .tree;
         };
         links = k .link-sons .ensures;
       },
-      (s .pre .1, s .pre .0 .1 .one),
+      (s .pre .1, g .tabled .rooted .one),
     )
 
 same-length : tie.Need-same-length
@@ -44,7 +42,8 @@ returns c =
     let m = c .before .before .before .before in
     let k = m .before .before .before .before .before .before .before .before .before in
     let s = k .before .before .before .before .before .before .before .before .before in
-    all-done _ _ _ _ _ _ (s .pre .0 .0 .tree) (s .pre .0 .1) (m .measure-group .ensures .0) (m .measure-group .ensures .1)
+    let g = s .pre .0 .tabled in
+    all-done _ _ _ _ _ _ (g .tree) (g .rooted) (m .measure-group .ensures .0) (m .measure-group .ensures .1)
 
 pub measure-sheet-spec : {M : Type 1} → statement M
 measure-sheet-spec =

@@ -2,7 +2,7 @@
 use native.Mathlib.Omega.{arith}
 use mathlib.Core.Path.{sym, ap, _∙_}
 use Rattle.sizes.specs.Fold as fold
-use Rattle.measuring.specs.Tables.{size-in}
+use Rattle.reading.specs.SheetIn.{size-in}
 use Rattle.measuring.specs.LinksLaws.{last-most}
 use Rattle.measuring.specs.DoneLaws.{shut-linked}
 use borrow.Author.Needs.{needs}

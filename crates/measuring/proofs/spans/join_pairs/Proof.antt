@@ -1,8 +1,9 @@
 -- `join_pairs` meets its contract, kind by kind.
 use mathlib.Core.Bool.{true, false}
-use mathlib.Core.Path.{sym, _∙_}
+use mathlib.Core.Path.{_∙_}
 use Rattle.sizes.specs.Fold as fold
-use Rattle.measuring.specs.HeldLaws.{both, join-eq-meet}
+use Rattle.sizes.specs.SpanLaws.{meet-join}
+use Rattle.measuring.specs.HeldLaws.{both}
 use borrow.Author.Needs.{needs}
 use Rattle.measuring.proofs.spans.join_pairs.Statement.{statement}
 use Rattle.measuring.proofs.spans.join_pairs.Tie as tie
@@ -35,7 +36,7 @@ returns-3 : tie.Need-returns-3
 unfolding fold.joined
 returns-3 c =
     rw (c .before .enum-told3 .given .1)
-    (both _ _ (c .meet-pairs .ensures false ∙ sym (join-eq-meet _ _)) (c .meet-pairs .ensures true ∙ sym (join-eq-meet _ _)))
+    (both _ _ (c .meet-pairs .ensures false ∙ meet-join _ _) (c .meet-pairs .ensures true ∙ meet-join _ _))
 
 pub join-pairs-spec : {M : Type 1} → statement M
 join-pairs-spec =

@@ -10,7 +10,7 @@ less-one-requires : tie.Need-less-one-requires
 less-one-requires c κs = search needs
 
 returns : tie.Need-returns
-returns c = own-in-endless _ _ _ (omega arith) (c .less-one .ensures .0) (c .before .if1 .taken)
+returns c = own-in-endless _ _ _ (omega arith) (c .less-one .ensures) (c .before .if1 .taken)
 
 nothing-requires : tie.Need-nothing-requires
 nothing-requires c κs = search needs
@@ -26,7 +26,7 @@ less-one-requires-3 c κs = search needs
 
 returns-3 : tie.Need-returns-3
 returns-3 c =
-    own-in-finite _ _ _ _ (omega arith) (omega arith) (c .before .less-one2 .ensures .0) (c .less-one3 .ensures .0)
+    own-in-finite _ _ _ _ (omega arith) (omega arith) (c .before .less-one2 .ensures) (c .less-one3 .ensures)
     (c .before .before .before .if1 .left) (c .before .before .if2 .left)
 
 pub own-in-spec : {M : Type 1} → statement M

@@ -5,10 +5,10 @@ use native.Mathlib.Omega.{arith}
 use lib.ListN.{length, length-set}
 use lib.Seq.{getD-set-same}
 use Rattle.meaning.specs.Arranged.{Arranged}
-use Rattle.measuring.specs.Tables.{sheetIn, size-in}
+use Rattle.reading.specs.SheetIn.{sheetIn, size-in}
 use Rattle.runs.specs.Told.{numberIn}
 use Rattle.ranging.specs.Tables.{leastIn, greatestIn}
-use Rattle.ranging.specs.Sized.{Sized, sized-root}
+use Rattle.ranging.specs.Sized.{SizedTo, sized-root}
 use borrow.Author.Needs.{needs}
 use Rattle.ranging.proofs.arrange.size_groups.Statement.{statement}
 use Rattle.ranging.proofs.arrange.size_groups.Tie as tie
@@ -17,7 +17,7 @@ abbrev Inv-loop : tie.InvT-loop
 Inv-loop groups size spans after sizes₀ left₀ i₀ sizes left i =
     (1 ≤ i) × (i ≤ size) × (length sizes ≡ length sizes₀) × (length left ≡ length left₀)
     × ((first f : ℕ → ℕ) → Arranged (sheetIn groups size) (leastIn spans) (greatestIn spans) first f
-    → Sized (sheetIn groups size) f (numberIn sizes) (numberIn left) i)
+    → SizedTo (sheetIn groups size) f (numberIn sizes) (numberIn left) i)
 
 abbrev μ-loop : tie.MeasureT-loop
 μ-loop groups size spans after sizes₀ left₀ i₀ sizes left i = size - i
@@ -34,7 +34,7 @@ slice-write-left c = search needs
 loop-holds : tie.Need-loop-holds Inv-loop μ-loop
 loop-holds c =
     let s = c .before .before .before .before .before .before in
-    let k = s .pre .0 .rooting in
+    let k = s .pre .0 .tabled in
     let root = c .out-at .ensures .least in (
       search needs,
       search needs,

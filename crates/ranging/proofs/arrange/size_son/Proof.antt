@@ -1,27 +1,18 @@
 -- `size_son` meets its contract: one turn.
-use Prim.Native.Nat.{_≤_, _<_}
 use mathlib.Core.Path.{refl}
-use Rattle.ranging.specs.Narrowed.{parent-below}
 use Rattle.ranging.specs.Sized.{size-step}
 use borrow.Author.Needs.{needs}
 use Rattle.ranging.proofs.arrange.size_son.Statement.{statement}
 use Rattle.ranging.proofs.arrange.size_son.Tie as tie
 
--- the parent's number is below the son's
-son : (c : tie.After-parent-of)
-    → (1 ≤ c .parent-of .result) × (c .parent-of .result < c .before .before .before .before .before .before .args .g .0)
-son c =
-    let s = c .before .before .before .before .before .before in
-    parent-below (s .pre .0 .rooting) _ _ (s .pre .1 .1 .0) (s .pre .1 .1 .1) (c .parent-of .ensures)
-
-parent-of-requires : tie.Need-parent-of-requires
-parent-of-requires c κs = search needs
+parent-group-requires : tie.Need-parent-group-requires
+parent-group-requires c κs = search needs
 
 size-of-requires : tie.Need-size-of-requires
-size-of-requires c κs = let k = son (c .before .before) in search needs
+size-of-requires c κs = search needs
 
 put-size-requires : tie.Need-put-size-requires
-put-size-requires c κs = let k = son (c .before .before .before .before .before) in search needs
+put-size-requires c κs = search needs
 
 same-length : tie.Need-same-length
 same-length c = search needs
@@ -35,14 +26,14 @@ returns c =
     let found = put .before .before .before in
     let up = found .before .before .before in
     let s = up .before .before .before .before .before .before in
-    size-step (s .pre .0) _ _ _ (s .pre .1 .1 .0) (s .pre .1 .1 .1) (up .parent-of .ensures) _ refl (found .size-of .ensures)
+    size-step (s .pre .0) _ _ _ (up .parent-group .ensures .0) _ refl (found .size-of .ensures)
     (put .put-size .ensures)
 
 pub size-son-spec : {M : Type 1} → statement M
 size-son-spec =
     tie.close
     (tie.spec
-    parent-of-requires
+    parent-group-requires
     size-of-requires
     put-size-requires
     same-length

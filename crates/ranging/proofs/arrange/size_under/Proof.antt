@@ -1,8 +1,9 @@
 -- `size_under` meets its contract, mode by mode.
-use mathlib.Core.Path.{_∙_}
+use mathlib.Core.Path.{sym, _∙_}
 use native.Mathlib.Omega.{arith}
 use borrow.Author.Tests.{eq-eqb, ne-eqb}
-use Rattle.ranging.specs.Sized.{sizeBy, cap-top}
+use Rattle.measuring.specs.HeldLaws.{cap-top}
+use Rattle.ranging.specs.Sized.{sizeBy}
 use borrow.Author.Needs.{needs}
 use Rattle.ranging.proofs.arrange.size_under.Statement.{statement}
 use Rattle.ranging.proofs.arrange.size_under.Tie as tie
@@ -22,7 +23,7 @@ returns-2 c =
       eq-eqb _ _ (c .before .before .if2 .taken),
       eq-eqb _ _ (c .before .if3 .taken),
     )
-    (c .smaller .ensures ∙ cap-top _ _ (omega arith))
+    (c .smaller .ensures ∙ sym (cap-top _ _ (omega arith)))
 
 smaller-requires-2 : tie.Need-smaller-requires-2
 smaller-requires-2 c κs = search needs
@@ -35,7 +36,7 @@ returns-3 c =
       eq-eqb _ _ (c .before .before .if2 .taken),
       ne-eqb _ _ (c .before .if3 .left),
     )
-    (c .smaller2 .ensures ∙ cap-top _ _ (omega arith))
+    (c .smaller2 .ensures ∙ sym (cap-top _ _ (omega arith)))
 
 returns-4 : tie.Need-returns-4
 unfolding sizeBy

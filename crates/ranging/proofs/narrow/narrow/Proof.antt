@@ -5,7 +5,7 @@ use mathlib.Core.Bool.{Bool}
 use native.Mathlib.Omega.{arith}
 use lib.ListN.{length}
 use Rattle.sizes.specs.Span.{Span}
-use Rattle.measuring.specs.Tables.{sheetIn, size-in}
+use Rattle.reading.specs.SheetIn.{sheetIn, size-in}
 use Rattle.ranging.specs.Tables.{spanIn, out-held}
 use borrow.Author.Needs.{needs}
 use Rattle.ranging.specs.Narrowed.{Measures, Narrowed, narrowed-root, narrowed-all}
@@ -40,8 +40,8 @@ loop-holds c =
       search needs,
       search needs,
       search needs,
-      λ z m. let root = out-held _ _ _ _ (read .out-at .ensures) ∙ m .spanned 1 (s .pre .0 .rooted .one) in
-          narrowed-root (s .pre .0 .tree) (s .pre .0 .rooted) (first .put-span .ensures .put ∙ root)
+      λ z m. let root = out-held _ _ _ _ (read .out-at .ensures) ∙ m .spanned 1 (s .pre .0 .0 .rooted .one) in
+          narrowed-root (s .pre .0 .0 .tree) (s .pre .0 .0 .rooted) (first .put-span .ensures .put ∙ root)
           (second .put-span2 .ensures .put ∙ root),
     )
 
@@ -76,7 +76,7 @@ returns c =
     let s = read .before .before .before .before .before .before in
     let e : l .i ≡ sheetIn (s .args .groups .now) (s .args .size) .size =
     omega (arith, size-in (s .args .groups .now) (s .args .size)) in
-    λ z m. narrowed-all (s .pre .0 .tree) (s .pre .0 .rooted) (rw e at (l .inv .4 z m))
+    λ z m. narrowed-all (s .pre .0 .0 .tree) (s .pre .0 .0 .rooted) (rw e at (l .inv .4 z m))
 
 pub narrow-spec : {M : Type 1} → statement M
 narrow-spec =

@@ -1,25 +1,18 @@
 -- `narrow_son` meets its contract: one turn.
-use Prim.Native.Nat.{_≤_, _<_}
 use mathlib.Core.Path.{ap, _∙_}
+use native.Mathlib.Omega.{arith}
 use Rattle.measuring.specs.Held.{modeKind}
 use Rattle.ranging.specs.Tables.{out-held}
-use Rattle.ranging.specs.Narrowed.{parent-below, narrow-step}
+use Rattle.ranging.specs.Narrowed.{narrow-step}
 use borrow.Author.Needs.{needs}
 use Rattle.ranging.proofs.narrow.narrow_son.Statement.{statement}
 use Rattle.ranging.proofs.narrow.narrow_son.Tie as tie
 
-parent-of-requires : tie.Need-parent-of-requires
-parent-of-requires c κs = search needs
-
--- the parent's number is below the son's
-son : (c : tie.After-parent-of)
-    → (1 ≤ c .parent-of .result) × (c .parent-of .result < c .before .before .before .before .before .before .args .g .0)
-son c =
-    let s = c .before .before .before .before .before .before in
-    parent-below (s .pre .0) _ _ (s .pre .1 .1 .0) (s .pre .1 .1 .1) (c .parent-of .ensures)
+parent-group-requires : tie.Need-parent-group-requires
+parent-group-requires c κs = search needs
 
 mode-of-requires : tie.Need-mode-of-requires
-mode-of-requires c κs = let k = son c in search needs
+mode-of-requires c κs = search needs
 
 kind-of-requires : tie.Need-kind-of-requires
 kind-of-requires c κs = search needs
@@ -31,7 +24,7 @@ out-at-requires-2 : tie.Need-out-at-requires-2
 out-at-requires-2 c κs = search needs
 
 span-at-requires : tie.Need-span-at-requires
-span-at-requires c κs = let k = son (c .before .before .before .before .before) in search needs
+span-at-requires c κs = search needs
 
 pull-requires : tie.Need-pull-requires
 pull-requires c κs = search needs
@@ -48,8 +41,8 @@ meet-requires-2 c κs = search needs
 put-turn-requires : tie.Need-put-turn-requires
 put-turn-requires c κs =
     let up = c .before .before .before .before .before .before .before .before .before .before .before .before in
-    let k = son up in
-    search needs
+    let s = up .before .before .before .before .before .before in
+    (up .parent-group .ensures .1, up .parent-group .ensures .2, omega (arith, s .pre .1), omega (arith, s .pre .1))
 
 same-length : tie.Need-same-length
 same-length c = search needs
@@ -67,7 +60,7 @@ returns c =
     let kind = others .before .before in
     let up = kind .before .before in
     let s = up .before .before .before .before .before .before in
-    narrow-step (s .pre .0) _ _ (s .pre .1 .1 .0) (s .pre .1 .1 .1) (up .parent-of .ensures)
+    narrow-step (s .pre .0 .0) _ _ (up .parent-group .ensures .0)
     (kind .kind-of .ensures ∙ ap modeKind (kind .before .mode-of .ensures))
     (out-held _ _ _ _ (others .before .out-at .ensures)) (out-held _ _ _ _ (others .out-at2 .ensures))
     (read .span-at .ensures) (meet1 .before .pull .ensures) (meet1 .meet .ensures)
@@ -77,7 +70,7 @@ pub narrow-son-spec : {M : Type 1} → statement M
 narrow-son-spec =
     tie.close
     (tie.spec
-    parent-of-requires
+    parent-group-requires
     mode-of-requires
     kind-of-requires
     out-at-requires

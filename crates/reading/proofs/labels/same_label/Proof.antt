@@ -1,4 +1,4 @@
--- `same_label` meets its contract: labels of one length are compared byte by byte.
+-- `same_label` meets its contract: labels of one length are compared by their bytes.
 use Prim.Native.Nat.{_-_}
 use mathlib.Core.Path.{_≡_, sym, _∙_}
 use native.Mathlib.Omega.{arith}

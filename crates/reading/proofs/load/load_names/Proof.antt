@@ -8,6 +8,7 @@ use borrow.Author.Needs.{needs}
 use native.Mathlib.Omega.{arith}
 use denote.Ref.{now}
 use lib.ListN.{length, drop, length-set}
+use Rattle.wire.specs.Edition.{editionOf, labelLimit}
 use Rattle.wire.specs.Bytes.{u16At}
 use Rattle.wire.specs.SheetFormat.{nameTests, nameOf}
 use Rattle.reading.specs.Meant.{meantNumber}
@@ -21,13 +22,13 @@ use Rattle.reading.proofs.load.load_names.Statement.{statement}
 use Rattle.reading.proofs.load.load_names.Tie as tie
 
 abbrev Inv-loop : tie.InvT-loop
-Inv-loop s from count groups names₀ labels₀ at₀ i₀ names labels at i = (i ≤ count) ×
+Inv-loop s from count edition groups names₀ labels₀ at₀ i₀ names labels at i = (i ≤ count) ×
     ((at ≤ length s) × (((length names ≡ length names₀) × (length labels ≡ length labels₀)) ×
-    (Left (nameTests groups) nameOf s from count (2 + groups) i at (recordsIn nameOf s labels i) ×
-    (AllGrouped s names labels i × AllPass (nameTests groups []) s labels i))))
+    (Left (nameTests (editionOf edition) groups) nameOf s from count (2 + groups) i at (recordsIn nameOf s labels i) ×
+    (AllGrouped s names labels i × AllPass (nameTests (editionOf edition) groups []) s labels i))))
 
 abbrev μ-loop : tie.MeasureT-loop
-μ-loop s from count groups names₀ labels₀ at₀ i₀ names labels at i = count - i
+μ-loop s from count edition groups names₀ labels₀ at₀ i₀ names labels at i = count - i
 
 -- the places of the loop's head, of its test and of the entry, seen from after a record was taken; and where that was
 abbrev head : tie.After-known-told Inv-loop μ-loop → tie.At-loop Inv-loop μ-loop
@@ -47,17 +48,17 @@ told c = c .before .before .before .before .before .before .before
 
 -- what the reader answers
 asked : (c : tie.After-read-name Inv-loop μ-loop) → let a = c .before .before .before .before .before .before .args in
-    Answered (nameTests (a .groups) []) (λ b. name (nameOf b)) (now (a .s)) (c .before .before .loop .at) (c .read-name .result)
+    Answered (nameTests (editionOf (a .edition)) (a .groups) []) (λ b. name (nameOf b)) (now (a .s)) (c .before .before .loop .at) (c .read-name .result)
 asked c = c .read-name .ensures
 
 -- a record was handed up
 taken : (c : tie.After-known-told Inv-loop μ-loop) →
-    Handed (nameTests (entry c .args .groups) []) (λ b. name (nameOf b)) (bytes c) (head c .loop .at) (c .before .answer .given .0 .0)
+    Handed (nameTests (editionOf (entry c .args .edition)) (entry c .args .groups) []) (λ b. name (nameOf b)) (bytes c) (head c .loop .at) (c .before .answer .given .0 .0)
 taken c = answered-record (asked (c .before .before .before)) (c .before .answer .given .1)
 
 room : (c : tie.After-known-told Inv-loop μ-loop) → let at = head c .loop .at in
-    WholeName (bytes c) at × (u16At (bytes c) at ≤ 20)
-room c = name-whole (bytes c) (head c .loop .at) (entry c .args .groups) [] (taken c .pass)
+    WholeName (bytes c) at × (u16At (bytes c) at ≤ labelLimit (editionOf (entry c .args .edition)) + 4)
+room c = name-whole (editionOf (entry c .args .edition)) (bytes c) (head c .loop .at) (entry c .args .groups) [] (taken c .pass)
 
 -- what the record carries
 same : (c : tie.After-rec Inv-loop μ-loop) → let s = bytes (c .before .before) in let at = head (c .before .before) .loop .at in
@@ -112,7 +113,7 @@ unfolding passedAs
 returns c = let q = answered-refusal (asked (c .before .before .before)) (c .before .enum-told .given .1) (c .refusal-of .ensures _ _ 0) in
     record {
       reads = left-stop _ _ _ _ _ _ _ _ _ (c .before .before .before .before .before .loop .inv .1 .1 .1 .0)
-          (c .before .before .before .before .loop-test .taken) _ _ (name-alone _ _ _ _ (q .0) (q .1)) (q .1);
+          (c .before .before .before .before .loop-test .taken) _ _ (name-alone _ _ _ _ _ (q .0) (q .1)) (q .1);
       grouped = λ at e. never-read e;
     }
 
@@ -133,7 +134,7 @@ used-before-requires c κs = (
   omega arith,
   (
     room (c .before .before .before .before) .0,
-    λ j l. name-whole _ _ _ [] (head (c .before .before .before .before) .loop .inv .1 .1 .1 .1 .1 j l) .0,
+    λ j l. name-whole _ _ _ _ [] (head (c .before .before .before .before) .loop .inv .1 .1 .1 .1 .1 j l) .0,
   ),
 )
 
@@ -148,7 +149,7 @@ unfolding passedAs
 returns-3 c = record {
   reads = left-stop _ _ _ _ _ _ _ _ _ (head (c .before .before .before .before .before .before) .loop .inv .1 .1 .1 .0)
       (turn (c .before .before .before .before .before .before) .loop-test .taken) _ _
-      (name-used _ _ _ (taken (c .before .before .before .before .before .before) .pass)
+      (name-used _ _ _ _ (taken (c .before .before .before .before .before .before) .pass)
       (sym (c .before .used-before .ensures) ∙ c .if1 .taken)) (λ e. omega arith);
   grouped = λ at e. never-read e;
 }
@@ -194,13 +195,13 @@ loop-again c = let e = same (c .before .before .before .before .before .before) 
         (
           (simp length-set (l .inv .1 .1 .0 .0), simp length-set (l .inv .1 .1 .0 .1)),
           (
-            name-again (l .labels) _ (l .inv .1 .1 .1 .0) (turn (told (c .before)) .loop-test .taken) (omega arith) t
+            name-again (l .labels) _ _ (l .inv .1 .1 .1 .0) (turn (told (c .before)) .loop-test .taken) (omega arith) t
                 (c .before .before .before .before .before .before .rec .given .1) (w .0) (sym (c .before .before .before .used-before .ensures) ∙ c .before .before .if1 .left),
             (
               grouped-more (bytes (told (c .before))) (l .labels) (l .i) (l .at) (omega arith) (l .names) _ (omega arith)
                   (l .inv .1 .1 .1 .1 .0) (c .before .number-meant .ensures ∙ e .0),
               pass-more (bytes (told (c .before))) (l .labels) (l .i) (l .at) (omega arith)
-                  (nameTests (entry (told (c .before)) .args .groups) []) (l .inv .1 .1 .1 .1 .1) (t .pass),
+                  (nameTests (editionOf (entry (told (c .before)) .args .edition)) (entry (told (c .before)) .args .groups) []) (l .inv .1 .1 .1 .1 .1) (t .pass),
             ),
           ),
         ),

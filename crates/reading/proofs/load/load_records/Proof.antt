@@ -48,7 +48,7 @@ abbrev groups : tie.After-known-told → List GroupRecord
 groups c = groupsIn (groups-read c .load-groups .last .1 .1 .1 .0) (head c .groups)
 
 abbrev names : tie.After-known-told2 → List NameRecord
-names c = let f = groups-told c in recordsIn nameOf (bytes f) (names-read c .load-names .last .1 .1 .1 .1 .1 .0) (head f .names)
+names c = let f = groups-told c in recordsIn nameOf (bytes f) (names-read c .load-names .last .1 .1 .1 .1 .1 .1 .0) (head f .names)
 
 abbrev claims : tie.After-known-told3 → List ClaimRecord
 claims c = let f = groups-told (names-told c) in
@@ -80,13 +80,13 @@ claims-room c = names-read c .load-names .ensures .reads .room _ (went-on (c .be
 
 -- the end comes after the claims
 end-next : (c : tie.After-known-told3) → let n = names-told c in let f = groups-told n in
-    closing (groups f) (names n) (2 + head f .groups + head f .names + head f .claims) (claims c)
+    closing (head f .edition) (groups f) (names n) (2 + head f .groups + head f .names + head f .claims) (claims c)
     (drop (c .before .c .given .0 .0) (bytes f))
     ≡ readGroups (head f) (drop 12 (bytes f))
 end-next c =
     let n = names-told c in
     let f = groups-told n in
-    went (λ at. closing (groups f) (names n) (2 + head f .groups + head f .names + head f .claims) (claims c)
+    went (λ at. closing (head f .edition) (groups f) (names n) (2 + head f .groups + head f .names + head f .claims) (claims c)
     (drop at (bytes f))) (c .before .c .given .1)
     (claim-stage (head f) (bytes f) _ _ _ (groups f) (names n) _ _ (claims-read c .load-claims .ensures) ∙ claims-next n)
 
@@ -208,7 +208,7 @@ same-length-14 c = search needs
 returns-4 : tie.Need-returns-4
 unfolding goesOn loadedAs
 returns-4 c = record {
-  reads = sym (bytes-follow _ _ _ _ _ _ (c .before .if1 .taken)) ∙ end-next (c .before .before);
+  reads = sym (bytes-follow _ _ _ _ _ _ _ (c .before .if1 .taken)) ∙ end-next (c .before .before);
   held = λ h e. never-read e;
 }
 
@@ -231,9 +231,9 @@ returns-5 : tie.Need-returns-5
 unfolding goesOn loadedAs
 returns-5 c = let n = names-told (c .before) in
     let f = groups-told n in
-    let tables = names-read n .load-names .last .1 .1 .1 .1 in
+    let tables = names-read n .load-names .last .1 .1 .1 .1 .1 in
     record {
-      reads = sym (at-end _ _ _ _ _ _ (c .if1 .left)) ∙ end-next (c .before);
+      reads = sym (at-end _ _ _ _ _ _ _ (c .if1 .left)) ∙ end-next (c .before);
       held = λ h e. let z : head f ≡ h = cc in rw (← z) (record {
         limits = entry f .pre .1 .0;
         named = names-grouped (bytes f) (tables .0) (tables .1 .0) (head f .names)

@@ -1,18 +1,23 @@
 -- `head_allowed` meets its contract: each test that fails makes the whole false.
 use borrow.Author.Tests.{le-leb, lt-leb, eq-eqb, ne-eqb}
+use Rattle.wire.specs.Edition.{editionNumber, editionOf, membershipBytes}
 use Rattle.reading.proofs.records.head_allowed.Statement.{statement}
 use Rattle.reading.proofs.records.head_allowed.Tie as tie
 
 returns : tie.Need-returns
+unfolding editionNumber editionOf membershipBytes
 returns c = simp (ne-eqb _ _ (c .if1 .taken))
 
 returns-2 : tie.Need-returns-2
+unfolding editionNumber editionOf membershipBytes
 returns-2 c = simp (eq-eqb _ _ (c .before .if1 .left), lt-leb _ _ (c .if2 .taken))
 
 returns-3 : tie.Need-returns-3
+unfolding editionNumber editionOf membershipBytes
 returns-3 c = simp (eq-eqb _ _ (c .before .before .if1 .left), le-leb _ _ (c .before .if2 .left), lt-leb _ _ (c .if3 .taken))
 
 returns-4 : tie.Need-returns-4
+unfolding editionNumber editionOf membershipBytes
 returns-4 c = simp (
   eq-eqb _ _ (c .before .before .before .if1 .left),
   le-leb _ _ (c .before .before .if2 .left),
@@ -21,6 +26,7 @@ returns-4 c = simp (
 )
 
 returns-5 : tie.Need-returns-5
+unfolding editionNumber editionOf membershipBytes
 returns-5 c = simp (
   eq-eqb _ _ (c .before .before .before .before .if1 .left),
   le-leb _ _ (c .before .before .before .if2 .left),
@@ -30,6 +36,7 @@ returns-5 c = simp (
 )
 
 returns-6 : tie.Need-returns-6
+unfolding editionNumber editionOf membershipBytes
 returns-6 c = simp (
   eq-eqb _ _ (c .before .before .before .before .if1 .left),
   le-leb _ _ (c .before .before .before .if2 .left),

@@ -101,6 +101,7 @@ returns-4 c = let l = lead (c .before .before .before .before .before .before) i
     let groups = read-at s (a .at) 6 _ (c .before .before .before .before .before .word2 .ensures) in
     let names = read-at s (a .at) 8 _ (c .before .before .before .before .word3 .ensures) in
     let claims = read-at s (a .at) 10 _ (c .before .before .before .word4 .ensures) in
+    let edition = read-at s (a .at) 4 _ (c .before .before .word5 .ensures) in
     answer-record
     (simp (
       l .0,
@@ -109,10 +110,10 @@ returns-4 c = let l = lead (c .before .before .before .before .before .before) i
       groups,
       names,
       claims,
-      read-at s (a .at) 4 _ (c .before .before .word5 .ensures),
+      edition,
       sym (c .before .head-allowed .ensures) ∙ c .if4 .taken,
     ))
-    (simp (l .1 .0, groups, names, claims))
+    (simp (l .1 .0, edition, groups, names, claims))
 
 returns-5 : tie.Need-returns-5
 unfolding refusal headTests

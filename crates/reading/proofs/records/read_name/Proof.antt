@@ -1,5 +1,5 @@
 -- `read_name` meets its contract: the tests in the code's order are those of the format, and no label was used before.
-use Prim.Native.Nat.{_-_}
+use Prim.Native.Nat.{_+_, _-_, _≤_, _<_}
 use mathlib.Core.Path.{_≡_, sym, ap, _∙_}
 use mathlib.Core.Bool.{true}
 use native.Mathlib.Omega.{arith}
@@ -9,6 +9,7 @@ use lib.ListN.{drop}
 use Rattle.wire.specs.Record.{framed, refusal}
 use borrow.Author.Tests.{not-true, not-false}
 use Rattle.wire.specs.Bytes.{u16At}
+use Rattle.wire.specs.Edition.{editionOf, labelLimit}
 use Rattle.wire.specs.SheetFormat.{nameTests, used}
 use Rattle.reading.specs.Answers.{Whole}
 use Rattle.reading.proofs.Fields.{frame-whole, frame-cut, read-at, whole-length}
@@ -31,6 +32,15 @@ lead c =
     let w = whole (c .before .before) in
     let a = c .before .before .before .before .before .args in
     (w .0, (read-at (now (a .s)) (a .at) 2 _ (c .before .word .ensures) ∙ c .if2 .left, whole-length _ _ _ (w .1)))
+
+-- the length against the most bytes of a label
+short : (c : tie.Else4) → let a = c .before .before .before .before .before .before .before .before .args in
+    c .before .before .before .before .before .before .frame .result ≤ labelLimit (editionOf (a .edition)) + 4
+short c = omega arith
+
+long : (c : tie.Then4) → let a = c .before .before .before .before .before .before .before .before .args in
+    labelLimit (editionOf (a .edition)) + 4 < c .before .before .before .before .before .before .frame .result
+long c = omega arith
 
 frame-requires : tie.Need-frame-requires
 frame-requires c κs = search needs
@@ -56,13 +66,16 @@ returns-3 : tie.Need-returns-3
 unfolding refusal nameTests
 returns-3 c = let l = lead (c .before) in answer-refused (λ z. omega arith) (simp (l .0, l .1 .0, l .1 .1, lt-leb _ _ (c .if3 .taken)))
 
-add-if4 : tie.Need-add-if4
-add-if4 c = search needs
+label-limit-requires : tie.Need-label-limit-requires
+label-limit-requires c κs = search needs
+
+sub-if4 : tie.Need-sub-if4
+sub-if4 c = search needs
 
 returns-4 : tie.Need-returns-4
 unfolding refusal nameTests
-returns-4 c = let l = lead (c .before .before) in answer-refused (λ z. omega arith) (simp
-    (l .0, l .1 .0, l .1 .1, le-leb _ _ (c .before .if3 .left), lt-leb _ _ (c .if4 .taken)))
+returns-4 c = let l = lead (c .before .before .before) in answer-refused (λ z. omega arith) (simp
+    (l .0, l .1 .0, l .1 .1, le-leb _ _ (c .before .before .if3 .left), lt-leb _ _ (long c)))
 
 sub-label : tie.Need-sub-label
 sub-label c = search needs
@@ -75,15 +88,15 @@ label-allowed-requires c κs = search needs
 
 returns-5 : tie.Need-returns-5
 unfolding refusal nameTests
-returns-5 c = let l = lead (c .before .before .before .before) in
-    let w = whole (c .before .before .before .before .before .before) in
-    let a = c .before .before .before .before .before .before .before .before .before .args in
+returns-5 c = let l = lead (c .before .before .before .before .before) in
+    let w = whole (c .before .before .before .before .before .before .before) in
+    let a = c .before .before .before .before .before .before .before .before .before .before .args in
     answer-refused (λ z. omega arith) (simp (
       l .0,
       l .1 .0,
       l .1 .1,
-      le-leb _ _ (c .before .before .before .if3 .left),
-      le-leb _ _ (c .before .before .if4 .left),
+      le-leb _ _ (c .before .before .before .before .if3 .left),
+      le-leb _ _ (short (c .before .before)),
       label-at (now (a .s)) (a .at),
       w .1 .says,
       sym (c .before .label-allowed .ensures) ∙ not-true (c .before .label-allowed .result) (c .if5 .taken),
@@ -97,15 +110,15 @@ word-requires-2 c κs = search needs
 
 returns-6 : tie.Need-returns-6
 unfolding refusal nameTests
-returns-6 c = let l = lead (c .before .before .before .before .before .before) in
-    let w = whole (c .before .before .before .before .before .before .before .before) in
-    let a = c .before .before .before .before .before .before .before .before .before .before .before .args in
+returns-6 c = let l = lead (c .before .before .before .before .before .before .before) in
+    let w = whole (c .before .before .before .before .before .before .before .before .before) in
+    let a = c .before .before .before .before .before .before .before .before .before .before .before .before .args in
     answer-refused (λ z. omega arith) (simp (
       l .0,
       l .1 .0,
       l .1 .1,
-      le-leb _ _ (c .before .before .before .before .before .if3 .left),
-      le-leb _ _ (c .before .before .before .before .if4 .left),
+      le-leb _ _ (c .before .before .before .before .before .before .if3 .left),
+      le-leb _ _ (short (c .before .before .before .before)),
       label-at (now (a .s)) (a .at),
       w .1 .says,
       sym (c .before .before .before .label-allowed .ensures)
@@ -119,9 +132,9 @@ meaning-of-requires c κs = search needs
 
 returns-7 : tie.Need-returns-7
 unfolding refusal nameTests used
-returns-7 c = let l = lead (c .before .before .before .before .before .before .before) in
-    let w = whole (c .before .before .before .before .before .before .before .before .before) in
-    let a = c .before .before .before .before .before .before .before .before .before .before .before .before .args in
+returns-7 c = let l = lead (c .before .before .before .before .before .before .before .before) in
+    let w = whole (c .before .before .before .before .before .before .before .before .before .before) in
+    let a = c .before .before .before .before .before .before .before .before .before .before .before .before .before .args in
     let s = now (a .s) in
     let group = read-at s (a .at) 4 _ (c .before .before .word2 .ensures) in
     answer-record
@@ -129,8 +142,8 @@ returns-7 c = let l = lead (c .before .before .before .before .before .before .b
       l .0,
       l .1 .0,
       l .1 .1,
-      le-leb _ _ (c .before .before .before .before .before .before .if3 .left),
-      le-leb _ _ (c .before .before .before .before .before .if4 .left),
+      le-leb _ _ (c .before .before .before .before .before .before .before .if3 .left),
+      le-leb _ _ (short (c .before .before .before .before .before)),
       label-at s (a .at),
       w .1 .says,
       sym (c .before .before .before .before .label-allowed .ensures) ∙ not-false (c .before .before .before .before .label-allowed .result) (c .before .before .before .if5 .left),
@@ -149,7 +162,8 @@ read-name-spec =
     word-requires
     returns-2
     returns-3
-    add-if4
+    label-limit-requires
+    sub-if4
     returns-4
     sub-label
     add-label-allowed

@@ -1,21 +1,23 @@
--- `registers::check::check_register` meets its contract. The rows are read first; the verdict on their words is the verdict on
+-- `registers::check::check_register` meets its contract. The rows are read first; the answer to their words is the answer to
 -- the rows.
 use borrow.Author.Needs.{needs}
-use Prim.Native.Nat.{_≤_}
 use mathlib.Core.Path.{sym}
 use native.Mathlib.Omega.{arith}
 use native.Mathlib.Nat.{le-refl, le-of-eq}
 use Rattle.reading.specs.Tables.{length-groupsIn}
-use Rattle.registers.specs.RowsRead.{readingOf, Kept}
-use Rattle.registers.proofs.CheckLaws.{checked-refused, checked-words, zeros, counts-zeros}
+use Rattle.registers.specs.declared.rows.Rows.the-variants as rows
+use Rattle.registers.specs.RowsRead.{ReadInto}
+use Rattle.registers.specs.Tallies.{sonWords, groupPlaces}
+use Rattle.registers.proofs.CheckLaws.{checked-refused, rows-most, checked-words, zeros, counts-zeros}
 use Rattle.registers.proofs.check.check_register.Statement.{statement}
 use Rattle.registers.proofs.check.check_register.Tie as tie
 
--- the rows are read, and their words kept
-kept : (c : tie.After-n)
-    → (c .n .given .0 .0 ≤ 2048) × Kept (c .before .before .before .before .before .before .before .args .register .now)
-    (c .n .given .0 .0) (c .before .before .before .read-rows .last .1 .1 .0)
-kept c = rw (c .n .given .1) at (c .before .before .before .read-rows .ensures .words)
+-- n rows are read, and their words kept
+read-into : (c : tie.After-n)
+    → ReadInto (c .before .before .before .before .before .before .before .args .size)
+    (c .before .before .before .before .before .before .before .args .register .now) (rows.Count (c .n .given .0 .0))
+    (c .before .before .before .read-rows .last .1 .1 .0)
+read-into c = rw (c .n .given .1) at (c .before .before .before .read-rows .ensures)
 
 slice-aggregate-read-rows : tie.Need-slice-aggregate-read-rows
 slice-aggregate-read-rows c = search needs
@@ -23,8 +25,8 @@ slice-aggregate-read-rows c = search needs
 read-rows-requires : tie.Need-read-rows-requires
 read-rows-requires c κs = search needs
 
-enum-known-a : tie.Need-enum-known-a
-enum-known-a c = search needs
+enum-known-refusal : tie.Need-enum-known-refusal
+enum-known-refusal c = search needs
 
 enum-known-n : tie.Need-enum-known-n
 enum-known-n c = search needs
@@ -34,7 +36,7 @@ slice-aggregate-gather-sons c = search needs
 
 gather-sons-requires : tie.Need-gather-sons-requires
 gather-sons-requires c κs =
-    let p = c .before .before .before .before .before .before .before .before .before .pre in (p, (le-refl 258, zeros 258))
+    let p = c .before .before .before .before .before .before .before .before .before .pre in (p, (le-refl sonWords, zeros sonWords))
 
 slice-aggregate-count-groups : tie.Need-slice-aggregate-count-groups
 slice-aggregate-count-groups c = search needs
@@ -45,10 +47,10 @@ slice-aggregate-count-groups-2 c = search needs
 count-groups-requires : tie.Need-count-groups-requires
 count-groups-requires c κs =
     let n = c .before .before .before .before .before .before in (
-      omega (arith, kept n .0),
+      omega (arith, rows-most _ _ _ _ (read-into n)),
       (
-        omega (arith, kept n .0, n .before .before .before .read-rows .kept .1 .1 .0),
-        (le-refl 129, counts-zeros 129),
+        omega (arith, rows-most _ _ _ _ (read-into n), n .before .before .before .read-rows .kept .1 .1 .0),
+        (le-refl groupPlaces, counts-zeros groupPlaces),
       ),
     )
 
@@ -69,7 +71,7 @@ scan-requires c κs =
     let p = n .before .before .before .before .before .before .before .pre in (
       p,
       record {
-        row-words = omega (arith, kept n .0, n .before .before .before .read-rows .kept .1 .1 .0);
+        row-words = omega (arith, rows-most _ _ _ _ (read-into n), n .before .before .before .read-rows .kept .1 .1 .0);
         son-words = le-of-eq (sym (u .gather-sons .kept .1 .1 .0));
         sons = u .gather-sons .ensures;
         places = le-of-eq (sym (t .count-groups .kept .1 .1 .0));
@@ -78,19 +80,14 @@ scan-requires c κs =
     )
 
 returns : tie.Need-returns
-unfolding readingOf
 returns c = checked-refused _ _ _ _
-    (rw (c .before .a .given .1) at (c .before .before .before .before .read-rows .ensures .reading))
+    (rw (c .before .refusal .given .1) at (c .before .before .before .before .read-rows .ensures .reading))
 
 returns-2 : tie.Need-returns-2
-unfolding readingOf
 returns-2 c =
     let n = c .before .before .before .before .before .before .before .before .before .before .before .before in
-    let r = n .before .before .before in
-    let p = r .before .before .before .before .pre in
-    checked-words _ _ _ _ _ _ (p .tree) (rw (length-groupsIn _ _) (p .most))
-    (λ i. r .before .before .shared-slice-known2 .given i .fits) (kept n .1)
-    (rw (n .n .given .1) at (r .read-rows .ensures .reading)) (c .scan .ensures)
+    let p = n .before .before .before .before .before .before .before .pre in
+    checked-words _ _ _ _ (read-into n) _ _ (p .tree) (rw (length-groupsIn _ _) (p .most)) (c .scan .ensures)
 
 pub check-register-spec : {M : Type 1} → statement M
 check-register-spec =
@@ -98,7 +95,7 @@ check-register-spec =
     (tie.spec
     slice-aggregate-read-rows
     read-rows-requires
-    enum-known-a
+    enum-known-refusal
     enum-known-n
     slice-aggregate-gather-sons
     gather-sons-requires

@@ -13,11 +13,11 @@ parent-of-requires c κs = search needs
 
 returns : tie.Need-returns
 unfolding mayBreak
-returns c = rw (c .if1 .taken, c .before .parent-of .ensures)
+returns c = rw (c .before .if1 .taken, c .before .before .parent-of .ensures)
 
 returns-2 : tie.Need-returns-2
 unfolding mayBreak
-returns-2 c = rw (c .before .if2 .taken, sym (c .before .before .before .parent-of .ensures) ∙ c .if3 .taken)
+returns-2 c = rw (c .before .before .if2 .taken, sym (c .before .before .before .before .parent-of .ensures) ∙ c .if3 .taken)
 
 mode-of-requires : tie.Need-mode-of-requires
 mode-of-requires c κs = search needs
@@ -25,11 +25,11 @@ mode-of-requires c κs = search needs
 returns-3 : tie.Need-returns-3
 unfolding mayBreak
 returns-3 c =
-    let q = c .before .before .before .before in
+    let q = c .before .before .before .before .before in
     let a = q .before .before .args in
     let l : 0 < parentIn (a .groups .now) (a .g .0) = omega (arith, q .parent-of .ensures) in
     rw (
-      c .before .before .if2 .taken,
+      c .before .before .before .if2 .taken,
       c .mode-of .ensures,
       q .parent-of .ensures,
       lt-ltb 0 (parentIn (a .groups .now) (a .g .0)) l,

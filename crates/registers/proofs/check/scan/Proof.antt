@@ -18,18 +18,18 @@ use Rattle.registers.proofs.check.scan.Statement.{statement}
 use Rattle.registers.proofs.check.scan.Tie as tie
 
 abbrev Inv-loop2 : tie.InvT-loop2
-Inv-loop2 groups size words n sons counts answer₀ end g p rule row₀ answer row =
-    (row ≤ n) × ((answer ≡ check.Fits) × ClearRows rule words row sons g p)
+Inv-loop2 groups size words n sons counts answer₀ end g group p rule row₀ answer row =
+    (row ≤ n) × ((answer ≡ check.Fits) × ClearRows rule words row sons (group .0) (p .0))
 
 abbrev μ-loop2 : tie.MeasureT-loop2
-μ-loop2 groups size words n sons counts answer₀ end g p rule row₀ answer row = n - row
+μ-loop2 groups size words n sons counts answer₀ end g group p rule row₀ answer row = n - row
 
 abbrev Inv-loop : tie.InvT-loop
-Inv-loop groups size words n sons counts answer₀ end g p rule₀ answer rule =
+Inv-loop groups size words n sons counts answer₀ end g group p rule₀ answer rule =
     (1 ≤ rule) × ((rule ≤ 7) × ((answer ≡ check.Fits) × ClearRules (sheetOf (groupsIn groups size)) (wordSets words n) g rule))
 
 abbrev μ-loop : tie.MeasureT-loop
-μ-loop groups size words n sons counts answer₀ end g p rule₀ answer rule = 7 - rule
+μ-loop groups size words n sons counts answer₀ end g group p rule₀ answer rule = 7 - rule
 
 abbrev Inv-scan : tie.InvT-scan
 Inv-scan groups size words n sons counts answer₀ end g₀ answer g =
@@ -183,7 +183,7 @@ returns-2 c =
     let g = q .before .before in
     let p = g .before .before .before .before .before .pre in
     scan-row _ _ _ _ _ _ (p .0 .tree) (p .0 .most) (p .1 .sons) (p .1 .counts) _ _ (g .scan .inv .0) (omega arith)
-    (l .loop .inv .1 .1 .1) (g .scan .inv .1 .1 .1) (l .loop .inv .0) (m .before .if1 .taken) _ (r .loop2-test .taken)
+    (l .loop .inv .1 .1 .1) (g .scan .inv .1 .1 .1) (l .loop .inv .0) _ refl (m .before .if1 .taken) _ (r .loop2-test .taken)
     (sym (m .may-break .ensures) ∙ r .before .before .if2 .taken)
     (rw (← q .parent-of .ensures) (sym (c .before .row-breaks .ensures) ∙ c .if3 .taken))
 
@@ -193,7 +193,7 @@ returns-3 c =
     let g = l .before .before .before in
     let p = g .before .before .before .before .before .pre in
     scan-count _ _ _ _ _ _ (p .0 .tree) (p .0 .most) (p .1 .sons) (p .1 .counts) _ _ (g .scan .inv .0) (omega arith)
-    (l .loop .inv .1 .1 .1) (g .scan .inv .1 .1 .1) (l .loop .inv .0) (c .before .before .if1 .left) (omega arith)
+    (l .loop .inv .1 .1 .1) (g .scan .inv .1 .1 .1) (l .loop .inv .0) _ refl (c .before .before .if1 .left) (omega arith)
     (sym (c .before .count-breaks .ensures) ∙ c .if4 .taken)
 
 pub scan-spec : {M : Type 1} → statement M

@@ -4,6 +4,7 @@ use native.Mathlib.Omega.{arith}
 use Prim.Native.Nat.{_-_, _≤_}
 use mathlib.Core.Path.{_≡_, refl}
 use lib.ListN.{length}
+use Rattle.wire.specs.Limits.{rowLimit}
 use Rattle.registers.proofs.CountLaws.{CountedTo, counted-none, counted-more, counted-room, counted-all}
 use Rattle.registers.proofs.counts.count_groups.Statement.{statement}
 use Rattle.registers.proofs.counts.count_groups.Tie as tie
@@ -42,7 +43,7 @@ shared-slice-read-count-row-2 c = search needs
 count-row-requires : tie.Need-count-row-requires Inv-loop μ-loop
 count-row-requires c κs =
     let l = c .before .before .before .before in
-    (search needs, counted-room _ _ _ 65535 (l .loop .inv .1 .1) (omega arith))
+    (search needs, counted-room _ _ _ rowLimit (l .loop .inv .1 .1) (omega arith))
 
 add-row : tie.Need-add-row Inv-loop μ-loop
 add-row c = search needs

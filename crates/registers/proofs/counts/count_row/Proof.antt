@@ -7,8 +7,8 @@ use mathlib.Core.Path.{_≡_, refl, _∙_}
 use mathlib.Core.Logic.{⊎-elim}
 use lib.Count.{ones}
 use Rattle.registers.proofs.WordLaws.{pair-ones}
-use Rattle.registers.proofs.CountLaws.{Turns, turn-low, turn-high, walk-room, walk-room-high, walk-start, walk-end}
-use Rattle.registers.proofs.CountLaws.{ones-positive}
+use Rattle.wire.specs.Limits.{rowLimit}
+use Rattle.registers.proofs.CountLaws.{Turns, loses-low, loses-high, walk-room, walk-start, walk-end, turn, ones-positive}
 use Rattle.registers.specs.Digits.{ones-of-zero}
 use Rattle.registers.proofs.counts.count_row.Statement.{statement}
 use Rattle.registers.proofs.counts.count_row.Tie as tie
@@ -39,36 +39,26 @@ loop-holds c =
       ),
     )
 
-lowest-of-requires : tie.Need-lowest-of-requires Inv-loop μ-loop
-lowest-of-requires c κs = search needs
-
-add-t13 : tie.Need-add-t13 Inv-loop μ-loop
-add-t13 c = search needs
+lowest-group-requires : tie.Need-lowest-group-requires Inv-loop μ-loop
+lowest-group-requires c κs = search needs
 
 bump-requires : tie.Need-bump-requires Inv-loop μ-loop
 bump-requires c κs =
-    let l = c .before .before .before .before in (
-      omega arith,
-      walk-room _ _ _ _ _ _ _ (l .loop .inv .1 .1) (c .lowest-of .ensures .0) (omega arith) 65535
-          (l .before .before .before .pre .1) (c .lowest-of .ensures .1),
-    )
+    let l = c .before .before .before .before in
+    let d = loses-low _ (l .loop .h) _ (c .lowest-group .ensures) in
+    (omega (arith, d .last), walk-room _ _ _ _ _ _ _ _ _ (l .loop .inv .1 .1) d rowLimit (l .before .before .before .pre .1))
 
 rest-of-requires : tie.Need-rest-of-requires Inv-loop μ-loop
 rest-of-requires c κs = search needs
 
-lowest-of-requires-2 : tie.Need-lowest-of-requires-2 Inv-loop μ-loop
-lowest-of-requires-2 c κs = high-left (c .before)
-
-add-t19 : tie.Need-add-t19 Inv-loop μ-loop
-add-t19 c = search needs
+lowest-group-requires-2 : tie.Need-lowest-group-requires-2 Inv-loop μ-loop
+lowest-group-requires-2 c κs = (high-left (c .before), search needs)
 
 bump-requires-2 : tie.Need-bump-requires-2 Inv-loop μ-loop
 bump-requires-2 c κs =
-    let l = c .before .before .before .before in (
-      omega arith,
-      walk-room-high _ _ _ _ _ _ _ (l .loop .inv .1 .1) (c .lowest-of2 .ensures .0) (omega arith) 65535
-          (l .before .before .before .pre .1) (c .lowest-of2 .ensures .1),
-    )
+    let l = c .before .before .before .before in
+    let d = loses-high (l .loop .l) _ _ (c .lowest-group2 .ensures) in
+    (omega (arith, d .last), walk-room _ _ _ _ _ _ _ _ _ (l .loop .inv .1 .1) d rowLimit (l .before .before .before .pre .1))
 
 rest-of-requires-2 : tie.Need-rest-of-requires-2 Inv-loop μ-loop
 rest-of-requires-2 c κs = high-left (c .before .before .before .before .before)
@@ -83,9 +73,9 @@ loop-again : tie.Need-loop-again Inv-loop μ-loop
 loop-again c =
     let l = c .before .before in
     ⊎-elim
-    (λ w. turn-low _ _ _ _ _ _ _ _ _ (l .loop .inv) (w .2 .ensures .0) (l .before .before .before .pre .0) (w .2 .ensures .1)
+    (λ w. turn _ _ _ _ _ _ _ _ _ _ _ (l .loop .inv) (loses-low _ _ _ (w .2 .ensures)) (l .before .before .before .pre .0)
     (w .7 ∙ w .3 .ensures) (w .8 ∙ w .6 .ensures) (w .9))
-    (λ w. turn-high _ _ _ _ _ _ _ _ _ (l .loop .inv) (w .2 .ensures .0) (l .before .before .before .pre .0) (w .2 .ensures .1)
+    (λ w. turn _ _ _ _ _ _ _ _ _ _ _ (l .loop .inv) (loses-high _ _ _ (w .2 .ensures)) (l .before .before .before .pre .0)
     (w .7 ∙ w .3 .ensures) (w .8) (w .9 ∙ w .6 .ensures))
     (c .if1 .came)
 
@@ -104,12 +94,10 @@ count-row-spec =
     μ-loop
     groups-of-requires
     loop-holds
-    lowest-of-requires
-    add-t13
+    lowest-group-requires
     bump-requires
     rest-of-requires
-    lowest-of-requires-2
-    add-t19
+    lowest-group-requires-2
     bump-requires-2
     rest-of-requires-2
     add-counter

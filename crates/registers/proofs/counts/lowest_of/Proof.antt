@@ -1,14 +1,10 @@
 -- `registers::counts::lowest_of` meets its contract.
-use native.Mathlib.Omega.{arith}
 use Rattle.registers.specs.Digits.{lowest}
 use Rattle.registers.proofs.counts.lowest_of.Statement.{statement}
 use Rattle.registers.proofs.counts.lowest_of.Tie as tie
-
-cast-result : tie.Need-cast-result
-cast-result c = omega (arith, lowest 64 (c .args .word) (c .pre) (c .fits .word .fits) .0)
 
 returns : tie.Need-returns
 returns c = lowest 64 (c .args .word) (c .pre) (c .fits .word .fits)
 
 pub lowest-of-spec : {M : Type 1} → statement M
-lowest-of-spec = tie.close (tie.spec cast-result returns)
+lowest-of-spec = tie.close (tie.spec returns)

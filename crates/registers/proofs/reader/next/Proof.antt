@@ -46,7 +46,7 @@ use denote.Triple.Table.{entered, cited}
 use denote.Triple.Walked.{says, Stays, stay-none, walkOf, goes-none, Walks, ends-at, walked, walk-meets}
 use denote.Exit.{yes}
 use denote.Triple.Clauses.{ensured, lasts}
-use Rattle.registers.specs.RowsRead.{rowAt, fromRow}
+use Rattle.registers.specs.RowsRead.{Front, rowGives, frontOf, fromRow}
 use Rattle.registers.specs.declared.reader.RowReader.{RowReader}
 use Rattle.registers.specs.declared.rows.RowAnswer.{RowAnswer}
 use Rattle.registers.proofs.reader.RowReader as T
@@ -83,8 +83,8 @@ module _ {M : Type 1} (𝓤 : URA M) (H : Heap 𝓤) (A : Atoms 𝓤) (W : Given
   abbrev v : Val
   v = sliceVal (d .bytes .ptr) (length (d .bytes .now))
 
-  abbrev found : RowAnswer
-  found = rowAt (fromRow (now (d .bytes)) (d .row))
+  abbrev found : Front
+  found = frontOf (fromRow (now (d .bytes)) (d .row))
 
   abbrev Post : Val → SProp 𝓤
   Post = walkOf 𝓤 H A next.ended stayed (next.clauses 𝓤 H A mem run) .post (((κ, tt), (q, tt), tt, (d, tt), (mach ∷ [], tt)), tt)
@@ -131,10 +131,10 @@ module _ {M : Type 1} (𝓤 : URA M) (H : Heap 𝓤) (A : Atoms 𝓤) (W : Given
 
   -- of `row_at`'s `ensured`, the clause alone: it has no `&mut`, so what is said of last values is dropped
   said : (r : RowAnswer)
-      → ent 𝓤 (ensured 𝓤 H A row.ended (row.clauses 𝓤 H A mem run) (κ, tt) (d .bytes, (d .row, tt)) tt r) (fact 𝓤 (r ≡ found))
-  said r = exE 𝓤 _ (λ ws. snd∗ 𝓤 (sem 𝓤 H A (lasts row.ended (κ, tt) (d .bytes, (d .row, tt)) ws)) (fact 𝓤 (r ≡ found)))
+      → ent 𝓤 (ensured 𝓤 H A row.ended (row.clauses 𝓤 H A mem run) (κ, tt) (d .bytes, (d .row, tt)) tt r) (fact 𝓤 (rowGives r ≡ found))
+  said r = exE 𝓤 _ (λ ws. snd∗ 𝓤 (sem 𝓤 H A (lasts row.ended (κ, tt) (d .bytes, (d .row, tt)) ws)) (fact 𝓤 (rowGives r ≡ found)))
 
-  exits : (r : RowAnswer) (u : Val) → r ≡ found
+  exits : (r : RowAnswer) (u : Val) → rowGives r ≡ found
       → ent 𝓤 (⋆ 𝓤 H A (‵ (S.the-row .own r (u ∷ [])) ∷ (‵ (flft κ q) ⊛ ‵ ftrue) ∷ ‵ Own ∷ [])) (Post u)
   exits r u e =
       qed W (‵ (S.the-row .own r (u ∷ [])) ∷ (‵ (flft κ q) ⊛ ‵ ftrue) ∷ ‵ Own ∷ []) ∵
@@ -161,7 +161,7 @@ module _ {M : Type 1} (𝓤 : URA M) (H : Heap 𝓤) (A : Atoms 𝓤) (W : Given
         use1 W (later (some (λ (r : RowAnswer). ((‵ (flft κ q) ⊛ ‵ ftrue) ⊛ ‵ (S.the-row .own r (u ∷ [])))
         ⊛ raw (ensured 𝓤 H A row.ended (row.clauses 𝓤 H A mem run) (κ, tt) (d .bytes, (d .row, tt)) tt r)))) (id⊢ 𝓤 _) $
         await ! tt $ pick ! (λ r. split ! $ move ! (1 ∷ []) $
-        use1 W (raw (fact 𝓤 (r ≡ found))) (said r) $ heard ! (r ≡ found) (λ e. split ! $ move ! (1 ∷ []) $
+        use1 W (raw (fact 𝓤 (rowGives r ≡ found))) (said r) $ heard ! (rowGives r ≡ found) (λ e. split ! $ move ! (1 ∷ []) $
         -- [the result; the token; what the reader owns; _3; …; _2; …; _1; …; room for _0; …]
         peeks ! S.the-row (Is S.the-row) (shows 𝓤 H A S.the-row) r (u ∷ []) (λ is.
         land ! (from ! (stop !)) (init ! 9 refl (EL.lawful S.the-type S′.the-laws 𝓤 H A W tt .typed r _ is .0)) $

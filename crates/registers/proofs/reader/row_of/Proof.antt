@@ -41,7 +41,7 @@ use denote.Triple.Walked.{says, Stays, stay-none, stay-none-slice, goes-none, go
 use denote.Triple.Walked.{walkOf, Walks, ends-at, walked, walk-meets}
 use denote.Exit.{yes}
 use denote.Triple.Clauses.{ensured, lasts}
-use Rattle.registers.specs.RowsRead.{rowAt, fromRow}
+use Rattle.registers.specs.RowsRead.{Front, rowGives, frontOf, fromRow}
 use Rattle.registers.specs.declared.reader.RowReader.{RowReader}
 use Rattle.registers.specs.declared.rows.RowAnswer.{RowAnswer}
 use Rattle.registers.proofs.reader.RowReader as T
@@ -81,8 +81,8 @@ module _ {M : Type 1} (𝓤 : URA M) (H : Heap 𝓤) (A : Atoms 𝓤) (W : Given
   abbrev mach : Val
   mach = T′.lowered made
 
-  abbrev found : RowAnswer
-  found = rowAt (fromRow (now s) n)
+  abbrev found : Front
+  found = frontOf (fromRow (now s) n)
 
   abbrev at : Vals row.signature (κ, tt)
   at = (v ∷ [], (vint w64 n ∷ [], tt))
@@ -123,10 +123,10 @@ module _ {M : Type 1} (𝓤 : URA M) (H : Heap 𝓤) (A : Atoms 𝓤) (W : Given
 
   -- of `next`'s `ensured`, the clause alone
   said : (r : RowAnswer)
-      → ent 𝓤 (ensured 𝓤 H A next.ended (next.clauses 𝓤 H A mem run) (κ, tt) (made, tt) tt r) (fact 𝓤 (r ≡ found))
-  said r = exE 𝓤 _ (λ ws. snd∗ 𝓤 (sem 𝓤 H A (lasts next.ended (κ, tt) (made, tt) ws)) (fact 𝓤 (r ≡ found)))
+      → ent 𝓤 (ensured 𝓤 H A next.ended (next.clauses 𝓤 H A mem run) (κ, tt) (made, tt) tt r) (fact 𝓤 (rowGives r ≡ found))
+  said r = exE 𝓤 _ (λ ws. snd∗ 𝓤 (sem 𝓤 H A (lasts next.ended (κ, tt) (made, tt) ws)) (fact 𝓤 (rowGives r ≡ found)))
 
-  exits : (r : RowAnswer) (u : Val) → r ≡ found
+  exits : (r : RowAnswer) (u : Val) → rowGives r ≡ found
       → ent 𝓤 (⋆ 𝓤 H A (‵ (S.the-row .own r (u ∷ [])) ∷ (‵ (flft κ q) ⊛ ‵ ftrue) ∷ ‵ Passed ∷ [])) (Post u)
   exits r u e =
       qed W (‵ (S.the-row .own r (u ∷ [])) ∷ (‵ (flft κ q) ⊛ ‵ ftrue) ∷ ‵ Passed ∷ []) ∵
@@ -152,7 +152,7 @@ module _ {M : Type 1} (𝓤 : URA M) (H : Heap 𝓤) (A : Atoms 𝓤) (W : Given
         use1 W (later (some (λ (r : RowAnswer). ((‵ (flft κ q) ⊛ ‵ ftrue) ⊛ ‵ (S.the-row .own r (u ∷ [])))
         ⊛ raw (ensured 𝓤 H A next.ended (next.clauses 𝓤 H A mem run) (κ, tt) (made, tt) tt r)))) (id⊢ 𝓤 _) $
         await ! tt $ pick ! (λ r. split ! $ move ! (1 ∷ []) $
-        use1 W (raw (fact 𝓤 (r ≡ found))) (said r) $ heard ! (r ≡ found) (λ e. split ! $ move ! (1 ∷ []) $
+        use1 W (raw (fact 𝓤 (rowGives r ≡ found))) (said r) $ heard ! (rowGives r ≡ found) (λ e. split ! $ move ! (1 ∷ []) $
         -- [the result; the token; what the parameters own; _3; …; _2; …; _1; …; room for _0; …]
         peeks ! S.the-row (Is S.the-row) (shows 𝓤 H A S.the-row) r (u ∷ []) (λ is.
         land ! (from ! (stop !)) (init ! 9 refl (EL.lawful S.the-type S′.the-laws 𝓤 H A W tt .typed r _ is .0)) $

@@ -5,24 +5,31 @@ use Prim.Native.Nat.{_-_, _≤_}
 use mathlib.Core.Path.{_≡_, refl, sym, _∙_}
 use native.Mathlib.Omega.{arith}
 use lib.ListN.{length, length-set}
+use Rattle.wire.specs.Edition.{edition1, membershipBytes}
 use Rattle.wire.specs.Limits.{rowLimit}
 use Rattle.wire.specs.RegisterFormat.{lastMember, readRegister}
-use Rattle.registers.specs.RowsRead.{rowsBefore, readingOf, Kept}
+use Rattle.registers.specs.RowsRead.{rowsBefore, Kept}
 use Rattle.registers.proofs.RowLaws.{going, going-start, last-start, kept-none, going-end, going-refused, going-member}
-use Rattle.registers.proofs.RowLaws.{going-bits, going-on, last-on, kept-on, going-full, going-over}
+use Rattle.registers.proofs.RowLaws.{going-bits, going-on, last-on, kept-on, going-full, going-over, kept-read, kept-refused}
 use Rattle.registers.proofs.rows.read_rows.Statement.{statement}
 use Rattle.registers.proofs.rows.read_rows.Tie as tie
 
 abbrev Inv-loop : tie.InvT-loop
 Inv-loop register groups words₀ last₀ row₀ words last row =
     (row ≤ rowLimit) × ((length words ≡ length words₀) × ((last ≡ lastMember (rowsBefore register row))
-    × ((readRegister groups register ≡ going groups register row) × Kept register row words)))
+    × ((readRegister edition1 groups register ≡ going groups register row) × Kept (rowsBefore register row) words)))
 
 abbrev μ-loop : tie.MeasureT-loop
 μ-loop register groups words₀ last₀ row₀ words last row = rowLimit - row
 
 loop-holds : tie.Need-loop-holds Inv-loop μ-loop
 loop-holds c = (search needs, (refl, (sym (last-start _), (going-start _ _, kept-none _ _))))
+
+cast-number : tie.Need-cast-number Inv-loop μ-loop
+cast-number c = search needs
+
+add-number : tie.Need-add-number Inv-loop μ-loop
+add-number c = search needs
 
 row-of-requires : tie.Need-row-of-requires Inv-loop μ-loop
 row-of-requires c κs = search needs
@@ -34,91 +41,68 @@ same-length : tie.Need-same-length Inv-loop μ-loop
 same-length c = search needs
 
 returns : tie.Need-returns Inv-loop μ-loop
-unfolding readingOf
 returns c =
     let d = c .before .before in
     let l = d .before .before .loop in
     record {
-      reading = l .inv .1 .1 .1 .0 ∙ going-end _ _ _ (d .before .loop-test .taken)
-          (sym (d .row-of .ensures) ∙ c .enum-told .given .1);
-      words = (l .inv .0, l .inv .1 .1 .1 .1);
+      reading = sym (l .inv .1 .1 .1 .0 ∙ going-end _ _ _ (d .before .loop-test .taken)
+          (rw (c .enum-told .given .1) at (d .row-of .ensures)));
+      kept = λ rs. kept-read _ rs _ (l .inv .1 .1 .1 .1);
     }
 
 enum-known-n : tie.Need-enum-known-n Inv-loop μ-loop
 enum-known-n c = search needs
 
-cast-t10 : tie.Need-cast-t10 Inv-loop μ-loop
-cast-t10 c = search needs
-
-add-t11 : tie.Need-add-t11 Inv-loop μ-loop
-add-t11 c = search needs
-
 same-length-2 : tie.Need-same-length-2 Inv-loop μ-loop
 same-length-2 c = search needs
 
 returns-2 : tie.Need-returns-2 Inv-loop μ-loop
-unfolding readingOf
 returns-2 c =
     let d = c .before .before .before in
     let l = d .before .before .loop in
     record {
-      reading = l .inv .1 .1 .1 .0 ∙ going-refused _ _ _ (d .before .loop-test .taken) _
-          (sym (d .row-of .ensures) ∙ c .before .n .given .1);
-      words = tt;
+      reading = sym (l .inv .1 .1 .1 .0 ∙ going-refused _ _ _ (d .before .loop-test .taken) _
+          (rw (c .before .n .given .1) at (d .row-of .ensures)));
+      kept = λ rs. kept-refused _ _ rs _;
     }
 
 enum-known-r : tie.Need-enum-known-r Inv-loop μ-loop
 enum-known-r c = search needs
 
-cast-t13 : tie.Need-cast-t13 Inv-loop μ-loop
-cast-t13 c = search needs
-
-add-t14 : tie.Need-add-t14 Inv-loop μ-loop
-add-t14 c = search needs
-
 same-length-3 : tie.Need-same-length-3 Inv-loop μ-loop
 same-length-3 c = search needs
 
 returns-3 : tie.Need-returns-3 Inv-loop μ-loop
-unfolding readingOf
 returns-3 c =
     let r = c .before .before .before in
     let d = r .before .before in
     let l = d .before .before .loop in
     record {
       reading =
-          l .inv .1 .1 .1 .0
-          ∙ going-member _ _ _ (d .before .loop-test .taken) _ (sym (d .row-of .ensures) ∙ r .r .given .1)
-          (rw (l .inv .1 .1 .0) at (c .if1 .taken));
-      words = tt;
+          sym (l .inv .1 .1 .1 .0
+          ∙ going-member _ _ _ (d .before .loop-test .taken) _ (rw (r .r .given .1) at (d .row-of .ensures))
+          (rw (l .inv .1 .1 .0) at (c .if1 .taken)));
+      kept = λ rs. kept-refused _ _ rs _;
     }
 
 bit-above-requires : tie.Need-bit-above-requires Inv-loop μ-loop
 bit-above-requires c κs = search needs
 
-cast-t16 : tie.Need-cast-t16 Inv-loop μ-loop
-cast-t16 c = search needs
-
-add-t17 : tie.Need-add-t17 Inv-loop μ-loop
-add-t17 c = search needs
-
 same-length-4 : tie.Need-same-length-4 Inv-loop μ-loop
 same-length-4 c = search needs
 
 returns-4 : tie.Need-returns-4 Inv-loop μ-loop
-unfolding readingOf
 returns-4 c =
     let r = c .before .before .before .before .before in
     let d = r .before .before in
     let l = d .before .before .loop in
     record {
       reading =
-          l .inv .1 .1 .1 .0
-          ∙ going-bits _ _ _ (d .before .loop-test .taken) _ (sym (d .row-of .ensures) ∙ r .r .given .1)
-          (λ i. d .before .before .before .before .shared-slice-known .given i .fits)
+          sym (l .inv .1 .1 .1 .0
+          ∙ going-bits _ _ _ (d .before .loop-test .taken) _ (rw (r .r .given .1) at (d .row-of .ensures))
           (rw (l .inv .1 .1 .0) at (c .before .before .if1 .left))
-          (rw (c .if2 .taken) at (c .before .bit-above .ensures));
-      words = tt;
+          (rw (c .if2 .taken) at (c .before .bit-above .ensures)));
+      kept = λ rs. kept-refused _ _ rs _;
     }
 
 mul-words : tie.Need-mul-words Inv-loop μ-loop
@@ -154,7 +138,7 @@ loop-again c =
     let d = r .before .before in
     let l = d .before .before .loop in
     let groups = d .before .before .before .before .before .args .groups in
-    let whole = sym (d .row-of .ensures) ∙ r .r .given .1 in (
+    let whole = rw (r .r .given .1) at (d .row-of .ensures) in (
       search needs,
       (
         simp length-set (l .inv .1 .0),
@@ -163,7 +147,6 @@ loop-again c =
           (
             l .inv .1 .1 .1 .0
                 ∙ going-on _ _ _ (d .before .loop-test .taken) _ whole
-                (λ i. d .before .before .before .before .shared-slice-known .given i .fits)
                 (rw (l .inv .1 .1 .0) at (c .before .before .if1 .left))
                 (rw (c .if2 .left) at (c .before .bit-above .ensures)),
             kept-on groups _ _ (d .before .loop-test .taken) _ whole _ (omega arith) (l .inv .1 .1 .1 .1),
@@ -179,23 +162,23 @@ same-length-5 : tie.Need-same-length-5 Inv-loop μ-loop
 same-length-5 c = search needs
 
 returns-5 : tie.Need-returns-5 Inv-loop μ-loop
-unfolding readingOf
+unfolding membershipBytes
 returns-5 c =
     let l = c .before .before .loop in
     let full : l .row ≡ rowLimit = omega arith in
-    record { reading = l .inv .1 .1 .1 .0 ∙ (rw full (going-over _ _ (c .if3 .taken))); words = tt }
+    record { reading = sym (l .inv .1 .1 .1 .0 ∙ (rw full (going-over _ _ (c .if3 .taken)))); kept = λ rs. kept-refused _ _ rs _ }
 
 same-length-6 : tie.Need-same-length-6 Inv-loop μ-loop
 same-length-6 c = search needs
 
 returns-6 : tie.Need-returns-6 Inv-loop μ-loop
-unfolding readingOf
+unfolding membershipBytes
 returns-6 c =
     let l = c .before .before .loop in
     let full : l .row ≡ rowLimit = omega arith in
     record {
-      reading = l .inv .1 .1 .1 .0 ∙ (rw full (going-full _ _ (c .if3 .left)));
-      words = (search needs, rw full at (l .inv .1 .1 .1 .1));
+      reading = sym (l .inv .1 .1 .1 .0 ∙ (rw full (going-full _ _ (c .if3 .left))));
+      kept = λ rs. kept-read _ rs _ (rw full at (l .inv .1 .1 .1 .1));
     }
 
 pub read-rows-spec : {M : Type 1} → statement M
@@ -205,23 +188,19 @@ read-rows-spec =
     Inv-loop
     μ-loop
     loop-holds
+    cast-number
+    add-number
     row-of-requires
     enum-told
     same-length
     returns
     enum-known-n
-    cast-t10
-    add-t11
     same-length-2
     returns-2
     enum-known-r
-    cast-t13
-    add-t14
     same-length-3
     returns-3
     bit-above-requires
-    cast-t16
-    add-t17
     same-length-4
     returns-4
     mul-words

@@ -1,6 +1,5 @@
 -- `parent_group` meets its contract.
-use native.Mathlib.Omega.{arith}
-use Rattle.runs.specs.Placed.{table-son}
+use Rattle.reading.specs.SheetIn.{son-in, parent-below}
 use borrow.Author.Needs.{needs}
 use Rattle.runs.proofs.place.parent_group.Statement.{statement}
 use Rattle.runs.proofs.place.parent_group.Tie as tie
@@ -11,10 +10,9 @@ parent-of-requires c κs = search needs
 returns : tie.Need-returns
 returns c =
     let p = c .before .before .pre in
-    let a = c .before .before .args in
-    let k = table-son (a .groups .now) (a .size) (a .g .0) (p .0 .rooted) (p .1) (p .2) in
     let e = c .parent-of .ensures in
-    (rw e k, rw e (k .above), rw e (omega (arith, p .0 .tree .before (a .g .0) (k .group), k .under)))
+    let k = son-in (p .0) _ _ (p .2) e (p .1) in
+    (k, k .above, parent-below (p .0) _ _ (p .2) e (k .group .first))
 
 pub parent-group-spec : {M : Type 1} → statement M
 parent-group-spec = tie.close (tie.spec parent-of-requires returns)

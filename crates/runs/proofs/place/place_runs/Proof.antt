@@ -5,8 +5,8 @@ use native.Mathlib.Omega.{arith}
 use borrow.Author.Needs.{needs}
 use lib.ListN.{length, length-set}
 use lib.Seq.{getD-set-same}
-use Rattle.reading.specs.Tables.{groupsIn, length-groupsIn}
-use Rattle.runs.specs.Told.{tableSheet, numberIn, placeable-kept}
+use Rattle.reading.specs.SheetIn.{sheetIn, size-in}
+use Rattle.runs.specs.Told.{numberIn, placeable-kept}
 use Rattle.runs.specs.Placed.{Placed, placed-root, placed-all}
 use Rattle.runs.proofs.place.place_runs.Statement.{statement}
 use Rattle.runs.proofs.place.place_runs.Tie as tie
@@ -14,14 +14,14 @@ use Rattle.runs.proofs.place.place_runs.Tie as tie
 abbrev Inv-loop : tie.InvT-loop
 Inv-loop groups size sizes firsts₀ ends₀ i₀ firsts ends i =
     (1 ≤ i) × (i ≤ size) × (length firsts ≡ length firsts₀) × (length ends ≡ length ends₀)
-    × Placed (tableSheet groups size) (numberIn sizes) (numberIn firsts) (numberIn ends) i
+    × Placed (sheetIn groups size) (numberIn sizes) (numberIn firsts) (numberIn ends) i
 
 abbrev μ-loop : tie.MeasureT-loop
 μ-loop groups size sizes firsts₀ ends₀ i₀ firsts ends i = size - i
 
 root : (s : tie.Start Inv-loop μ-loop) → (0 < length (s .args .firsts .now)) × (0 < length (s .args .ends .now))
 root s =
-    let long = length-groupsIn (s .args .groups .now) (s .args .size) in
+    let long = size-in (s .args .groups .now) (s .args .size) in
     (omega arith, omega arith)
 
 slice-write-firsts : tie.Need-slice-write-firsts Inv-loop μ-loop
@@ -36,7 +36,7 @@ loop-holds c =
     let w = s .pre in
     let long = root s in (
       omega arith,
-      omega (arith, length-groupsIn (s .args .groups .now) (s .args .size)),
+      omega (arith, size-in (s .args .groups .now) (s .args .size)),
       refl,
       refl,
       placed-root (w .grown .tree) (w .grown .rooted) (w .balanced) (w .top) (getD-set-same (s .args .firsts .now) 0 1 0
@@ -72,8 +72,8 @@ returns c =
     let s = c .before .before .before .before .before .before in
     let w = s .pre in
     let i = c .before .loop .inv in
-    let e : c .before .loop .i ≡ length (groupsIn (s .args .groups .now) (s .args .size)) =
-    omega (arith, length-groupsIn (s .args .groups .now) (s .args .size)) in
+    let e : c .before .loop .i ≡ sheetIn (s .args .groups .now) (s .args .size) .size =
+    omega (arith, size-in (s .args .groups .now) (s .args .size)) in
     placed-all (w .grown .tree) (w .grown .rooted) (w .balanced) (w .top) (rw e at (i .4))
 
 pub place-runs-spec : {M : Type 1} → statement M

@@ -1,7 +1,7 @@
 -- `place_son` meets its contract.
 use native.Mathlib.Omega.{arith}
 use lib.ListN.{length-set}
-use Rattle.reading.specs.Tables.{length-groupsIn}
+use Rattle.reading.specs.SheetIn.{size-in}
 use Rattle.runs.specs.Placed.{placed-by}
 use borrow.Author.Needs.{needs}
 use Rattle.runs.proofs.place.place_son.Statement.{statement}
@@ -69,7 +69,7 @@ returns c =
     let c6 = c .before .before .before .before .before .before in
     let s = c6 .before .before .before .before .before in
     let t = s .pre .0 .grown in
-    let long = length-groupsIn (s .args .groups .now) (s .args .size) in
+    let long = size-in (s .args .groups .now) (s .args .size) in
     placed-by (s .args .firsts .now) (s .args .ends .now) (c6 .parent-group .result .0) (s .args .g .0)
     (c .before .before .before .start-of .result)
     (t .tree) (t .rooted) (s .pre .0 .balanced) (s .pre .0 .top) (omega arith) (omega arith) (c6 .parent-group .ensures .0)

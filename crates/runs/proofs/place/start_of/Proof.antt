@@ -1,6 +1,4 @@
 -- `start_of` meets its contract.
-use native.Mathlib.Omega.{arith}
-use Rattle.reading.specs.Tables.{length-groupsIn}
 use Rattle.runs.specs.Placed.{start-room, start-is}
 use borrow.Author.Needs.{needs}
 use Rattle.runs.proofs.place.start_of.Statement.{statement}
@@ -54,17 +52,15 @@ shared-slice-read-start-under-4 c = search needs
 start-under-requires : tie.Need-start-under-requires
 start-under-requires c κs =
     let s = c .before .before .before .before .before .before .before .before .before .before .before in
-    let t = s .pre .0 .grown in
-    start-room (s .args .p .0) (s .args .g .0) (t .tree) (t .rooted) (s .pre .0 .balanced) (s .pre .0 .top)
-    (omega (arith, length-groupsIn (s .args .groups .now) (s .args .size))) (s .pre .1 .0 .3) (s .pre .1 .1)
+    let w = s .pre .0 in
+    start-room (w .grown) (w .balanced) (w .top) (s .args .p .0) (s .args .g .0) (s .pre .1 .0 .3) (s .pre .1 .1)
 
 returns : tie.Need-returns
 returns c =
     let c5 = c .before .before .before .before .before in
     let s = c5 .before .before .before .before .before .before .before in
-    let t = s .pre .0 .grown in
-    start-is (s .args .groups .now) (s .args .size) (s .args .p .0) (s .args .g .0) _ (t .tree) (t .rooted) (s .pre .0 .balanced)
-    (s .pre .0 .top) (t .small) (s .pre .1 .0 .3) (s .pre .1 .1)
+    let w = s .pre .0 in
+    start-is (w .grown) (w .balanced) (w .top) (s .args .p .0) (s .args .g .0) (s .pre .1 .0 .3) (s .pre .1 .1) _
     (rw (← c5 .mode-of .ensures) (c .start-under .ensures))
 
 pub start-of-spec : {M : Type 1} → statement M

@@ -1,0 +1,124 @@
+-- `judge_lists` meets its contract: for none of the first i left groups is the claim broken.
+use Prim.Native.Nat.{_-_, _≤_}
+use mathlib.Core.Path.{_≡_, refl, _∙_}
+use native.Mathlib.Omega.{arith}
+use lib.ListN.{length, take}
+use Rattle.reading.specs.SheetIn.{sheetIn, size-in}
+use Rattle.claims.specs.Witnessed.{witnessed-no}
+use Rattle.claims.specs.Groups.{listed-group, listed-known, listed-in}
+use Rattle.claims.specs.Ways.{WayHad, tried-judged, left-none, left-more, left-found}
+use borrow.Author.Needs.{needs}
+use Rattle.claims.proofs.lists.judge_lists.Statement.{statement}
+use Rattle.claims.proofs.lists.judge_lists.Tie as tie
+
+abbrev Inv-loop : tie.InvT-loop
+Inv-loop apart groups size left m right n sizes₀ marks₀ i₀ sizes marks i =
+    (i ≤ m) × (length sizes ≡ length sizes₀) × (length marks ≡ length marks₀)
+    × (WayHad (sheetIn groups size) apart (take i left) (take n right) → ⊥)
+
+abbrev μ-loop : tie.MeasureT-loop
+μ-loop apart groups size left m right n sizes₀ marks₀ i₀ sizes marks i = m - i
+
+loop-holds : tie.Need-loop-holds Inv-loop μ-loop
+loop-holds c =
+    let s = c .before .before .before .before .before in
+    (omega arith, refl, refl, left-none (s .args .apart) (s .args .left .now) (take (s .args .n) (s .args .right .now)))
+
+group-at-requires : tie.Need-group-at-requires Inv-loop μ-loop
+group-at-requires c κs = let s = c .before .before .before .before .before .before .before in omega (arith, s .pre .1 .0 .long)
+
+ask-left-requires : tie.Need-ask-left-requires Inv-loop μ-loop
+ask-left-requires c κs =
+    let g = c .before .before .group-at .ensures in
+    let at = c .before .before .before .before in
+    let s = at .before .before .before .before .before .before in
+    let w = listed-group (s .pre .1 .0) (at .loop .i) (omega arith) in (
+      (
+        record {
+          grown = s .pre .0 .grown;
+          sizes-long = omega (arith, s .pre .0 .sizes-long, at .loop .inv .1);
+          marks-long = omega (arith, s .pre .0 .marks-long, at .loop .inv .2);
+        },
+        s .pre .1 .1,
+      ),
+      (omega (arith, w .0, g), omega (arith, w .1, g)),
+    )
+
+same-length : tie.Need-same-length Inv-loop μ-loop
+same-length c =
+    let c5 = c .before .before .before .before .before in
+    c5 .ask-left .kept .1 .1 .1 .1 .1 .1 .0 ∙ c5 .before .before .before .before .before .loop .inv .1
+
+same-length-2 : tie.Need-same-length-2 Inv-loop μ-loop
+same-length-2 c =
+    let c5 = c .before .before .before .before .before in
+    c5 .ask-left .kept .1 .1 .1 .1 .1 .1 .1 .0 ∙ c5 .before .before .before .before .before .loop .inv .2
+
+returns : tie.Need-returns Inv-loop μ-loop
+returns c =
+    let c5 = c .before .before .before .before .before in
+    let g = c5 .before .before .before .group-at .ensures in
+    let at = c5 .before .before .before .before .before in
+    let s = at .before .before .before .before .before .before in
+    let a = s .args in
+    let n = size-in (a .groups .now) (a .size) in
+    tried-judged (a .apart) (s .pre .0 .grown .tree) (listed-known (listed-in (omega (arith, n)) (s .pre .1 .0)))
+    (listed-known (listed-in (omega (arith, n)) (s .pre .1 .1)))
+    (left-found (a .apart) (a .left .now) (take (a .n) (a .right .now)) (a .m) (at .loop .i) (omega arith) (s .pre .1 .0 .long)
+    (rw g at (c5 .ask-left .ensures)) (c .if1 .taken))
+
+add-i : tie.Need-add-i Inv-loop μ-loop
+add-i c = search needs
+
+loop-less : tie.Need-loop-less Inv-loop μ-loop
+loop-less c = search needs
+
+loop-again : tie.Need-loop-again Inv-loop μ-loop
+loop-again c =
+    let c5 = c .before .before .before .before .before in
+    let g = c5 .before .before .before .group-at .ensures in
+    let at = c5 .before .before .before .before .before in
+    let s = at .before .before .before .before .before .before in
+    let a = s .args in
+    let v = at .loop .inv in (
+      omega arith,
+      c5 .ask-left .kept .1 .1 .1 .1 .1 .1 .0 ∙ v .1,
+      c5 .ask-left .kept .1 .1 .1 .1 .1 .1 .1 .0 ∙ v .2,
+      left-more (a .apart) (a .left .now) (take (a .n) (a .right .now)) (at .loop .i)
+          (omega (arith, s .pre .1 .0 .long)) (v .3) (rw g at (c5 .ask-left .ensures)) (c .if1 .left),
+    )
+
+same-length-3 : tie.Need-same-length-3 Inv-loop μ-loop
+same-length-3 c = search needs
+
+same-length-4 : tie.Need-same-length-4 Inv-loop μ-loop
+same-length-4 c = search needs
+
+returns-2 : tie.Need-returns-2 Inv-loop μ-loop
+returns-2 c =
+    let at = c .before in
+    let s = at .before .before .before .before .before .before in
+    let a = s .args in
+    let n = size-in (a .groups .now) (a .size) in
+    let e : at .loop .i ≡ a .m = omega arith in
+    tried-judged (a .apart) (s .pre .0 .grown .tree) (listed-known (listed-in (omega (arith, n)) (s .pre .1 .0)))
+    (listed-known (listed-in (omega (arith, n)) (s .pre .1 .1))) (witnessed-no (rw e at (at .loop .inv .3)))
+
+pub judge-lists-spec : {M : Type 1} → statement M
+judge-lists-spec =
+    tie.close
+    (tie.spec
+    Inv-loop
+    μ-loop
+    loop-holds
+    group-at-requires
+    ask-left-requires
+    same-length
+    same-length-2
+    returns
+    add-i
+    loop-less
+    loop-again
+    same-length-3
+    same-length-4
+    returns-2)

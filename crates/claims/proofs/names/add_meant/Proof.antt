@@ -1,0 +1,55 @@
+-- `add_meant` meets its contract.
+use mathlib.Core.Path.{sym}
+use mathlib.Core.List.{append-nil}
+use native.Mathlib.Omega.{arith}
+use native.Mathlib.Numerals.{add-one}
+use lib.Seq.{take-suc-set}
+use Rattle.claims.specs.Groups.{groups-zero, groups-one}
+use borrow.Author.Needs.{needs}
+use Rattle.claims.proofs.names.add_meant.Statement.{statement}
+use Rattle.claims.proofs.names.add_meant.Tie as tie
+
+enum-told : tie.Need-enum-told
+enum-told c = search needs
+
+enum-known-m : tie.Need-enum-known-m
+enum-known-m c = search needs
+
+mul-list : tie.Need-mul-list
+mul-list c = search needs
+
+slice-write-list : tie.Need-slice-write-list
+slice-write-list c = search needs
+
+add-result : tie.Need-add-result
+add-result c = search needs
+
+returns : tie.Need-returns
+returns c = (
+  omega arith,
+  rw (c .enum-told .given .1, groups-zero) (sym (append-nil _)),
+)
+
+same-length : tie.Need-same-length
+same-length c = search needs
+
+returns-2 : tie.Need-returns-2
+returns-2 c =
+    let s = c .before .before .before in
+    let e = c .before .m .given .1 in (
+      omega arith,
+      rw (e, groups-one _ (rw e at (s .pre .1)), add-one) (take-suc-set _ _ _ (s .pre .0)),
+    )
+
+pub add-meant-spec : {M : Type 1} → statement M
+add-meant-spec =
+    tie.close
+    (tie.spec
+    enum-told
+    enum-known-m
+    mul-list
+    slice-write-list
+    add-result
+    returns
+    same-length
+    returns-2)

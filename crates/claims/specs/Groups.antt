@@ -1,0 +1,109 @@
+-- Lists of groups in tables, and the groups among what names mean.
+use Prim.Native.Nat.{ℕ, zero, suc, _+_, _≤_, _<_}
+use mathlib.Core.Path.{_≡_, refl, ap}
+use mathlib.Core.Bool.{_||_}
+use mathlib.Core.List.{
+  List,
+  [],
+  _∷_,
+  _++_,
+  List·Memᴰ,
+  List·Memᴰ·head,
+  List·Memᴰ·tail,
+  List·Memᴰ·not-nil,
+  List·Memᴰ·cases-cons,
+  List·Memᴰ·append-cases,
+  List·Memᴰ·eq-of-singleton,
+}
+use mathlib.Core.Logic.{_⊎_, inl, inr, ⊎-elim}
+use native.Mathlib.Omega.{arith}
+use native.Mathlib.Numerals.{add-one}
+use lib.ListN.{length, getD, take}
+use lib.Seq.{take-suc}
+use Rattle.meaning.specs.Sets.{Sets}
+use Rattle.meaning.specs.Claim.{union}
+
+-- "0 stands for the empty set": the groups among what names mean
+unfoldable pub groupsAmong : List ℕ → List ℕ
+groupsAmong [] = []
+groupsAmong (zero ∷ l) = groupsAmong l
+groupsAmong (suc g ∷ l) = suc g ∷ groupsAmong l
+
+-- every number on the list is a group of a sheet of `size` groups
+abbrev pub AllGroups : ℕ → List ℕ → Type 0
+AllGroups size [] = Unit {0}
+AllGroups size (g ∷ l) = (1 ≤ g) × (g ≤ size) × AllGroups size l
+
+-- every number on the list is at most n: a group of a sheet of n groups, or 0
+abbrev pub AllUpTo : ℕ → List ℕ → Type 0
+AllUpTo n l = (g : ℕ) → List·Memᴰ g l → g ≤ n
+
+-- a list of n groups, in a table
+pub record Listed (table : List ℕ) (n size : ℕ) : Type 0 where
+  pub long : n ≤ length table
+  pub groups : AllGroups size (take n table)
+
+-- The empty set has no members: what names mean and the groups among it have the same union.
+pub union-groups : {X : Type 0} (A : Sets X) (l : List ℕ) (x : X) → union A (groupsAmong l) x ≡ union A l x
+unfolding groupsAmong
+union-groups A [] x = refl
+union-groups A (zero ∷ l) x = union-groups A l x
+union-groups A (suc g ∷ l) x = ap (λ b. A .has (suc g) x || b) (union-groups A l x)
+
+pub groups-none : groupsAmong [] ≡ []
+unfolding groupsAmong
+groups-none = refl
+
+pub groups-more : (g : ℕ) (l : List ℕ) → groupsAmong (g ∷ l) ≡ groupsAmong (g ∷ []) ++ groupsAmong l
+unfolding groupsAmong
+groups-more zero l = refl
+groups-more (suc g) l = refl
+
+pub groups-one : (g : ℕ) → 1 ≤ g → groupsAmong (g ∷ []) ≡ g ∷ []
+unfolding groupsAmong
+groups-one zero l = absurd (omega arith)
+groups-one (suc g) l = refl
+
+pub groups-zero : groupsAmong (0 ∷ []) ≡ []
+unfolding groupsAmong
+groups-zero = refl
+
+pub groups-all : (size : ℕ) (l : List ℕ) → AllUpTo size l → AllGroups size (groupsAmong l)
+unfolding groupsAmong
+groups-all size [] h = tt
+groups-all size (zero ∷ l) h = groups-all size l (λ g m. h g (List·Memᴰ·tail m))
+groups-all size (suc g ∷ l) h =
+    (omega arith, h (suc g) (List·Memᴰ·head refl), groups-all size l (λ i m. h i (List·Memᴰ·tail m)))
+
+-- the numbers on a list in a table
+pub listed-at : (t : List ℕ) (n i : ℕ) → i < n → n ≤ length t → List·Memᴰ (getD t i 0) (take n t)
+listed-at [] n i a b = absurd (omega arith)
+listed-at (x ∷ t) zero i a b = absurd (omega arith)
+listed-at (x ∷ t) (suc n) zero a b = List·Memᴰ·head refl
+listed-at (x ∷ t) (suc n) (suc i) a b = List·Memᴰ·tail (listed-at t n i (omega arith) (omega arith))
+
+pub listed-more : (t : List ℕ) (i g : ℕ) → i < length t → List·Memᴰ g (take (i + 1) t)
+    → List·Memᴰ g (take i t) ⊎ (g ≡ getD t i 0)
+listed-more t i g l m =
+    ⊎-elim inl (λ o. inr (List·Memᴰ·eq-of-singleton o))
+    (List·Memᴰ·append-cases (take i t) (rw (add-one, take-suc t i 0 l) at m))
+
+-- one group of a list
+pub all-groups : (size : ℕ) (l : List ℕ) → AllGroups size l → (g : ℕ) → List·Memᴰ g l → (1 ≤ g) × (g ≤ size)
+all-groups size [] w g m = absurd (List·Memᴰ·not-nil m)
+all-groups size (h ∷ l) w g m =
+    ⊎-elim (λ (e : g ≡ h). rw e (w .0, w .1)) (λ i. all-groups size l (w .2) g i) (List·Memᴰ·cases-cons m)
+
+pub listed-group : {t : List ℕ} {n size : ℕ} → Listed t n size → (i : ℕ) → i < n → (1 ≤ getD t i 0) × (getD t i 0 ≤ size)
+listed-group {t} {n} {size} w i l = all-groups size (take n t) (w .groups) (getD t i 0) (listed-at t n i l (w .long))
+
+pub listed-known : {t : List ℕ} {n size : ℕ} → Listed t n size → AllUpTo size (take n t)
+listed-known {t} {n} {size} w g m = all-groups size (take n t) (w .groups) g m .1
+
+-- the list of a larger sheet
+pub listed-in : {t : List ℕ} {n size more : ℕ} → size ≤ more → Listed t n size → Listed t n more
+listed-in {t} {n} {size} {more} h w = record { long = w .long; groups = wider (take n t) (w .groups) }
+  where
+    wider : (l : List ℕ) → AllGroups size l → AllGroups more l
+    wider [] v = tt
+    wider (g ∷ l) v = (v .0, omega (arith, v .1), wider l (v .2))

@@ -1,0 +1,159 @@
+-- The contracts of the three operations settle every exit: of two exits of one call that both meet its contract, the numbers
+-- returned are equal and so is every byte, but for the sets that a denial shows (document 01, "We agree on this").
+use Prim.Native.Nat.{ℕ, _+_, _*_}
+use mathlib.Core.Path.{_≡_, refl, sym, ap, _∙_}
+use mathlib.Core.List.{List}
+use mathlib.Core.Logic.{_⊎_, inl, inr, ⊎-elim}
+use native.Mathlib.Omega.{arith}
+use borrow.Author.Tests.{eqb-true}
+use lib.Dec.{eqb}
+use lib.ListN.{length, drop}
+use Rattle.wire.specs.Limits.{noGreatest, rangeBytes, verdictBytes, answerBytes}
+use Rattle.wire.specs.Record.{read}
+use Rattle.wire.specs.SheetFormat.{Records, readSheet}
+use Rattle.wire.specs.RegisterFormat.{Row, readRegister}
+use Rattle.wire.specs.Encoding.{Bytes}
+use Rattle.meaning.specs.Sheet.{Sheet, Group, Top, fin, inf}
+use Rattle.meaning.specs.Sets.{count}
+use Rattle.meaning.specs.Fits.{Possible}
+use Rattle.meaning.specs.Claim.{Claim, Breakable}
+use Rattle.meaning.specs.OfRecords.{sheetOf, claimAt, listedSets}
+use Rattle.meaning.proofs.SumLaws.{split}
+use Rattle.sizes.specs.ArrangedOnce.{ends-once}
+use Rattle.sizes.specs.Readable.{readable-possible-or-not, readable-breakable-or-not, readable-arrangement-once}
+use Rattle.registers.specs.Settled.{answered-once}
+use Rattle.claims.specs.declared.verdict.Verdict.{Verdict}
+use Rattle.group_sheet.specs.Reply.{call, packed, Replied}
+use Rattle.group_sheet.specs.RangesReply.{rangeAt, rangeLeast, rangeGreatest, runFirst, runCount, greatestOf, RangesIn, Ranges}
+use Rattle.group_sheet.specs.RegisterReply.{AnswerIn, Register}
+use Rattle.group_sheet.specs.ClaimReply.{denialBytes, shownAt, VerdictIn, DenialIn, ClaimVerdict}
+use Rattle.group_sheet.proofs.Alike.{Alike, alike-then, alike-many, u16-alike, u32-alike}
+use Rattle.group_sheet.proofs.Exits.{once-read, once-possible, once-numbered, once-room, replied-alike}
+
+-- Ranges.
+-- the number that stands for an upper end
+numberOf : Top → ℕ
+numberOf (fin n) = n
+numberOf inf = noGreatest
+
+number-greatest : (n : ℕ) → numberOf (greatestOf n) ≡ n
+unfolding numberOf greatestOf
+number-greatest n = split (eqb n noGreatest) (λ e. rw e (sym (eqb-true n noGreatest e))) (λ e. rw e)
+
+-- the record of a group, from its range and its run
+module _ (s : Sheet) {out out' : List ℕ} (x : Bytes out) (y : Bytes out') (v : RangesIn s out) (w : RangesIn s out') where
+  range-once : Possible s → (g : ℕ) → Group s g
+      → (rangeLeast out g ≡ rangeLeast out' g) × (rangeGreatest out g ≡ rangeGreatest out' g)
+  range-once p g q =
+      let e = ends-once (rangeLeast out g) (rangeLeast out' g) (greatestOf (rangeGreatest out g))
+      (greatestOf (rangeGreatest out' g)) (v .range g q) (w .range g q) (count (p .0) g) (p .0, p .1, refl) in
+      (e .0, sym (number-greatest (rangeGreatest out g)) ∙ ap numberOf (e .1) ∙ number-greatest (rangeGreatest out' g))
+
+  ranges-alike : Possible s → ((g : ℕ) → Group s g → (runFirst out g ≡ runFirst out' g) × (runCount out g ≡ runCount out' g))
+      → Alike out out' 0 (rangeBytes * s .size)
+  ranges-alike p runs =
+      alike-many rangeBytes (s .size)
+      (λ g l k.
+      let q : Group s g = omega arith in
+      let i = rangeAt g in
+      let f = v .frame g q in
+      let f' = w .frame g q in
+      let e = range-once p g q in
+      let o = runs g q in
+      alike-then (alike-then (alike-then (alike-then (alike-then
+      (u16-alike x y i (f .0) (f' .0))
+      (u16-alike x y (i + 2) (f .1) (f' .1)))
+      (u32-alike x y (i + 4) (e .0)))
+      (u32-alike x y (i + 8) (e .1)))
+      (u32-alike x y (i + 12) (o .0)))
+      (u32-alike x y (i + 16) (o .1)))
+
+-- Two exits of `sheet_ranges` that meet its contract for the same sheet and the same buffer at entry are the same: the number
+-- returned and every byte.
+pub ranges-settled : (sheet : List ℕ) {before after after' : List ℕ} {r r' : ℕ} → Ranges sheet (call before r after)
+    → Ranges sheet (call before r' after') → Bytes after → Bytes after' → (r ≡ r') × (after ≡ after')
+ranges-settled sheet v w x y =
+    once-read (λ z. z) (readSheet sheet) v w
+    (λ d e v w. once-possible (λ z. z) (readable-possible-or-not sheet d e) v w
+    (λ p v w. once-room (λ z. z) v w
+    (λ a b m n. replied-alike a b
+    (ranges-alike (sheetOf (d .groups)) x y m n p (readable-arrangement-once sheet d e p (m .arranged) (n .arranged))))))
+
+-- Registers.
+answer-alike : {s : Sheet} {rows : List Row} {out out' : List ℕ} → Bytes out → Bytes out' → AnswerIn s rows out → AnswerIn s rows out'
+    → Alike out out' 0 answerBytes
+answer-alike {s} {rows} x y v w =
+    let e = answered-once s (listedSets rows) _ _ _ _ (v .answer) (w .answer) in
+    alike-then (alike-then (alike-then
+    (u16-alike x y 0 (v .sized) (w .sized))
+    (u16-alike x y 2 (v .kind) (w .kind)))
+    (u16-alike x y 4 (e .0) refl))
+    (u16-alike x y 6 (e .1) refl)
+
+-- Two exits of `sheet_register` that meet its contract for the same sheet, register and buffer at entry are the same: the
+-- number returned and every byte.
+pub register-settled : (sheet register : List ℕ) {before after after' : List ℕ} {r r' : ℕ}
+    → Register sheet register (call before r after) → Register sheet register (call before r' after')
+    → Bytes after → Bytes after' → (r ≡ r') × (after ≡ after')
+register-settled sheet register v w x y =
+    once-read (λ z. z) (readSheet sheet) v w
+    (λ d e v w. once-read (λ z. z) (readRegister (d .edition) (length (d .groups)) register) v w
+    (λ rows f v w. once-room (λ z. z) v w
+    (λ a b m n. replied-alike a b (answer-alike x y m n))))
+
+-- Claims.
+verdict-alike : {o : Verdict} {out out' : List ℕ} → Bytes out → Bytes out' → VerdictIn o out → VerdictIn o out'
+    → Alike out out' 0 verdictBytes
+verdict-alike x y v w =
+    alike-then (alike-then
+    (u16-alike x y 0 (v .sized) (w .sized))
+    (u16-alike x y 2 (v .kind) (w .kind)))
+    (u16-alike x y 4 (v .verdict) (w .verdict))
+
+-- Two buffers with denials under s are the same but for the sets. Open are the ten bytes of each group's record that hold its
+-- run and its mark.
+pub record SameButSets (s : Sheet) (out out' : List ℕ) : Type 0 where
+  pub sized : length out ≡ length out'
+  pub verdict : Alike out out' 0 verdictBytes
+  pub frames : (g : ℕ) → Group s g → Alike out out' (shownAt g) 4
+  pub rest : drop (denialBytes (s .size)) out ≡ drop (denialBytes (s .size)) out'
+
+-- Claim k of the sheet can be broken, the number r returned is a denial's, and the buffers are the same but for the sets.
+pub record DeniedAlike (sheet : List ℕ) (k r : ℕ) (out out' : List ℕ) : Type 0 where
+  pub records : Records
+  pub readable : readSheet sheet ≡ read records
+  pub breakable : Breakable (sheetOf (records .groups)) (claimAt records k)
+  pub returned : r ≡ packed 0 (denialBytes (length (records .groups)))
+  pub same : SameButSets (sheetOf (records .groups)) out out'
+
+denials-alike : {s : Sheet} {k : Claim} {before after after' : List ℕ} {r r' : ℕ} → Bytes after → Bytes after'
+    → Replied (denialBytes (s .size)) (call before r after) → Replied (denialBytes (s .size)) (call before r' after')
+    → DenialIn s k after → DenialIn s k after' → SameButSets s after after'
+denials-alike x y a b v w = record {
+  sized = a .sized ∙ sym (b .sized);
+  verdict = verdict-alike x y (v .verdict) (w .verdict);
+  frames = λ g q.
+      let m = v .records g q in
+      let n = w .records g q in
+      alike-then (u16-alike x y (shownAt g) (m .sized) (n .sized)) (u16-alike x y (shownAt g + 2) (m .kind) (n .kind));
+  rest = a .rest ∙ sym (b .rest);
+}
+
+-- Two exits of `sheet_claim` that meet its contract for the same sheet, claim number and buffer at entry return the same number,
+-- and every byte is the same, unless the claim is denied: then every byte but those of the sets.
+pub claim-settled : (sheet : List ℕ) (k : ℕ) {before after after' : List ℕ} {r r' : ℕ} → ClaimVerdict sheet k (call before r after)
+    → ClaimVerdict sheet k (call before r' after') → Bytes after → Bytes after'
+    → (r ≡ r') × ((after ≡ after') ⊎ DeniedAlike sheet k r after after')
+claim-settled sheet k {after} {after'} {r} {r'} v w x y =
+    let same : (r ≡ r') × (after ≡ after') → (r ≡ r') × ((after ≡ after') ⊎ DeniedAlike sheet k r after after') = λ z. (z .0, inl (z .1)) in
+    once-read same (readSheet sheet) v w
+    (λ d e v w. once-possible same (readable-possible-or-not sheet d e) v w
+    (λ p v w. once-numbered same v w
+    (λ v w. ⊎-elim
+    (λ c. once-room same (v .denied c) (w .denied c)
+    (λ a b m n. (
+      a .returned ∙ sym (b .returned),
+      inr (record { records = d; readable = e; breakable = c; returned = a .returned; same = denials-alike x y a b m n }),
+    )))
+    (λ c. once-room same (v .holds c) (w .holds c) (λ a b m n. same (replied-alike a b (verdict-alike x y m n))))
+    (readable-breakable-or-not sheet d e k))))

@@ -1,0 +1,77 @@
+-- The sheet that a table of groups holds, and what holds of the table where the sheet is readable.
+use Prim.Native.Nat.{ℕ, _-_, _*_, _≤_, _<_}
+use mathlib.Core.Path.{_≡_, sym, ap, _∙_}
+use mathlib.Core.List.{List}
+use native.Mathlib.Omega.{arith}
+use lib.ListN.{length}
+use Rattle.wire.specs.Limits.{groupCapacity, noEnd}
+use Rattle.meaning.specs.Sheet.{Sheet, Group, Son, Tree, Rooted}
+use Rattle.meaning.specs.OfRecords.{sheetOf, endOf, disjointMode, coverMode, sameMode}
+use Rattle.reading.specs.Tables.{groupFields, groupIn, groupsIn, length-groupsIn, groupAt-groupsIn}
+
+-- the sheet of the first n groups of the table
+unfoldable pub sheetIn : List ℕ → ℕ → Sheet
+sheetIn t n = sheetOf (groupsIn t n)
+
+-- No end of an interval that the groups of a table give is above this: `noEnd` for each group.
+abbrev pub sizeLimit : ℕ
+sizeLimit = noEnd * groupCapacity
+
+-- the table holds the groups of a readable sheet: a tree with group 1 as its root (document 01, "Records of a sheet", kind 2)
+pub record Tabled (t : List ℕ) (n : ℕ) : Type 0 where
+  pub some : 1 ≤ n
+  pub small : n ≤ groupCapacity
+  pub long : groupFields * n ≤ length t
+  pub tree : Tree (sheetIn t n)
+  pub rooted : Rooted (sheetIn t n)
+
+pub size-in : (t : List ℕ) (n : ℕ) → sheetIn t n .size ≡ n
+unfolding sheetIn
+size-in t n = length-groupsIn t n
+
+pub group-in : (t : List ℕ) (n : ℕ) {g : ℕ} → 1 ≤ g → g ≤ n → Group (sheetIn t n) g
+group-in t n a b = record { first = a; last = omega (arith, size-in t n) }
+
+-- the fields of a group
+module _ (t : List ℕ) (n g : ℕ) (k : Group (sheetIn t n) g) where
+  pub parent-in : sheetIn t n .parent g ≡ groupIn t (g - 1) .parent
+  unfolding sheetIn
+  parent-in = ap (λ r. r .parent) (groupAt-groupsIn t n g (k .first) (omega (arith, size-in t n)))
+
+  pub lo-in : sheetIn t n .lo g ≡ groupIn t (g - 1) .lo
+  unfolding sheetIn
+  lo-in = ap (λ r. r .lo) (groupAt-groupsIn t n g (k .first) (omega (arith, size-in t n)))
+
+  pub hi-in : sheetIn t n .hi g ≡ endOf (groupIn t (g - 1) .hi)
+  unfolding sheetIn
+  hi-in = ap (λ r. endOf (r .hi)) (groupAt-groupsIn t n g (k .first) (omega (arith, size-in t n)))
+
+  pub disjoint-in : sheetIn t n .disjoint g ≡ disjointMode (groupIn t (g - 1) .mode)
+  unfolding sheetIn
+  disjoint-in = ap (λ r. disjointMode (r .mode)) (groupAt-groupsIn t n g (k .first) (omega (arith, size-in t n)))
+
+  pub cover-in : sheetIn t n .cover g ≡ coverMode (groupIn t (g - 1) .mode)
+  unfolding sheetIn
+  cover-in = ap (λ r. coverMode (r .mode)) (groupAt-groupsIn t n g (k .first) (omega (arith, size-in t n)))
+
+  pub same-in : sheetIn t n .same g ≡ sameMode (groupIn t (g - 1) .mode)
+  unfolding sheetIn
+  same-in = ap (λ r. sameMode (r .mode)) (groupAt-groupsIn t n g (k .first) (omega (arith, size-in t n)))
+
+-- number 0, which is no group, has no parent
+pub none-above : {t : List ℕ} {n : ℕ} → Tabled t n → sheetIn t n .parent 0 ≡ 0
+unfolding sheetIn
+none-above k = k .rooted .top
+
+-- the number that the table has as a group's parent is below the group's; a group other than the root is a son of that group
+module _ {t : List ℕ} {n : ℕ} (k : Tabled t n) (g p : ℕ) (b : g ≤ n) (e : p ≡ groupIn t (g - 1) .parent) where
+  pub parent-below : 1 ≤ g → p < g
+  parent-below a =
+      let q = group-in t n a b in
+      omega (arith, k .tree .before g q, parent-in t n g q)
+
+  pub son-in : 2 ≤ g → Son (sheetIn t n) p g
+  son-in a =
+      let q = group-in t n {g = g} (omega arith) b in
+      let up = parent-in t n g q in
+      record { above = omega (arith, k .rooted .rest g q a); group = q; under = up ∙ sym e }

@@ -1,0 +1,25 @@
+// The capacities of a register and the lengths of the check's tables: document 01, "Registers".
+use reading::tables::GROUPS;
+
+// Most rows of a register, and the row that bytes after them count as.
+pub const ROWS: usize = 2048;
+
+pub const ROW_TOO_MANY: u32 = ROWS as u32 + 1;
+
+// The bytes of a row: length and kind, the member, a bit for each group. The length field counts what follows it.
+pub const ROW_BYTES: usize = 8 + GROUPS as usize / 8;
+
+pub const ROW_LENGTH: u16 = ROW_BYTES as u16 - 2;
+
+pub const ROW_KIND: u16 = 32;
+
+// Two words, a bit for each group: so long is the table of the rows.
+pub const ROW_WORDS: usize = 2 * ROWS;
+
+// Places by a group's number, 0 for none, and two words at each for its sons.
+pub const GROUP_PLACES: usize = GROUPS as usize + 1;
+
+pub const SON_WORDS: usize = 2 * GROUP_PLACES;
+
+// The hi that stands for no upper end.
+pub const NO_END: u16 = 65535;

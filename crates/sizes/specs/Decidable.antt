@@ -1,0 +1,174 @@
+-- Some sets fit a sheet or none do, and some sets fit it and break a claim or none do: for every tree and every claim.
+use Prim.Native.Nat.{ℕ, suc, _+_, _≤_}
+use mathlib.Core.Path.{_≡_, refl, subst}
+use mathlib.Core.Bool.{Bool, true, false}
+use mathlib.Core.List.{List, [], _∷_, List·Memᴰ, List·Memᴰ·head, List·Memᴰ·tail, List·Memᴰ·not-nil, List·Memᴰ·cases-cons}
+use mathlib.Core.Logic.{_⊎_, inl, inr, ⊎-elim, by-cases, Iff·symm, Dec·and, Dec·of-iff}
+use native.Mathlib.Omega.{arith}
+use native.Mathlib.Decide.{decLe}
+use Rattle.meaning.specs.Sum.{bit}
+use Rattle.meaning.specs.Sheet.{Sheet, Group, Tree, Top, fin, inf}
+use Rattle.meaning.specs.Fits.{Possible}
+use Rattle.meaning.specs.Claim.{Claim, counted, within, separate, Breakable}
+use Rattle.sizes.specs.Balanced.{Choice}
+use Rattle.sizes.specs.Span.{Span, none, span, In}
+use Rattle.sizes.specs.Ranged.{free}
+use Rattle.meaning.proofs.SumLaws.{compare-le, compare-eq}
+use Rattle.sizes.specs.SpanLaws.{Proper}
+use Rattle.sizes.specs.Possible.{Sizes, nowhere, sizes-choice, choice-sizes, possible}
+use Rattle.sizes.specs.ClaimsPlace.{placeIn}
+use Rattle.sizes.specs.ClaimsCount.{tree-rebound}
+use Rattle.sizes.specs.ClaimsMath.{one-or-all, Known, lists, Way, away, along, breakable-lists, High, breakable-counted, breakable-empty}
+use Rattle.sizes.specs.Exact.{sound, span-proper, had}
+use Rattle.sizes.specs.MeasuredLaws.{spansOf, spans-measured}
+use Rattle.sizes.specs.PullLaws.{proper-least}
+use Rattle.sizes.specs.Widened.{widened, widened-tree, widened-fits}
+
+-- decisions of 'or', and of a number on a list
+dec-or : {P Q : Type 0} → Dec P → Dec Q → Dec (P ⊎ Q)
+dec-or (yes p) e = yes (inl p)
+dec-or (no n) (yes q) = yes (inr q)
+dec-or (no n) (no m) = no (⊎-elim n m)
+
+dec-listed : {P : ℕ → Type 0} → ((g : ℕ) → Dec (P g)) → (l : List ℕ) → Dec ((g : ℕ) × List·Memᴰ g l × P g)
+dec-listed d [] = no (λ w. List·Memᴰ·not-nil (w .1))
+dec-listed {P} d (x ∷ l) = step (d x) (dec-listed d l)
+  where
+    step : Dec (P x) → Dec ((g : ℕ) × List·Memᴰ g l × P g) → Dec ((g : ℕ) × List·Memᴰ g (x ∷ l) × P g)
+    step (yes p) e = yes (x, List·Memᴰ·head refl, p)
+    step (no n) (yes w) = yes (w .0, List·Memᴰ·tail (w .1), w .2)
+    step (no n) (no m) =
+        no (λ w. ⊎-elim (λ e. n (subst P e (w .2))) (λ o. m (w .0, o, w .2)) (List·Memᴰ·cases-cons (w .1)))
+
+-- whether a span has no number, and its least number
+hasNone : Span → Bool
+hasNone none = true
+hasNone (span l u) = false
+
+lowest : Span → ℕ
+lowest none = 0
+lowest (span l u) = l
+
+lowest-or-none : (a : Span) → Proper a
+    → ((hasNone a ≡ false) × In (lowest a) a) ⊎ ((hasNone a ≡ true) × ((n : ℕ) → In n a → ⊥))
+unfolding hasNone lowest
+lowest-or-none none p = inr (refl, λ n i. i)
+lowest-or-none (span l u) p = inl (refl, proper-least l u p)
+
+-- the first state whose span has a number, in if neither has one
+stateOf : (Bool → Span) → Bool
+stateOf a = hasNone (a false)
+
+state-or-none : (a : Bool → Span) → ((c : Bool) → Proper (a c))
+    → In (lowest (a (stateOf a))) (a (stateOf a)) ⊎ ((c : Bool) (n : ℕ) → In n (a c) → ⊥)
+unfolding stateOf
+state-or-none a p =
+    ⊎-elim
+    (λ w. inl (rw (w .0) (w .1)))
+    (λ w. ⊎-elim (λ v. inl (rw (w .0) (v .1))) (λ v. inr (both (w .1) (v .1))) (lowest-or-none (a true) (p true)))
+    (lowest-or-none (a false) (p false))
+  where
+    both : ((n : ℕ) → In n (a false) → ⊥) → ((n : ℕ) → In n (a true) → ⊥) → (c : Bool) (n : ℕ) → In n (a c) → ⊥
+    both x y false = x
+    both x y true = y
+
+-- choices and sizes: there is one exactly when every group has a number in some state
+choice-dec : {s : Sheet} (may : ℕ → Bool → Bool) → Tree s → Dec ((f : ℕ → ℕ) × (M : ℕ → Bool) × Choice s may f M)
+choice-dec {s} may t =
+    let z = spansOf s may in
+    let m = spans-measured s may t in
+    ⊎-elim
+    (λ w. no (λ v. w .2 .1 (v .1 (w .0)) (v .0 (w .0)) (sound s may z t m (v .0) (v .1) (v .2) (w .0) (w .2 .0))))
+    (λ w. let v = had s may z t m (λ g. lowest (z g (stateOf (z g)))) (λ g. stateOf (z g)) (λ g q e. w g (omega arith) q) in
+    yes (v .0, v .1, v .2))
+    (one-or-all {P = λ g. Group s g × ((c : Bool) (n : ℕ) → In n (z g c) → ⊥)}
+    {Q = λ g. Group s g → In (lowest (z g (stateOf (z g)))) (z g (stateOf (z g)))} (suc (s .size))
+    (λ g l. compare-le 1 g
+    (λ i. let q : Group s g = omega arith in
+    ⊎-elim (λ x. inr (λ o. x)) (λ x. inl (q, x)) (state-or-none (z g) (span-proper s may z t m g q)))
+    (λ i. inr (λ q. absurd (omega arith)))))
+
+sizes-dec : {s : Sheet} → Tree s → Dec ((f : ℕ → ℕ) × Sizes s f)
+sizes-dec t =
+    Dec·of-iff (
+      λ w. ((λ g. w .0 g + bit (w .1 g)), choice-sizes (w .2)),
+      λ w. (w .0, nowhere, sizes-choice free (λ g q. refl) (w .1)),
+    ) (choice-dec free t)
+
+possible-dec : {s : Sheet} → Tree s → Dec (Possible s)
+possible-dec t = Dec·of-iff (Iff·symm (possible t)) (sizes-dec t)
+
+-- kinds 5 and 6: a place for one of the ways to break the claim
+way-dec : {P : List ℕ → List ℕ → Type 0} → ((ins outs : List ℕ) → Dec (P ins outs)) → (b : Bool) (l r : List ℕ)
+    → Dec ((ins outs : List ℕ) × Way l r b ins outs × P ins outs)
+way-dec {P} d false l r =
+    Dec·of-iff (λ w. (w .0 ∷ [], r, away (w .1) (w .2 .0), w .2 .1), λ w. back (w .2) (w .3))
+    (dec-listed (λ g. Dec·and (decLe 1 g) (d (g ∷ []) r)) l)
+  where
+    back : {ins outs : List ℕ} → Way l r false ins outs → P ins outs → (g : ℕ) × List·Memᴰ g l × ((1 ≤ g) × P (g ∷ []) r)
+    back (away {g = g} m p) x = (g, m, (p, x))
+way-dec {P} d true l r =
+    Dec·of-iff (
+      λ w. let v = w .2 .1 in (w .0 ∷ v .0 ∷ [], [], along (w .1) (w .2 .0) (v .1) (v .2 .0), v .2 .1),
+      λ w. back (w .2) (w .3),
+    )
+    (dec-listed (λ g. Dec·and (decLe 1 g) (dec-listed (λ h. Dec·and (decLe 1 h) (d (g ∷ h ∷ []) [])) r)) l)
+  where
+    back : {ins outs : List ℕ} → Way l r true ins outs → P ins outs
+        → (g : ℕ) × List·Memᴰ g l × ((1 ≤ g) × ((h : ℕ) × List·Memᴰ h r × ((1 ≤ h) × P (g ∷ h ∷ []) [])))
+    back (along {g = g} {h = h} m p o q) x = (g, m, (p, (h, o, (q, x))))
+
+lists-dec : {s : Sheet} → Tree s → (b : Bool) (l r : List ℕ) → Known s l → Known s r → Dec (Breakable s (lists b l r))
+lists-dec t b l r k n =
+    let e = breakable-lists t b l r k n in
+    Dec·of-iff (
+      λ w. e .1 (w .0, w .1, w .2, w .3 .0, w .3 .1, w .3 .2),
+      λ w. let v = e .0 w in (v .0, v .1, v .2, (v .3, v .4, v .5)),
+    )
+    (way-dec (λ ins outs. choice-dec (placeIn ins outs) t) b l r)
+
+-- kind 4: sizes under a narrowed bound
+high-dec : {s : Sheet} → Tree s → (g : ℕ) (hi : Top) → Dec (High s g hi)
+high-dec {s} t g (fin h) = sizes-dec (tree-rebound s _ _ _ _ t)
+high-dec t g inf = no (λ w. w)
+
+count-dec : {s : Sheet} → Tree s → (g lo : ℕ) (hi : Top) → g ≤ s .size → Dec (Breakable s (counted g lo hi))
+count-dec {s} t g lo hi l =
+    compare-eq g 0
+    (λ e. rw e (Dec·of-iff (Iff·symm (breakable-empty lo hi)) (Dec·and (possible-dec t) (decLe 1 lo))))
+    (λ n. Dec·of-iff (Iff·symm (breakable-counted t g lo hi (omega arith)))
+    (dec-or (Dec·and (decLe 1 lo) (sizes-dec (tree-rebound s _ _ _ _ t))) (high-dec t g hi)))
+
+-- a number that no group of the claim passes
+total : List ℕ → ℕ
+total [] = 0
+total (x ∷ l) = x + total l
+
+listed-total : {g : ℕ} {l : List ℕ} → List·Memᴰ g l → g ≤ total l
+unfolding total
+listed-total (List·Memᴰ·head e) = omega arith
+listed-total (List·Memᴰ·tail m) = omega (arith, listed-total m)
+
+reach : Claim → ℕ
+reach (counted g lo hi) = g
+reach (within l r) = total l + total r
+reach (separate l r) = total l + total r
+
+reached-dec : {s : Sheet} → Tree s → (c : Claim) → reach c ≤ s .size → Dec (Breakable s c)
+unfolding reach
+reached-dec t (counted g lo hi) h = count-dec t g lo hi h
+reached-dec t (within l r) h =
+    lists-dec t false l r (λ g m. omega (arith, listed-total m)) (λ g m. omega (arith, listed-total m))
+reached-dec t (separate l r) h =
+    lists-dec t true l r (λ g m. omega (arith, listed-total m)) (λ g m. omega (arith, listed-total m))
+
+-- Some sets fit or none do.
+pub possible-or-not : {s : Sheet} → Tree s → Possible s ⊎ (Possible s → ⊥)
+possible-or-not t = by-cases (possible-dec t) inl inr
+
+-- Some sets fit and break the claim or none do.
+pub breakable-or-not : {s : Sheet} → Tree s → (c : Claim) → Breakable s c ⊎ (Breakable s c → ⊥)
+breakable-or-not t c =
+    by-cases (reached-dec (widened-tree t (reach c)) c (unfold widened in omega arith))
+    (λ w. inl (w .0, widened-fits t (reach c) .1 (w .1), w .2))
+    (λ n. inr (λ w. n (w .0, widened-fits t (reach c) .0 (w .1), w .2)))

@@ -1,0 +1,73 @@
+-- What the contracts of the operations leave to be said of readable sheets, in the terms of the contracts alone.
+use Prim.Native.Nat.{ℕ, _-_, _*_, _≤_, max, zero-le}
+use mathlib.Core.Path.{_≡_}
+use mathlib.Core.List.{List}
+use mathlib.Core.Logic.{_⊎_}
+use native.Mathlib.Omega.{arith}
+use native.Mathlib.Nat.{mul-le-mul-left}
+use borrow.Author.Tests.{eqb-false}
+use lib.Dec.{eqb}
+use lib.ListN.{length}
+use Rattle.wire.specs.Limits.{boundLimit, noEnd}
+use Rattle.wire.specs.Edition.{Edition, groupLimit}
+use Rattle.wire.specs.EditionFacts.{groups-many}
+use Rattle.wire.specs.Record.{read}
+use Rattle.wire.specs.SheetFormat.{Records, readSheet}
+use Rattle.wire.specs.Encoding.{Bytes, SheetWithin}
+use Rattle.wire.specs.Facts.{read-right, read-within}
+use Rattle.meaning.specs.Sheet.{Group}
+use Rattle.meaning.specs.Fits.{Possible}
+use Rattle.meaning.specs.Claim.{Breakable}
+use Rattle.meaning.specs.OfRecords.{sheetOf, claimAt, endOf, groupAt}
+use Rattle.meaning.specs.Readable.{root-under-none, lo-most, hi-most, tree-of-right, rooted-of-right, tree-of-readable}
+use Rattle.meaning.proofs.SumLaws.{split}
+use Rattle.sizes.specs.Bounds.{Small}
+use Rattle.sizes.specs.Ends.{End, end-limit}
+use Rattle.sizes.specs.Decidable.{possible-or-not, breakable-or-not}
+use Rattle.sizes.specs.ArrangedOnce.{ArrangedBottomUp, arrangement-once}
+
+-- Every readable sheet falls under one case of the contracts: some sets fit or none do (8); some sets fit and break the claim
+-- (denied) or none do (holds).
+pub readable-possible-or-not : (b : List ℕ) (d : Records) → readSheet b ≡ read d
+    → Possible (sheetOf (d .groups)) ⊎ (Possible (sheetOf (d .groups)) → ⊥)
+readable-possible-or-not b d e = possible-or-not (tree-of-readable b d e)
+
+pub readable-breakable-or-not : (b : List ℕ) (d : Records) → readSheet b ≡ read d → (k : ℕ)
+    → Breakable (sheetOf (d .groups)) (claimAt d k) ⊎ (Breakable (sheetOf (d .groups)) (claimAt d k) → ⊥)
+readable-breakable-or-not b d e k = breakable-or-not (tree-of-readable b d e) (claimAt d k)
+
+-- The arrangement of a reply to ranges is settled: there is one only.
+pub readable-arrangement-once : (b : List ℕ) (d : Records) → readSheet b ≡ read d → Possible (sheetOf (d .groups))
+    → {first size first' size' : ℕ → ℕ} → ArrangedBottomUp (sheetOf (d .groups)) first size
+    → ArrangedBottomUp (sheetOf (d .groups)) first' size' → (g : ℕ) → Group (sheetOf (d .groups)) g
+    → (first g ≡ first' g) × (size g ≡ size' g)
+readable-arrangement-once b d e =
+    let R = read-right b d e in
+    arrangement-once (tree-of-right R) (rooted-of-right R) (root-under-none R)
+
+-- bounds within the limits
+small-of-within : {d : Records} → SheetWithin d → Small (sheetOf (d .groups)) boundLimit
+unfolding endOf
+small-of-within {d} w = record {
+  lo = λ g q. lo-most (w .right) g q;
+  hi = λ g q.
+      let h = groupAt (d .groups) g .hi in
+      split (eqb h noEnd)
+      (λ e. rw e zero-le)
+      (λ e. let n : h ≡ noEnd → ⊥ = eqb-false h noEnd e in rw e (omega (arith, hi-most w g q)));
+}
+
+-- "No finite end exceeds 127 × 65,534 = 8,322,818." (document 01, "Ranges")
+abbrev pub endLimit : Edition → ℕ
+endLimit e = (groupLimit e - 1) * boundLimit
+
+pub readable-end-limit : (b : List ℕ) → Bytes b → (d : Records) → readSheet b ≡ read d → (g n : ℕ) → Group (sheetOf (d .groups)) g
+    → End (sheetOf (d .groups)) g n → n ≤ endLimit (d .edition)
+readable-end-limit b k d e g n q w =
+    let R = read-right b d e in
+    let few : max 1 (length (d .groups) - 1) ≤ groupLimit (d .edition) - 1 = omega (arith, R .groupCount, groups-many (d .edition)) in
+    omega (
+      arith,
+      end-limit (tree-of-right R) (rooted-of-right R) (small-of-within (read-within b k d e)) g n q w,
+      mul-le-mul-left boundLimit few,
+    )

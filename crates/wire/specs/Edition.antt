@@ -1,0 +1,40 @@
+-- The editions of the format and what each of them sets: document 01, "Records of a sheet" (kinds 1 and 3) and "Registers".
+-- `EditionFacts` proves what needs an edition's numbers, by clauses; everywhere else the edition stays a variable.
+use Prim.Native.Nat.{ℕ, _+_, _*_}
+use Rattle.wire.specs.Limits.{nameLimit, claimLimit, headBytes, groupBytes, claimBytes}
+
+pub data Edition : Type 0 where
+  edition1 : Edition
+
+-- the number of an edition in a head
+unfoldable pub editionNumber : Edition → ℕ
+editionNumber edition1 = 1
+
+-- the edition with the number n, where one has it: that is so exactly where n is `editionNumber (editionOf n)`
+unfoldable pub editionOf : ℕ → Edition
+editionOf n = edition1
+
+-- the membership bytes of a row, a bit for each group: so many groups a sheet may have
+unfoldable pub membershipBytes : Edition → ℕ
+membershipBytes edition1 = 16
+
+abbrev pub groupLimit : Edition → ℕ
+groupLimit e = 8 * membershipBytes e
+
+-- most bytes of a label, and of a name's record: length and kind (four bytes), group (two), label
+unfoldable pub labelLimit : Edition → ℕ
+labelLimit edition1 = 16
+
+abbrev pub nameBytes : Edition → ℕ
+nameBytes e = labelLimit e + 6
+
+-- the kind of a row, and its bytes: length and kind (four bytes), member (four), membership
+unfoldable pub rowKind : Edition → ℕ
+rowKind edition1 = 32
+
+abbrev pub rowBytes : Edition → ℕ
+rowBytes e = 8 + membershipBytes e
+
+-- most bytes of a readable sheet
+abbrev pub sheetLimit : Edition → ℕ
+sheetLimit e = headBytes + groupBytes * groupLimit e + nameBytes e * nameLimit + claimBytes * claimLimit
