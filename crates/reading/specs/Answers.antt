@@ -51,11 +51,11 @@ refusalIn (read x) = 0
 refusalIn (refused n r) = n
 
 -- r is what these tests give of the record at a place: the first that fails, or the kind that stands there with the value
-pub record Answered (tests : List ℕ → List Test) (value : List ℕ → Value) (s : List ℕ) (at : ℕ) (r : Answer) : Type 0 where
+pub record AnswerOf (tests : List ℕ → List Test) (value : List ℕ → Value) (s : List ℕ) (at : ℕ) (r : Answer) : Type 0 where
   pub says : (k : ℕ) → answerAs s at k r ≡ onward (refusal (tests (drop at s))) k (read (kindOf (drop at s), value (drop at s)))
 
 -- len is the length of the record at a place, 0 where there is none; the record ends within the bytes
-pub record Framed (s : List ℕ) (at len : ℕ) : Type 0 where
+pub record FrameAt (s : List ℕ) (at len : ℕ) : Type 0 where
   pub says : len ≡ cond (framed (drop at s)) (lengthOf (drop at s)) 0
   pub room : len ≤ length s - at - 2
 
@@ -80,6 +80,6 @@ pub record ClaimTaken (s : List ℕ) (at : ℕ) (c : Claim) : Type 0 where
   pub held : (names : ℕ) → refusal (claimTests names [] (drop at s)) ≡ 0 → ClaimHeld s names c
 
 -- r answers on the claim at a place, in a sheet of `names` names
-pub record ClaimAnswered (names : ℕ) (s : List ℕ) (at : ℕ) (r : Answer) : Type 0 where
-  pub answers : Answered (claimTests names []) (λ b. claim (claimOf b)) s at r
+pub record ClaimAnswer (names : ℕ) (s : List ℕ) (at : ℕ) (r : Answer) : Type 0 where
+  pub answers : AnswerOf (claimTests names []) (λ b. claim (claimOf b)) s at r
   pub held : (c : Claim) → r ≡ answer.Record (record-of.Claim c) → ClaimHeld s names c

@@ -5,7 +5,7 @@ use mathlib.Core.List.{List, []}
 use lib.ListN.{length, getD, drop}
 use Rattle.wire.specs.Limits.{groupCapacity, nameLimit, claimLimit}
 use Rattle.wire.specs.Edition.{Edition}
-use Rattle.wire.specs.Record.{Test, refusal, Reading, read, refused}
+use Rattle.wire.specs.Record.{Test, Reading, read, refused}
 use Rattle.wire.specs.SheetFormat.{HeadRecord, Records, nameOf, nameTests, claimOf, claimTests, readMany}
 use Rattle.meaning.specs.OfRecords.{nameGroup}
 use Rattle.reading.specs.Tables.{tabulate, length-tabulate, getD-tabulate, groupFields, groupsIn}
@@ -49,10 +49,6 @@ passedAs (passed.Refused n r) = refused n r
 unfoldable pub loadedAs : Loaded → Reading HeadRecord
 loadedAs (loaded.Sheet h) = read (headRecord h)
 loadedAs (loaded.Refused n r) = refused n r
-
--- none of the first n records at these places meets a refusal
-abbrev pub AllPass : (List ℕ → List Test) → List ℕ → List ℕ → ℕ → Type 0
-AllPass tests s places n = (i : ℕ) → i < n → refusal (tests (drop (getD places i 0) s)) ≡ 0
 
 -- the table of names has the group of each of the first n names
 abbrev pub AllGrouped : List ℕ → List ℕ → List ℕ → ℕ → Type 0
