@@ -2,11 +2,11 @@
 use crate::pairs::pack;
 use reading::load::Loaded;
 use reading::load::load_sheet;
-use reading::tables::PLACE_TABLE;
 use reading::tables::CLAIM_TABLE;
 use reading::tables::GROUP_TABLE;
 use reading::tables::LABEL_TABLE;
 use reading::tables::NAME_TABLE;
+use reading::tables::PLACE_TABLE;
 use registers::check::Check;
 use registers::check::check_register;
 use replies::ANSWER_BYTES;

@@ -45,7 +45,7 @@ unfoldable pub passedAs : Passed → Reading ℕ
 passedAs (passed.To at) = read at
 passedAs (passed.Refused n r) = refused n r
 
--- the head of a sheet that is in the tables, or a refusal's number with the record's number
+-- the head of a sheet whose records are in the tables, or a refusal's number with the record's number
 unfoldable pub loadedAs : Loaded → Reading HeadRecord
 loadedAs (loaded.Sheet h) = read (headRecord h)
 loadedAs (loaded.Refused n r) = refused n r
@@ -111,6 +111,7 @@ pub record Loads (r : Loaded) (whole : Reading Records) (s groups names labels c
   pub reads : goesOn (loadedAs r) (λ h. read (recordsOf h s groups labels claims places)) ≡ whole
   pub held : Then (loadedAs r) (λ h. Held h s names labels claims places)
 
+-- what that says for each of the two answers
 module _ {r : Loaded} {whole : Reading Records} {s groups names labels claims places : List ℕ}
     (w : Loads r whole s groups names labels claims places) where
   pub loaded-sheet : (h : Head) → r ≡ loaded.Sheet h → whole ≡ read (recordsOf (headRecord h) s groups labels claims places)
