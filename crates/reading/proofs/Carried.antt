@@ -10,15 +10,15 @@ use lib.Seq.{ext-getD, getD-take, getD-drop}
 use lib.Dec.{eqb}
 use Rattle.wire.specs.Bytes.{u16At, le16}
 use Rattle.wire.specs.Record.{kindOf, Test, refusal, Reading, read, refused, onward}
-use Rattle.wire.specs.SheetFormat.{GroupRecord, NameRecord, ClaimRecord, headOf, groupOf, nameOf, claimOf, claimTests, leftOf, rightOf}
+use Rattle.wire.specs.SheetFormat.{GroupRecord, NameRecord, headOf, groupOf, nameOf, claimOf, claimTests, leftOf, rightOf}
 use Rattle.wire.specs.Encoding.{encodeRecord, le16s, encodeClaim}
 use Rattle.wire.specs.Fields.{length-le16s}
-use Rattle.wire.specs.Passing.{split, pass-of-refusal}
+use Rattle.wire.specs.Passing.{split}
 use Rattle.wire.specs.Sorts.{length-u16s, claim-numbered, claim-cases, claim-count, claim-inside, claim-apart}
 use Rattle.reading.specs.Tables.{length-tabulate, getD-tabulate}
 use Rattle.reading.specs.Meant.{meantNumber}
 use Rattle.reading.specs.ClaimHeld.{leftNames, rightNames, claimRecord}
-use Rattle.reading.specs.Answers.{headRecord, Value, head, group, name, claim, bytesFrom, recordAs, answerAs, refusalIn, Answered, WholeName}
+use Rattle.reading.specs.Answers.{headRecord, Value, head, group, name, claim, bytesFrom, recordAs, answerAs, refusalIn, AnswerOf, WholeName}
 use Rattle.reading.specs.declared.tables.Meant.{Meant}
 use Rattle.reading.specs.declared.claim.Lists.{Lists}
 use Rattle.reading.specs.declared.claim.Claim.{Claim}
@@ -30,7 +30,7 @@ use Rattle.reading.specs.declared.records.Record.the-variants as record-
 use Rattle.reading.specs.declared.records.Answer.{Answer}
 use Rattle.reading.specs.declared.records.Answer.the-variants as answer
 use Rattle.reading.proofs.records.Record.{the-type}
-use Rattle.reading.proofs.Fields.{length-at}
+use Rattle.reading.proofs.Fields.{length-at, passed}
 use Rattle.reading.proofs.Strings.{label-at, label-length}
 
 -- the record x was handed up: all tests passed, and it carries what stands there
@@ -40,18 +40,18 @@ pub record Handed (tests : List ℕ → List Test) (value : List ℕ → Value) 
 
 -- the answer to the tests: the first that failed, or the record
 module _ {tests : List ℕ → List Test} {value : List ℕ → Value} {s : List ℕ} {at : ℕ} where
-  pub answer-refused : {n : ℕ} → (n ≡ 0 → ⊥) → refusal (tests (drop at s)) ≡ n → Answered tests value s at (answer.Refused n)
+  pub answer-refused : {n : ℕ} → (n ≡ 0 → ⊥) → refusal (tests (drop at s)) ≡ n → AnswerOf tests value s at (answer.Refused n)
   unfolding answerAs onward
   answer-refused {n} h e = record { says = λ k. rw (e, ne-eqb n 0 h) }
 
   pub answer-record : {x : Record} → refusal (tests (drop at s)) ≡ 0 → recordAs s at x ≡ (kindOf (drop at s), value (drop at s)) →
-      Answered tests value s at (answer.Record x)
+      AnswerOf tests value s at (answer.Record x)
   unfolding answerAs onward
   answer-record e f = record { says = λ k. rw (e, f) }
 
 -- what an answer says of the tests: a record that they all passed, a refusal the first that failed
 module _ {tests : List ℕ → List Test} {value : List ℕ → Value} {s : List ℕ} {at : ℕ} {r : Answer}
-    (w : Answered tests value s at r) where
+    (w : AnswerOf tests value s at r) where
   pub answered-record : {x : Record} → r ≡ answer.Record x → Handed tests value s at x
   unfolding answerAs onward
   answered-record {x} e =
@@ -152,7 +152,7 @@ lists-bytes s kind l = rw (length-lists kind (leftNames s l) (rightNames s l)) (
 claim-length : (names : ℕ) (b : List ℕ) → refusal (claimTests names [] b) ≡ 0 → length (encodeClaim (claimOf b)) ≡ u16At b 0 + 2
 unfolding encodeClaim
 claim-length names b e =
-    claim-cases names [] b (pass-of-refusal 1 7 (claimTests names [] b) (claim-numbered names [] b) (omega arith) e)
+    claim-cases names [] b (passed _ (claim-numbered names [] b) e)
     (λ k f. rw (claim-count b k) (unfold encodeRecord le16s le16 in omega arith))
     (λ k f. rw (claim-inside b k, length-lists 5 (leftOf b) (rightOf b)) (unfold leftOf rightOf in simp length-u16s (omega arith)))
     (λ k f. rw (claim-apart b k, length-lists 6 (leftOf b) (rightOf b)) (unfold leftOf rightOf in simp length-u16s (omega arith)))

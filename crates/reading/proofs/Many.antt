@@ -16,11 +16,11 @@ use Rattle.wire.specs.Record.{after, Test, refusal, Reading, read, refused, onw
 use Rattle.wire.specs.SheetFormat.{GroupRecord, NameRecord, Records, groupOf, groupTests, nameOf}
 use Rattle.wire.specs.SheetFormat.{nameTests, used, claimOf, claimTests, readMany}
 use Rattle.wire.specs.Encoding.{encodeClaim}
-use Rattle.reading.specs.Tables.{tabulate, tabulate-same, groupIn, groupsIn}
+use Rattle.reading.specs.Tables.{tabulate, tabulate-same, groupsIn}
 use Rattle.reading.specs.ClaimHeld.{claimRecord, ClaimHeld}
 use Rattle.reading.specs.ClaimTable.{claimNumbers, claimPlace, claimIn, claimsIn, ClaimRoom, ClaimPut}
 use Rattle.reading.specs.Answers.{group, name, claim, WholeName}
-use Rattle.reading.specs.Loaded.{goesOn, passedAs, recordsIn, AllPass, AllGrouped, AllHeld, Goes}
+use Rattle.reading.specs.Loaded.{goesOn, passedAs, recordsIn, AllGrouped, AllHeld, Goes}
 use Rattle.reading.specs.declared.load.Passed.the-variants.{To, Refused}
 use Rattle.reading.specs.declared.claim.Claim.{Claim}
 use Rattle.reading.specs.declared.claim.Claim.the-variants as claim-of
@@ -89,12 +89,16 @@ tabulate-more : {A : Type 0} (f g : ℕ → A) (n : ℕ) (x : A) → ((i : ℕ) 
 tabulate-more f g n x h e = rw (add-one, tabulate-same f g n h, e)
 
 -- what holds of each of the first n entries holds of one more
-pub each-more : (P Q : ℕ → Type 0) (n : ℕ) → ((i : ℕ) → i < n → P i) → ((i : ℕ) → i < n → P i → Q i) → Q n →
+each-more : (P Q : ℕ → Type 0) (n : ℕ) → ((i : ℕ) → i < n → P i) → ((i : ℕ) → i < n → P i → Q i) → Q n →
     (i : ℕ) → i < n + 1 → Q i
 each-more P Q n before kept here i k =
     ⊎-elim (λ (e : suc i ≡ n + 1). let same : i ≡ n = omega arith in rw same here)
     (λ (m : suc i < n + 1). kept i (omega arith) (before i (omega arith)))
     (eq-or-lt-of-le k)
+
+-- none of the first n records at these places meets a refusal
+abbrev pub AllPass : (List ℕ → List Test) → List ℕ → List ℕ → ℕ → Type 0
+AllPass tests s places n = (i : ℕ) → i < n → refusal (tests (drop (getD places i 0) s)) ≡ 0
 
 -- the records whose places are in a table
 module _ (s places : List ℕ) (n x : ℕ) (h : n < length places) where
@@ -104,7 +108,7 @@ module _ (s places : List ℕ) (n x : ℕ) (h : n < length places) where
   place-put : getD (set places n x) n 0 ≡ x
   place-put = getD-set-same places n x 0 h
 
-  pub records-more : {A : Type 0} (value : List ℕ → A) →
+  records-more : {A : Type 0} (value : List ℕ → A) →
       recordsIn value s (set places n x) (n + 1) ≡ recordsIn value s places n ++ (value (drop x s) ∷ [])
   unfolding recordsIn
   records-more value =
@@ -199,7 +203,7 @@ module _ {claims places claims-put places-put : List ℕ} {n : ℕ} {c : Claim} 
   claim-here : claimIn claims-put places-put n ≡ c
   claim-here = rw (w .numbers, w .place) (claim-put claims places n c h)
 
-  pub claims-more : (s : List ℕ) → claimsIn s claims-put places-put (n + 1) ≡ claimsIn s claims places n ++ (claimRecord s c ∷ [])
+  claims-more : (s : List ℕ) → claimsIn s claims-put places-put (n + 1) ≡ claimsIn s claims places n ++ (claimRecord s c ∷ [])
   unfolding claimsIn
   claims-more s = tabulate-more _ _ n _ (λ i l. ap (claimRecord s) (claim-kept i l)) (ap (claimRecord s) claim-here)
 

@@ -11,16 +11,16 @@ use lib.Dec.{leb}
 use Rattle.wire.specs.Bytes.{u16At}
 use Rattle.wire.specs.Record.{kindOf, refusal}
 use Rattle.wire.specs.SheetFormat.{u16s, allWithin, leftOf, rightOf, claimTests}
-use Rattle.wire.specs.Passing.{and-true, Pass, pass-of-refusal}
+use Rattle.wire.specs.Passing.{and-true, Pass}
 use Rattle.wire.specs.Facts.{within-at}
 use Rattle.wire.specs.Sorts.{SidesFrame, claim-numbered, claim-frame, claim-cases, claim-count, claim-inside, claim-apart}
 use Rattle.reading.specs.ClaimHeld.{ListsHeld}
-use Rattle.reading.specs.Answers.{recordAs, ClaimTaken, ClaimAnswered}
+use Rattle.reading.specs.Answers.{recordAs, ClaimTaken, ClaimAnswer}
 use Rattle.reading.specs.declared.claim.Claim.{Claim}
 use Rattle.reading.specs.declared.claim.Claim.the-variants as claim-of
 use Rattle.reading.specs.declared.records.Record.the-variants as record-of
 use Rattle.reading.specs.declared.records.Answer.the-variants as answer
-use Rattle.reading.proofs.Fields.{field-at, fields-at, read-at}
+use Rattle.reading.proofs.Fields.{field-at, fields-at, read-at, passed}
 use Rattle.reading.proofs.Carried.{answer-refused, answer-record}
 
 -- numbers that are all from 1 to `names`
@@ -38,12 +38,9 @@ all-within s names i (suc n) e (suc j) l =
     let o : i + 2 * suc j ≡ i + 2 + 2 * j = omega arith in
     rw o (all-within s names (i + 2) n (a .1) j (omega arith))
 
-tests-passed : (names : ℕ) (b : List ℕ) → refusal (claimTests names [] b) ≡ 0 → Pass (claimTests names [] b)
-tests-passed names b e = pass-of-refusal 1 7 (claimTests names [] b) (claim-numbered names [] b) (omega arith) e
-
 pub claim-room : (s : List ℕ) (at names : ℕ) → refusal (claimTests names [] (drop at s)) ≡ 0 → at + 10 ≤ length s
 claim-room s at names e =
-    let p = tests-passed names (drop at s) e in
+    let p = passed _ (claim-numbered names [] (drop at s)) e in
     let w = claim-frame names [] (drop at s) p in
     claim-cases names [] (drop at s) p (λ k f. omega (arith, length-drop at s)) (λ k f. omega (arith, length-drop at s))
     (λ k f. omega (arith, length-drop at s))
@@ -56,7 +53,7 @@ count-taken s at name lo hi k a b c =
     let kind : kindOf (drop at s) ≡ 4 = field-at s at 2 ∙ k in
     record {
       says = rw (claim-count (drop at s) kind, kind, read-at s at 4 name a, read-at s at 6 lo b, read-at s at 8 hi c);
-      held = λ names p. claim-cases names [] (drop at s) (tests-passed names (drop at s) p)
+      held = λ names p. claim-cases names [] (drop at s) (passed _ (claim-numbered names [] (drop at s)) p)
           (λ four f. rw (read-at s at 4 name a) at (within-at names (u16At (drop at s) 4 ∷ []) (f .name) 0 0 (omega arith)))
           (λ five f. absurd (omega arith)) (λ six f. absurd (omega arith));
     }
@@ -90,7 +87,7 @@ module _ (s : List ℕ) (at m n : ℕ) (a : m ≡ u16At s (at + 4)) (b : n ≡ u
   lists-held : (u16At s (at + 2) ≡ 4 → ⊥) → (names : ℕ) → refusal (claimTests names [] (drop at s)) ≡ 0 →
       ListsHeld s names (record { m = m; n = n; at = at + 8 })
   lists-held k names e =
-      let p = tests-passed names (drop at s) e in
+      let p = passed _ (claim-numbered names [] (drop at s)) e in
       claim-cases names [] (drop at s) p (λ four f. absurd (k (sym (field-at s at 2) ∙ four)))
       (λ five f. sides-held names p f) (λ six f. sides-held names p f)
 
@@ -108,14 +105,14 @@ module _ (s : List ℕ) (at m n : ℕ) (a : m ≡ u16At s (at + 4)) (b : n ≡ u
 
 -- the answer to a claim's tests: the first that failed, or the claim
 module _ {names : ℕ} {s : List ℕ} {at : ℕ} where
-  pub claim-refused : {n : ℕ} → (n ≡ 0 → ⊥) → refusal (claimTests names [] (drop at s)) ≡ n → ClaimAnswered names s at (answer.Refused n)
+  pub claim-refused : {n : ℕ} → (n ≡ 0 → ⊥) → refusal (claimTests names [] (drop at s)) ≡ n → ClaimAnswer names s at (answer.Refused n)
   claim-refused h e = record {
     answers = answer-refused h e;
     held = λ c f. let z : _≡_ {A = ℕ} 0 1 = cc in absurd (omega arith);
   }
 
   pub claim-answered : {c : Claim} → refusal (claimTests names [] (drop at s)) ≡ 0 → ClaimTaken s at c →
-      ClaimAnswered names s at (answer.Record (record-of.Claim c))
+      ClaimAnswer names s at (answer.Record (record-of.Claim c))
   claim-answered {c} e w = record {
     answers = answer-record e (w .says);
     held = λ d f. let z : c ≡ d = cc in rw z at (w .held names e);

@@ -1,4 +1,4 @@
--- What the reader of one record answers: the record that stands at a place of a sheet's bytes, or the number of its refusal.
+-- What the reader of one record answers. Document 01: "a record with what it carries, or a refusal with its number".
 use Prim.Native.Nat.{ℕ, _+_, _-_, _≤_}
 use mathlib.Core.Path.{_≡_}
 use mathlib.Core.Bool.{cond}
@@ -19,7 +19,7 @@ use Rattle.reading.specs.declared.records.Record.the-variants as record-
 use Rattle.reading.specs.declared.records.Answer.{Answer}
 use Rattle.reading.specs.declared.records.Answer.the-variants as answer
 
--- what a record carries: document 01, "Records of a sheet"
+-- what records carry
 pub data Value : Type 0 where
   head : HeadRecord → Value
   group : GroupRecord → Value
@@ -33,14 +33,14 @@ headRecord h = record { edition = editionOf (h .edition); groups = h .groups; na
 unfoldable pub bytesFrom : List ℕ → ℕ → ℕ → List ℕ
 bytesFrom s at n = tabulate (λ i. getD s (at + i) 0) n
 
--- the kind of a record and what it carries; it stands at a place of the bytes s, and there is the label of a name
+-- document 01's kind of each record and what it carries; the record stands at a place of the bytes s, and a name's label with it
 unfoldable pub recordAs : List ℕ → ℕ → Record → ℕ × Value
 recordAs s at (record-of.Head h) = (1, head (headRecord h))
 recordAs s at (record-of.Group g) = (2, group (record { parent = g .parent .0; lo = g .lo; hi = g .hi; mode = g .mode }))
 recordAs s at (record-of.Name n) = (3, name (record { group = meantNumber (n .means); label = bytesFrom s (at + 6) (n .bytes) }))
 recordAs s at (record-of.Claim c) = (claimKind c, claim (claimRecord s c))
 
--- the answer on the record numbered k: the record, or the number of its refusal with k
+-- an answer on the record numbered k: that record, or the refusal's number with k
 unfoldable pub answerAs : List ℕ → ℕ → ℕ → Answer → Reading (ℕ × Value)
 answerAs s at k (answer.Record x) = read (recordAs s at x)
 answerAs s at k (answer.Refused n) = refused n k
@@ -50,12 +50,12 @@ unfoldable pub refusalIn : {A : Type 0} → Reading A → ℕ
 refusalIn (read x) = 0
 refusalIn (refused n r) = n
 
--- r is what these tests give of the record at a place: the first that fails, or the kind that stands there with the value
-pub record Answered (tests : List ℕ → List Test) (value : List ℕ → Value) (s : List ℕ) (at : ℕ) (r : Answer) : Type 0 where
+-- r is what the format gives for the record at a place: the first test that fails, or its kind and its value
+pub record AnswerOf (tests : List ℕ → List Test) (value : List ℕ → Value) (s : List ℕ) (at : ℕ) (r : Answer) : Type 0 where
   pub says : (k : ℕ) → answerAs s at k r ≡ onward (refusal (tests (drop at s))) k (read (kindOf (drop at s), value (drop at s)))
 
 -- len is the length of the record at a place, 0 where there is none; the record ends within the bytes
-pub record Framed (s : List ℕ) (at len : ℕ) : Type 0 where
+pub record FrameAt (s : List ℕ) (at len : ℕ) : Type 0 where
   pub says : len ≡ cond (framed (drop at s)) (lengthOf (drop at s)) 0
   pub room : len ≤ length s - at - 2
 
@@ -80,6 +80,6 @@ pub record ClaimTaken (s : List ℕ) (at : ℕ) (c : Claim) : Type 0 where
   pub held : (names : ℕ) → refusal (claimTests names [] (drop at s)) ≡ 0 → ClaimHeld s names c
 
 -- r answers on the claim at a place, in a sheet of `names` names
-pub record ClaimAnswered (names : ℕ) (s : List ℕ) (at : ℕ) (r : Answer) : Type 0 where
-  pub answers : Answered (claimTests names []) (λ b. claim (claimOf b)) s at r
+pub record ClaimAnswer (names : ℕ) (s : List ℕ) (at : ℕ) (r : Answer) : Type 0 where
+  pub answers : AnswerOf (claimTests names []) (λ b. claim (claimOf b)) s at r
   pub held : (c : Claim) → r ≡ answer.Record (record-of.Claim c) → ClaimHeld s names c

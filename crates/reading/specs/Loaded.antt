@@ -5,7 +5,7 @@ use mathlib.Core.List.{List, []}
 use lib.ListN.{length, getD, drop}
 use Rattle.wire.specs.Limits.{groupCapacity, nameLimit, claimLimit}
 use Rattle.wire.specs.Edition.{Edition}
-use Rattle.wire.specs.Record.{Test, refusal, Reading, read, refused}
+use Rattle.wire.specs.Record.{Test, Reading, read, refused}
 use Rattle.wire.specs.SheetFormat.{HeadRecord, Records, nameOf, nameTests, claimOf, claimTests, readMany}
 use Rattle.meaning.specs.OfRecords.{nameGroup}
 use Rattle.reading.specs.Tables.{tabulate, length-tabulate, getD-tabulate, groupFields, groupsIn}
@@ -45,14 +45,10 @@ unfoldable pub passedAs : Passed → Reading ℕ
 passedAs (passed.To at) = read at
 passedAs (passed.Refused n r) = refused n r
 
--- the head of a sheet that is in the tables, or a refusal's number with the record's number
+-- the head of a sheet whose records are in the tables, or a refusal's number with the record's number
 unfoldable pub loadedAs : Loaded → Reading HeadRecord
 loadedAs (loaded.Sheet h) = read (headRecord h)
 loadedAs (loaded.Refused n r) = refused n r
-
--- none of the first n records at these places meets a refusal
-abbrev pub AllPass : (List ℕ → List Test) → List ℕ → List ℕ → ℕ → Type 0
-AllPass tests s places n = (i : ℕ) → i < n → refusal (tests (drop (getD places i 0) s)) ≡ 0
 
 -- the table of names has the group of each of the first n names
 abbrev pub AllGrouped : List ℕ → List ℕ → List ℕ → ℕ → Type 0
@@ -115,6 +111,7 @@ pub record Loads (r : Loaded) (whole : Reading Records) (s groups names labels c
   pub reads : goesOn (loadedAs r) (λ h. read (recordsOf h s groups labels claims places)) ≡ whole
   pub held : Then (loadedAs r) (λ h. Held h s names labels claims places)
 
+-- what that says for each of the two answers
 module _ {r : Loaded} {whole : Reading Records} {s groups names labels claims places : List ℕ}
     (w : Loads r whole s groups names labels claims places) where
   pub loaded-sheet : (h : Head) → r ≡ loaded.Sheet h → whole ≡ read (recordsOf (headRecord h) s groups labels claims places)

@@ -1,7 +1,6 @@
 -- What a name means: document 01, "Records of a sheet", "group (0 stands for the empty set, else 1 to G)".
 use Prim.Native.Nat.{ℕ, _≤_}
 use mathlib.Core.Path.{_≡_}
-use Rattle.reading.specs.declared.tables.GroupNo.{GroupNo}
 use Rattle.reading.specs.declared.tables.Meant.{Meant}
 use Rattle.reading.specs.declared.tables.Meant.the-variants.{Empty, Group}
 

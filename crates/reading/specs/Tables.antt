@@ -1,6 +1,6 @@
 -- What the table of groups holds that reading a sheet fills: four numbers for each group (parent, lo, hi, mode).
 use Prim.Native.Nat.{ℕ, zero, suc, _+_, _-_, _*_, _≤_, _<_}
-use mathlib.Core.Path.{_≡_, refl, ap, _∙_}
+use mathlib.Core.Path.{_≡_, refl, _∙_}
 use mathlib.Core.List.{List, [], _∷_, _++_}
 use mathlib.Core.Logic.{⊎-elim}
 use native.Mathlib.Omega.{arith}
@@ -54,7 +54,7 @@ pub length-groupsIn : (t : List ℕ) (n : ℕ) → length (groupsIn t n) ≡ n
 unfolding groupsIn
 length-groupsIn t n = length-tabulate (groupIn t) n
 
-pub getD-groupsIn : (t : List ℕ) (n g : ℕ) (d : GroupRecord) → g < n → getD (groupsIn t n) g d ≡ groupIn t g
+getD-groupsIn : (t : List ℕ) (n g : ℕ) (d : GroupRecord) → g < n → getD (groupsIn t n) g d ≡ groupIn t g
 unfolding groupsIn
 getD-groupsIn t n g d l = getD-tabulate (groupIn t) n g d l
 

@@ -1,5 +1,5 @@
 // Reading: the records of a sheet into fixed tables, each to an end or to a refusal.
-// Contracts are equations with the format of `wire`; `specs/Tables.antt` says what the tables hold.
+// Contracts are equations with the format of `wire`; `specs/Tables.antt` and `specs/ClaimTable.antt` say what the tables hold.
 // Group tables are reached by a group's number, name tables by a name's number.
 pub mod claim;
 pub mod claims;

@@ -18,12 +18,12 @@ ghost use mathlib.Core.Path.{_≡_};
 ghost use mathlib.Core.Bool.{_&&_};
 ghost use mathlib.Core.List.{List, []};
 ghost use Prim.Native.Nat.{ℕ, _+_, _≤_};
-ghost use lib.ListN.{length, drop};
+ghost use lib.ListN.{length};
 ghost use lib.Dec.{leb, eqb};
 ghost use Rattle.wire.specs.Limits.{nameLimit, claimLimit};
 ghost use Rattle.wire.specs.Edition.{editionNumber, editionOf, groupLimit, labelLimit};
 ghost use Rattle.wire.specs.SheetFormat.{GroupRecord, headTests, headOf, parentAllowed, groupTests, groupOf, nameTests, nameOf};
-ghost use Rattle.reading.specs.Answers.{head, group, name, answerAs, refusalIn, Framed, Answered, ClaimAnswered};
+ghost use Rattle.reading.specs.Answers.{head, group, name, answerAs, refusalIn, FrameAt, AnswerOf, ClaimAnswer};
 
 // `edition` is the number of an edition
 pub struct Head {
@@ -71,7 +71,7 @@ pub fn refusal_of(a: Answer) -> u32
 // the length of the record at a place, 0 where it is cut or too short to be one
 pub fn frame(s: &[u8], at: usize) -> u16
     requires { ⌜ at ≤ length (now s) ⌝ }
-    ensures { λ r. ⌜ Framed (now (s .entry)) at r ⌝ }
+    ensures { λ r. ⌜ FrameAt (now (s .entry)) at r ⌝ }
 {
     let left = s.len() - at;
     if left < 4 {
@@ -111,7 +111,7 @@ fn head_allowed(edition: u16, groups: u16, names: u16, claims: u16) -> bool
 
 pub fn read_head(s: &[u8], at: usize) -> Answer
     requires { ⌜ at ≤ length (now s) ⌝ }
-    ensures { λ r. ⌜ Answered headTests (λ b. head (headOf b)) (now (s .entry)) at r ⌝ }
+    ensures { λ r. ⌜ AnswerOf headTests (λ b. head (headOf b)) (now (s .entry)) at r ⌝ }
 {
     let len = frame(s, at);
     if len < 2 {
@@ -153,7 +153,7 @@ fn parent_allowed(number: GroupNo, parent: GroupNo) -> bool
 pub fn read_group(s: &[u8], at: usize, number: GroupNo) -> Answer
     requires { ⌜ at ≤ length (now s) ⌝ }
     ensures { λ r. ⌜ ((gs : List GroupRecord) → length gs + 1 ≡ number .0 →
-        Answered (groupTests gs) (λ b. group (groupOf b)) (now (s .entry)) at r) ⌝ }
+        AnswerOf (groupTests gs) (λ b. group (groupOf b)) (now (s .entry)) at r) ⌝ }
 {
     let len = frame(s, at);
     if len < 2 {
@@ -196,7 +196,7 @@ fn label_limit(edition: u16) -> u16
 // The tests of a name but for the use of its label before, which the caller knows.
 pub fn read_name(s: &[u8], at: usize, edition: u16, groups: u16) -> Answer
     requires { ⌜ at ≤ length (now s) ⌝ }
-    ensures { λ r. ⌜ Answered (nameTests (editionOf edition) groups []) (λ b. name (nameOf b)) (now (s .entry)) at r ⌝ }
+    ensures { λ r. ⌜ AnswerOf (nameTests (editionOf edition) groups []) (λ b. name (nameOf b)) (now (s .entry)) at r ⌝ }
 {
     let len = frame(s, at);
     if len < 2 {
@@ -227,7 +227,7 @@ pub fn read_name(s: &[u8], at: usize, edition: u16, groups: u16) -> Answer
 
 pub fn read_claim(s: &[u8], at: usize, names: u16) -> Answer
     requires { ⌜ at ≤ length (now s) ⌝ }
-    ensures { λ r. ⌜ ClaimAnswered names (now (s .entry)) at r ⌝ }
+    ensures { λ r. ⌜ ClaimAnswer names (now (s .entry)) at r ⌝ }
 {
     let len = frame(s, at);
     if len < 2 {

@@ -29,7 +29,7 @@ pub const MODE: u16 = 7;
 pub const NO_END: u16 = 65535;
 
 // The groups that tables hold: a table of one number for each group has this length.
-pub const GROUP_CAPACITY: usize = 128;
+pub const GROUP_CAPACITY: usize = GROUPS as usize;
 
 // How many numbers the tables have for each group and for each claim.
 pub const GROUP_FIELDS: usize = 4;
@@ -39,13 +39,13 @@ pub const CLAIM_SLOTS: usize = 4;
 // The lengths of the tables that hold any sheet: groups, names, places of labels, claims, places of claims' names.
 pub const GROUP_TABLE: usize = GROUP_FIELDS * GROUP_CAPACITY;
 
-pub const NAME_TABLE: usize = 128;
+pub const NAME_TABLE: usize = NAMES as usize;
 
-pub const LABEL_TABLE: usize = 128;
+pub const LABEL_TABLE: usize = NAMES as usize;
 
 pub const CLAIM_TABLE: usize = CLAIM_SLOTS * PLACE_TABLE;
 
-pub const PLACE_TABLE: usize = 64;
+pub const PLACE_TABLE: usize = CLAIMS as usize;
 
 // A group's number and a name's number, each from 1 on, are two families. Where a group has no parent (the root) or no link
 // to another group, `GroupNo(0)` stands for 'none'.

@@ -1,5 +1,4 @@
 -- `claim_bytes` meets its contract, by the three cases.
-use mathlib.Core.Path.{_∙_}
 use Rattle.wire.specs.Bytes.{le16}
 use Rattle.wire.specs.Encoding.{encodeRecord, le16s, encodeClaim}
 use Rattle.reading.proofs.Carried.{lists-bytes}

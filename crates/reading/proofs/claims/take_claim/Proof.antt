@@ -1,5 +1,5 @@
 -- `take_claim` meets its contract: the kind tells the three cases apart.
-use mathlib.Core.Path.{_≡_, _∙_}
+use mathlib.Core.Path.{_∙_}
 use native.Mathlib.Omega.{arith}
 use Rattle.reading.proofs.Taken.{count-taken, inside-taken, apart-taken}
 use borrow.Author.Needs.{needs}

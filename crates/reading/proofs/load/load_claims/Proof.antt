@@ -2,7 +2,7 @@
 -- is to read all, and the tables have the claims so far.
 use types.Run.{miss}
 use Prim.Native.Nat.{ℕ, _+_, _-_, _≤_}
-use mathlib.Core.Path.{_≡_, refl, sym, ap, _∙_}
+use mathlib.Core.Path.{_≡_, refl, ap, _∙_}
 use mathlib.Core.List.{List, [], _∷_}
 use borrow.Author.Needs.{needs}
 use native.Mathlib.Omega.{arith}
@@ -10,7 +10,7 @@ use denote.Ref.{now}
 use lib.ListN.{length}
 use Rattle.wire.specs.SheetFormat.{claimTests, claimOf}
 use Rattle.reading.specs.ClaimTable.{claimsIn, ClaimRoom}
-use Rattle.reading.specs.Answers.{claim, Answered}
+use Rattle.reading.specs.Answers.{claim, AnswerOf}
 use Rattle.reading.specs.Loaded.{passedAs, AllHeld}
 use Rattle.reading.specs.declared.records.Answer.the-variants as answer
 use Rattle.reading.proofs.Fields.{claim-whole, claim-alone}
@@ -48,7 +48,7 @@ told c = c .before .before .before .before .before
 
 -- what the reader answers
 asked : (c : tie.After-read-claim Inv-loop μ-loop) → let a = c .before .before .before .before .before .before .args in
-    Answered (claimTests (a .names) []) (λ b. claim (claimOf b)) (now (a .s)) (c .before .before .loop .at) (c .read-claim .result)
+    AnswerOf (claimTests (a .names) []) (λ b. claim (claimOf b)) (now (a .s)) (c .before .before .loop .at) (c .read-claim .result)
 asked c = c .read-claim .ensures .answers
 
 -- a record was handed up

@@ -10,7 +10,7 @@ use denote.Ref.{now}
 use lib.ListN.{length}
 use Rattle.wire.specs.SheetFormat.{groupTests, groupOf}
 use Rattle.reading.specs.Tables.{groupsIn, length-groupsIn}
-use Rattle.reading.specs.Answers.{group, Answered}
+use Rattle.reading.specs.Answers.{group, AnswerOf}
 use Rattle.reading.proofs.Fields.{group-whole}
 use Rattle.reading.proofs.Carried.{Handed, answered-record, answered-refusal, tag-of}
 use Rattle.reading.proofs.Many.{Left, left-start, left-stop, left-done, group-again}
@@ -39,7 +39,7 @@ told c = c .before .before .before .before .before .before .before
 
 -- what the reader answers
 asked : (c : tie.After-read-group Inv-loop μ-loop) → let l = c .before .before .loop in
-    Answered (groupTests (groupsIn (l .groups) (l .i))) (λ b. group (groupOf b)) (now (c .before .before .before .before .before .args .s))
+    AnswerOf (groupTests (groupsIn (l .groups) (l .i))) (λ b. group (groupOf b)) (now (c .before .before .before .before .before .args .s))
     (l .at) (c .read-group .result)
 asked c = c .read-group .ensures _ (ap (λ n. n + 1) (length-groupsIn _ _))
 

@@ -12,11 +12,11 @@ use Rattle.wire.specs.Edition.{editionOf, labelLimit}
 use Rattle.wire.specs.Bytes.{u16At}
 use Rattle.wire.specs.SheetFormat.{nameTests, nameOf}
 use Rattle.reading.specs.Meant.{meantNumber}
-use Rattle.reading.specs.Answers.{name, Answered, WholeName}
-use Rattle.reading.specs.Loaded.{recordsIn, passedAs, AllGrouped, AllPass}
+use Rattle.reading.specs.Answers.{name, AnswerOf, WholeName}
+use Rattle.reading.specs.Loaded.{recordsIn, passedAs, AllGrouped}
 use Rattle.reading.proofs.Fields.{name-whole}
 use Rattle.reading.proofs.Carried.{Handed, answered-record, answered-refusal, tag-of, name-same}
-use Rattle.reading.proofs.Many.{never-read, Left, left-start, left-stop, left-done, pass-more, grouped-more}
+use Rattle.reading.proofs.Many.{never-read, Left, left-start, left-stop, left-done, AllPass, pass-more, grouped-more}
 use Rattle.reading.proofs.Many.{name-alone, name-used, name-again}
 use Rattle.reading.proofs.load.load_names.Statement.{statement}
 use Rattle.reading.proofs.load.load_names.Tie as tie
@@ -48,7 +48,7 @@ told c = c .before .before .before .before .before .before .before
 
 -- what the reader answers
 asked : (c : tie.After-read-name Inv-loop μ-loop) → let a = c .before .before .before .before .before .before .args in
-    Answered (nameTests (editionOf (a .edition)) (a .groups) []) (λ b. name (nameOf b)) (now (a .s)) (c .before .before .loop .at) (c .read-name .result)
+    AnswerOf (nameTests (editionOf (a .edition)) (a .groups) []) (λ b. name (nameOf b)) (now (a .s)) (c .before .before .loop .at) (c .read-name .result)
 asked c = c .read-name .ensures
 
 -- a record was handed up

@@ -1,6 +1,6 @@
 -- `load_sheet` meets its contract: the head, and then the records after it.
 use types.Run.{miss}
-use mathlib.Core.Path.{_≡_, _∙_}
+use mathlib.Core.Path.{_∙_}
 use mathlib.Core.List.{[], _∷_}
 use denote.Ref.{now}
 use Rattle.wire.specs.SheetFormat.{headTests, headOf}
