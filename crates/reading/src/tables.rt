@@ -29,7 +29,7 @@ pub const MODE: u16 = 7;
 pub const NO_END: u16 = 65535;
 
 // The groups that tables hold: a table of one number for each group has this length.
-pub const GROUP_CAPACITY: usize = GROUPS as usize;
+pub const GROUP_CAPACITY: usize = 128;
 
 // How many numbers the tables have for each group and for each claim.
 pub const GROUP_FIELDS: usize = 4;
