@@ -1,5 +1,5 @@
 -- The operation `sheet_claim`, written down: document 01, "Meaning", "The arrangement" (denials), "Replies", refusals 1 to 9
--- and 14. Which sets a denial shows is the one thing left open: they fit and they break the claim.
+-- and 14. Open is which sets a denial shows, and with them where an empty run starts: they fit and they break the claim.
 use Prim.Native.Nat.{ℕ, _+_, _-_, _*_, _≤_, _<_}
 use mathlib.Core.Path.{_≡_}
 use mathlib.Core.List.{List}
@@ -55,7 +55,7 @@ pub record ShownIn (out : List ℕ) (g : ℕ) : Type 0 where
   pub first : 1 ≤ shownFirst out g
   pub mark : shownMark out g ≤ 1
 
--- A denial. Its sets are open but for this: they fit, and they break the claim.
+-- A denial. Its sets, and the start of an empty run, are open but for this: they fit, and they break the claim.
 pub record DenialIn (s : Sheet) (k : Claim) (out : List ℕ) : Type 0 where
   pub verdict : VerdictIn Denied out
   pub records : (g : ℕ) → Group s g → ShownIn out g
