@@ -12,7 +12,7 @@ use Rattle.meaning.specs.Sheet.{Sheet, Group, Son, Tree, Rooted}
 use Rattle.meaning.specs.OfRecords.{endOf, disjointMode, coverMode, sameMode}
 use Rattle.meaning.specs.Sons.{sonCount}
 use Rattle.reading.specs.Tables.{groupFields, groupIn}
-use Rattle.reading.specs.SheetIn.{sheetIn, Tabled, size-in, lo-in, hi-in, disjoint-in, cover-in, same-in}
+use Rattle.reading.specs.SheetIn.{sheetIn, Tabled, size-in, few-groups, lo-in, hi-in, disjoint-in, cover-in, same-in}
 use Rattle.sizes.specs.Span.{Span, Kind, meet}
 use Rattle.sizes.specs.Fold.{kindOf, shut, start, joined, later, own, Measured}
 use Rattle.sizes.specs.Bounds.{topWeight, Small, span-small, later-small}
@@ -191,12 +191,12 @@ module _ {t : List ℕ} {n : ℕ} {may : ℕ → Bool → Bool} {z : ℕ → Boo
     (b : (i : ℕ) → getD t i 0 ≤ noEnd) (m : Measured (sheetIn t n) may z) where
   pub room-span : (g : ℕ) → Group (sheetIn t n) g → (c : Bool) → Room (z g c)
   room-span g k c =
-      omega (arith, span-small (sheetIn t n) may z noEnd (w .tree) m (small-in t n b) g k c, size-in t n, w .small)
+      omega (arith, span-small (sheetIn t n) may z noEnd (w .tree) m (small-in t n b) g k c, few-groups w)
 
   pub room-later : (g k : ℕ) (c : Bool) → k ≤ n → Room (later (sheetIn t n) z g k c)
   room-later g k c h =
       let l = rw (← size-in t n) at h in
-      omega (arith, later-small (sheetIn t n) may z noEnd (w .tree) m (small-in t n b) g k c l, size-in t n, w .small)
+      omega (arith, later-small (sheetIn t n) may z noEnd (w .tree) m (small-in t n b) g k c l, few-groups w)
 
 -- The walk over the sons of g has come to son i, or is through at 0: the sons after i are measured and joined.
 pub record AtSon (s : Sheet) (z : ℕ → Bool → Span) (g i : ℕ) (sum : Bool → Span)

@@ -58,6 +58,9 @@ module _ (t : List ℕ) (n g : ℕ) (k : Group (sheetIn t n) g) where
   unfolding sheetIn
   same-in = ap (λ r. sameMode (r .mode)) (groupAt-groupsIn t n g (k .first) (omega (arith, size-in t n)))
 
+pub few-groups : {t : List ℕ} {n : ℕ} → Tabled t n → sheetIn t n .size ≤ groupCapacity
+few-groups {t} {n} k = omega (arith, size-in t n, k .small)
+
 -- number 0, which is no group, has no parent
 pub none-above : {t : List ℕ} {n : ℕ} → Tabled t n → sheetIn t n .parent 0 ≡ 0
 unfolding sheetIn

@@ -14,7 +14,7 @@ use Rattle.meaning.specs.OfRecords.{disjointMode, coverMode, sameMode}
 use Rattle.meaning.specs.Sons.{isSon}
 use Rattle.meaning.specs.Arranged.{ended, firstOf}
 use Rattle.reading.specs.Tables.{groupIn}
-use Rattle.reading.specs.SheetIn.{sheetIn, sizeLimit, Tabled, size-in, disjoint-in, cover-in, same-in}
+use Rattle.reading.specs.SheetIn.{sheetIn, sizeLimit, Tabled, few-groups, disjoint-in, cover-in, same-in}
 use Rattle.sizes.specs.Balanced.{Balanced}
 use Rattle.meaning.proofs.SumLaws.{split, compare-eq, son-of, son-is, son-parent, no-son-before, one-parent}
 use Rattle.runs.specs.Told.{Told, numberIn, runLimit}
@@ -178,7 +178,7 @@ module _ {t : List ℕ} {n : ℕ} {f first end : ℕ → ℕ} (h : Tabled t n) (
   below = omega (arith, h .tree .before g (k .group))
 
   few : g ≤ groupCapacity
-  few = omega (arith, k .group .last, size-in t n, h .small)
+  few = omega (arith, k .group .last, few-groups h)
 
   -- its start, by its parent's mode, start and size, and the end of the son before it
   pub start-is : (x : ℕ) → x ≡ startBy (sameMode (groupIn t (p - 1) .mode)) (disjointMode (groupIn t (p - 1) .mode))
