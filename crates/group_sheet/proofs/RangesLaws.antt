@@ -20,7 +20,7 @@ use Rattle.sizes.specs.Ranged.{free, Ranged}
 use Rattle.sizes.specs.ArrangedAlike.{arranged-eq}
 use Rattle.sizes.specs.MeasuredLaws.{spans-measured}
 use Rattle.reading.specs.Tables.{groupFields, groupsIn, length-groupsIn}
-use Rattle.reading.specs.SheetIn.{sheetIn, Tabled, size-in}
+use Rattle.reading.specs.SheetIn.{sheetIn, Tabled, size-in, few-groups}
 use Rattle.measuring.specs.Held.{topOf}
 use Rattle.measuring.specs.Pairs.{pairIn}
 use Rattle.measuring.specs.Tables.{mayIn, spansIn}
@@ -55,7 +55,7 @@ tabled b t n d e f l =
 module _ {t spans after : List ℕ} {n : ℕ} (k : Tabled t n) (w : AllDone (sheetIn t n) (spansIn t n freeTable) spans after) where
   free-measured : Measured (sheetIn t n) free (spansIn t n freeTable)
   free-measured =
-      measured-free (λ g q c. free-flag g (q .first) (omega (arith, q .last, size-in t n, k .small)) c)
+      measured-free (λ g q c. free-flag g (q .first) (omega (arith, q .last, few-groups k)) c)
       (spans-measured (sheetIn t n) (mayIn freeTable) (k .tree))
 
   pub root-told : (b : Bool)

@@ -11,8 +11,7 @@ use Rattle.wire.specs.SheetFormat.{readSheet}
 use Rattle.meaning.specs.Sheet.{Sheet, Group, Top, fin, inf, AtMost}
 use Rattle.meaning.specs.Fits.{Fits, Attains}
 use Rattle.meaning.specs.OfRecords.{sheetOf}
-use Rattle.meaning.specs.Part.{BottomUp}
-use Rattle.meaning.specs.Arranged.{Arranged}
+use Rattle.meaning.specs.Arranged.{ArrangedBottomUp}
 use Rattle.meaning.specs.Shown.{shown, above}
 use Rattle.group_sheet.specs.Reply.{Call, OnceRead, OncePossible, OnceRoom}
 
@@ -44,8 +43,8 @@ pub record RangesIn (s : Sheet) (out : List ℕ) : Type 0 where
   pub range : (g : ℕ) → Group s g → (k : ℕ) →
       ((rangeLeast out g ≤ k) × AtMost k (greatestOf (rangeGreatest out g))) ↔ Attains s g k
   -- the arrangement is the one that document 01 fixes, from the bottom-up bounds L and U
-  pub arranged : (L : ℕ → ℕ) × (U : ℕ → Top) × BottomUp s L U × Arranged s L U (runFirst out) (runCount out)
-  -- and its sets fit
+  pub arranged : ArrangedBottomUp s (runFirst out) (runCount out)
+  -- and its sets fit (which follows from the line before)
   pub fits : Fits s (shown (runFirst out) (runCount out) (λ g. false) (above (s .size) (runFirst out) (runCount out)))
 
 -- the reply under a sheet

@@ -1,5 +1,5 @@
--- The arrangement: document 01, "The arrangement"; its sizes are 004's choice in Lemma 6. Members are numbers, a group is a run. L and U are the bottom-up
--- bounds: the least and the greatest count of a group, before any parent has narrowed them.
+-- The arrangement: document 01, "The arrangement"; its sizes are 004's choice in Lemma 6. Members are numbers, a group is a
+-- run. L and U are the bottom-up bounds: the least and the greatest count of a group, before any parent has narrowed them.
 use Prim.Native.Nat.{ℕ, zero, suc, _+_, _-_, min}
 use mathlib.Core.Path.{_≡_}
 use mathlib.Core.Bool.{cond, _&&_}
@@ -7,6 +7,7 @@ use lib.Dec.{ltb}
 use Rattle.meaning.specs.Sum.{sum}
 use Rattle.meaning.specs.Sheet.{Sheet, Son, Top, fin, inf}
 use Rattle.meaning.specs.Sons.{isSon, only, sons, sonCount}
+use Rattle.meaning.specs.Part.{BottomUp}
 
 -- the smaller of an upper end and a number
 abbrev pub cap : Top → ℕ → ℕ
@@ -44,3 +45,7 @@ pub record Arranged (s : Sheet) (L : ℕ → ℕ) (U : ℕ → Top) (first size 
   pub rootFirst : first 1 ≡ 1
   pub sonSize : (p g : ℕ) → Son s p g → size g ≡ sizeOf s L U size p g
   pub sonFirst : (p g : ℕ) → Son s p g → first g ≡ firstOf s first size p g
+
+-- the arrangement that document 01 fixes: from the bottom-up bounds
+abbrev pub ArrangedBottomUp : Sheet → (ℕ → ℕ) → (ℕ → ℕ) → Type 0
+ArrangedBottomUp s first size = (L : ℕ → ℕ) × (U : ℕ → Top) × BottomUp s L U × Arranged s L U first size

@@ -28,6 +28,6 @@ partAt s g = record {
   same = λ h. inPart s g h && s .same h;
 }
 
--- L g and U g are the least and the greatest count of g over the sets that fit the part at g
+-- L g and U g are the least and the greatest count of g over the sets that fit the part at g, and every count between is had
 pub record BottomUp (s : Sheet) (L : ℕ → ℕ) (U : ℕ → Top) : Type 0 where
   pub counts : (g : ℕ) → Group s g → (k : ℕ) → ((L g ≤ k) × AtMost k (U g)) ↔ Attains (partAt s g) g k

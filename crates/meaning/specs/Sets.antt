@@ -1,5 +1,5 @@
--- Finite sets of members, one for each group: document 01, "Meaning", "Sets are finite sets of members." The type X of a member is open: a number in ranges, arrangements and
--- denials, what a row names in a register.
+-- Finite sets of members, one for each group: document 01, "Meaning", "Sets are finite sets of members." The type X of a
+-- member is open; the contracts take numbers, and `renumbered-fits` says that nothing is lost by that.
 use Prim.Native.Nat.{ℕ, _<_}
 use mathlib.Core.Path.{_≡_}
 use mathlib.Core.Bool.{Bool}

@@ -10,7 +10,7 @@ use Rattle.meaning.specs.Sets.{Sets, numbered}
 unfoldable pub inRun : ℕ → ℕ → ℕ → Bool
 inRun first count m = leb first m && ltb m (first + count)
 
--- the sets shown, with the numbers below n as members: nobody is lost where n is above every run
+-- the sets shown, with the numbers below n as members: nobody is lost where every run starts at 1 or later and n is above all
 abbrev pub shown : (ℕ → ℕ) → (ℕ → ℕ) → (ℕ → Bool) → ℕ → Sets ℕ
 shown first count mark n = numbered n (λ g m. cond (eqb m 0) (mark g) (inRun (first g) (count g) m))
 

@@ -8,7 +8,7 @@ use Rattle.meaning.specs.Sheet.{Sheet, Group, Tree, Rooted, Top, fin, inf, AtMo
 use Rattle.meaning.specs.Sets.{count}
 use Rattle.meaning.specs.Fits.{Possible, Attains}
 use Rattle.meaning.specs.Part.{partAt, BottomUp}
-use Rattle.meaning.specs.Arranged.{Arranged}
+use Rattle.meaning.specs.Arranged.{ArrangedBottomUp}
 use Rattle.sizes.specs.Ranged.{free}
 use Rattle.sizes.specs.SpanLaws.{at-le}
 use Rattle.sizes.specs.Possible.{nowhere, fits-sizes, sizes-choice}
@@ -49,10 +49,6 @@ pub bottom-up-once : {s : Sheet} → Tree s → s .parent 0 ≡ 0 → Possible s
     → BottomUp s L' U' → (g : ℕ) → Group s g → (L g ≡ L' g) × (U g ≡ U' g)
 bottom-up-once t o w {L} {L'} {U} {U'} x y g q =
     ends-once (L g) (L' g) (U g) (U' g) (x .counts g q) (y .counts g q) (count (w .0) g) (part-had t o w g q)
-
--- an arrangement from bottom-up bounds: what the reply to ranges holds
-abbrev pub ArrangedBottomUp : Sheet → (ℕ → ℕ) → (ℕ → ℕ) → Type 0
-ArrangedBottomUp s first size = (L : ℕ → ℕ) × (U : ℕ → Top) × BottomUp s L U × Arranged s L U first size
 
 -- So the arrangement is one only: any two replies have the same run for every group.
 pub arrangement-once : {s : Sheet} → Tree s → Rooted s → s .parent 0 ≡ 0 → Possible s → {first size first' size' : ℕ → ℕ}

@@ -1,4 +1,4 @@
--- What the contracts of the operations leave to be said of readable sheets, in the terms of the contracts alone.
+-- What the contracts of the operations leave to be said of readable sheets.
 use Prim.Native.Nat.{ℕ, _-_, _*_, _≤_, max, zero-le}
 use mathlib.Core.Path.{_≡_}
 use mathlib.Core.List.{List}
@@ -24,7 +24,8 @@ use Rattle.meaning.proofs.SumLaws.{split}
 use Rattle.sizes.specs.Bounds.{Small}
 use Rattle.sizes.specs.Ends.{End, end-limit}
 use Rattle.sizes.specs.Decidable.{possible-or-not, breakable-or-not}
-use Rattle.sizes.specs.ArrangedOnce.{ArrangedBottomUp, arrangement-once}
+use Rattle.sizes.specs.ArrangedOnce.{arrangement-once}
+use Rattle.meaning.specs.Arranged.{ArrangedBottomUp}
 
 -- Every readable sheet falls under one case of the contracts: some sets fit or none do (8); some sets fit and break the claim
 -- (denied) or none do (holds).

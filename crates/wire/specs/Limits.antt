@@ -58,6 +58,6 @@ shownBytes = 14
 abbrev pub answerBytes : ℕ
 answerBytes = 8
 
--- most records of a sheet, and one past the last of them
+-- the number that is one past the last record of the longest sheet
 abbrev pub recordLimit : ℕ
 recordLimit = 2 + groupCapacity + nameLimit + claimLimit
