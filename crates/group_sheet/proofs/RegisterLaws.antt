@@ -11,15 +11,15 @@ use Rattle.wire.specs.SheetFormat.{Records, readSheet}
 use Rattle.wire.specs.Facts.{read-right}
 use Rattle.wire.specs.RegisterFormat.{Row, readRegister}
 use Rattle.meaning.specs.Sheet.{Sheet}
-use Rattle.meaning.specs.Readable.{tree-of-right}
 use Rattle.reading.specs.Tables.{groupFields, groupsIn, length-groupsIn}
 use Rattle.registers.specs.Words.{rowGroups}
-use Rattle.registers.specs.Tallies.{SheetIn}
+use Rattle.registers.specs.Tallies.{Checkable}
 use Rattle.registers.specs.Checked.{GroupRule, checkGives, Checked}
 use Rattle.registers.specs.declared.check.Check.{Check}
 use Rattle.replies.specs.Written.{AnswerAt}
 use Rattle.group_sheet.specs.Reply.{Call, OnceRead, OnceRoom}
 use Rattle.group_sheet.specs.RegisterReply.{AnswerIn}
+use Rattle.group_sheet.proofs.RangesLaws.{tabled}
 
 -- two words hold the groups of every edition
 row-groups : (e : Edition) → groupLimit e ≤ rowGroups
@@ -28,15 +28,11 @@ row-groups edition1 = omega arith
 
 -- the groups of a readable sheet, as the check takes them
 pub checkable : (b t : List ℕ) (n : ℕ) (d : Records) → readSheet b ≡ read d → d .groups ≡ groupsIn t n
-    → groupFields * n ≤ length t → SheetIn t n
+    → groupFields * n ≤ length t → Checkable t n
 checkable b t n d e f l =
     let R = read-right b d e in
     let m : length (d .groups) ≡ n = ap length f ∙ length-groupsIn t n in
-    record {
-      most = omega (arith, R .groupCount, row-groups (d .edition));
-      room = l;
-      tree = rw (← f) (tree-of-right R);
-    }
+    record { tabled = tabled b t n d e f l; most = omega (arith, R .groupCount, row-groups (d .edition)) }
 
 -- the number of groups by the table and by the list
 pub rows-under : (b : List ℕ) {n m : ℕ} {y : Call} {P : List Row → Type 0} → n ≡ m → OnceRead (readRegister edition1 m b) y P

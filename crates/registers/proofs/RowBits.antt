@@ -11,34 +11,17 @@ use lib.Seq.{drop-cons, take-at, getD-append-add}
 use lib.Dec.{eqb}
 use Rattle.wire.specs.Edition.{edition1, groupLimit, membershipBytes, rowBytes}
 use Rattle.registers.specs.Words.{rowGroups}
-use Rattle.wire.specs.Bytes.{u32At}
+use Rattle.wire.specs.Wide.{u64At, bytesAt, u64-bytes}
 use Rattle.wire.specs.RegisterFormat.{Row, inGroup, clearAbove}
 use Rattle.wire.specs.Encoding.{Bytes}
 use Rattle.meaning.proofs.SumLaws.{split, compare-le, below-suc}
 use Rattle.registers.specs.declared.rows.RowWords.{RowWords}
 use Rattle.registers.specs.Digits.{digit, digit-low, digit-shift, digit-none, digit-some, digit-of-zero}
-use Rattle.registers.specs.Words.{u64At, pairDigit}
+use Rattle.registers.specs.Words.{pairDigit}
 use Rattle.registers.specs.RowsRead.{bytesOf, rowOfWords, Above}
 use Rattle.registers.proofs.WordLaws.{pair-low, pair-high}
 
--- n bytes from i on as one number, low byte first
-unfoldable bytesAt : ℕ → List ℕ → ℕ → ℕ
-bytesAt zero b i = 0
-bytesAt (suc n) b i = bytesAt n b (suc i) * 2 ^ 8 + getD b i 0
-
-u64-bytes : (b : List ℕ) (i : ℕ) → u64At b i ≡ bytesAt 8 b i
-unfolding u64At u32At bytesAt
-u64-bytes b i =
-    let e1 : i + 1 ≡ suc i = omega arith in
-    let e2 : i + 2 ≡ suc (suc i) = omega arith in
-    let e3 : i + 3 ≡ suc (suc (suc i)) = omega arith in
-    let e4 : i + 4 ≡ suc (suc (suc (suc i))) = omega arith in
-    let e5 : i + 4 + 1 ≡ suc (suc (suc (suc (suc i)))) = omega arith in
-    let e6 : i + 4 + 2 ≡ suc (suc (suc (suc (suc (suc i))))) = omega arith in
-    let e7 : i + 4 + 3 ≡ suc (suc (suc (suc (suc (suc (suc i)))))) = omega arith in
-    rw (e5, e6, e7, e1, e2, e3, e4) (omega arith)
-
--- its bytes are the bytes that it was read from
+-- the bytes of a field are the bytes that it was read from
 bytes-back : (n : ℕ) (b : List ℕ) (i : ℕ) → Bytes b → i + n ≤ length b → bytesOf n (bytesAt n b i) ++ drop (i + n) b ≡ drop i b
 unfolding bytesAt bytesOf
 bytes-back zero b i h l = rw (add-zero i)

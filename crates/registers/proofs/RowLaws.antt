@@ -13,15 +13,16 @@ use lib.Dec.{leb, eqb}
 use Rattle.wire.specs.Limits.{rowLimit}
 use Rattle.wire.specs.Edition.{edition1, groupLimit, membershipBytes, rowBytes, rowKind}
 use Rattle.wire.specs.Bytes.{u16At, u32At}
+use Rattle.wire.specs.Wide.{u64At}
 use Rattle.wire.specs.Record.{Reading, read, refused, onward, refusal}
 use Rattle.wire.specs.RegisterFormat.{Row, rowOf, lastMember, clearAbove, rowTests, readRows, readRegister}
 use Rattle.wire.specs.Encoding.{Bytes}
 use Rattle.wire.specs.Facts.{bytes-drop}
+use Rattle.wire.specs.RowFacts.{last-member-behind}
 use Rattle.meaning.specs.OfRecords.{noRow}
 use Rattle.meaning.proofs.SumLaws.{split, below-suc}
 use Rattle.registers.specs.declared.rows.RowWords.{RowWords}
 use Rattle.registers.specs.declared.rows.RowAnswer.the-variants as answer
-use Rattle.registers.specs.Words.{u64At}
 use Rattle.registers.specs.RowsRead.{rowOfWords, Front, ended, held, turned, rowGives, frontOf, fromRow, rowsBefore, Above, Kept}
 use Rattle.registers.proofs.WordLaws.{holds-here, holds-there}
 use Rattle.registers.proofs.RowBits.{bits-back, in-group-words, clear-words}
@@ -135,12 +136,6 @@ unfolding rowsBefore
 length-rowsBefore b zero = refl
 length-rowsBefore b (suc n) = simp (length-append, length-rowsBefore b n) (omega arith)
 
-last-of-more : (rs : List Row) (r : Row) → lastMember (rs ++ (r ∷ [])) ≡ r .member
-unfolding lastMember
-last-of-more [] r = refl
-last-of-more (p ∷ []) r = refl
-last-of-more (p ∷ (q ∷ rs)) r = last-of-more (q ∷ rs) r
-
 pub row-before : (b : List ℕ) (n i : ℕ) → i < n → getD (rowsBefore b n) i noRow ≡ rowOf edition1 (fromRow b i)
 unfolding rowsBefore
 row-before b zero i l = absurd (omega arith)
@@ -219,7 +214,7 @@ module _ (groups : ℕ) (b : List ℕ) (row : ℕ) (l : row < rowLimit) where
 
     pub last-on : v .member ≡ lastMember (rowsBefore b (row + 1))
     unfolding rowsBefore rowOf
-    last-on = rw (add-one row, last-of-more (rowsBefore b row) (rowOf edition1 (fromRow b row))) member-is
+    last-on = rw (add-one row, last-member-behind (rowsBefore b row) (rowOf edition1 (fromRow b row))) member-is
 
     pub kept-on : (t : List ℕ) → 2 * row + 1 < length t → Kept (rowsBefore b row) t
         → Kept (rowsBefore b (row + 1)) (set (set t (2 * row) (v .low)) (2 * row + 1) (v .high))

@@ -9,18 +9,17 @@ use lib.Dec.{ltb, eqb}
 use Rattle.wire.specs.Limits.{noEnd}
 use Rattle.registers.specs.Words.{rowGroups}
 use Rattle.meaning.specs.Sum.{sum}
-use Rattle.meaning.specs.Sheet.{Sheet, AtMost, Group, Son, Tree}
+use Rattle.meaning.specs.Sheet.{Sheet, AtMost, Group, Son}
 use Rattle.meaning.specs.Sets.{Sets, count}
 use Rattle.meaning.specs.Rule.{Rule, outside, lacking, uncovered, shared, below, above, ruleNumber, Broken}
-use Rattle.meaning.specs.OfRecords.{groupAt, sheetOf, endOf, sameMode}
-use Rattle.reading.specs.Tables.{groupsIn, groupAt-groupsIn}
+use Rattle.meaning.specs.OfRecords.{endOf, sameMode}
+use Rattle.reading.specs.SheetIn.{sheetIn, Tabled, group-in, parent-in, lo-in, hi-in, disjoint-in, cover-in, same-in, parent-below}
 use Rattle.meaning.proofs.SumLaws.{and-true, split, compare-le, true-not-false, sum-some, sum-two, sum-term}
 use Rattle.registers.specs.Cases.{sum-pair}
 use Rattle.registers.specs.Words.{digitIn, holds, inBoth, wordSets}
 use Rattle.registers.specs.Tallies.{SonsListed}
 use Rattle.registers.specs.RuleTests.{parentIn, loIn, hiIn, modeIn, mayBreak, rowBreaks, countBreaks}
 use Rattle.registers.proofs.WordLaws.{digit-in-le, holds-one, one-holds}
-use Rattle.registers.proofs.SonLaws.{parent-below}
 
 -- the sons that a row has
 module _ (s : Sheet) (w u : List ℕ) (i p : ℕ) (k : SonsListed s u) (z : s .size ≤ rowGroups) (a : 1 ≤ p) (b : p ≤ rowGroups) where
@@ -161,23 +160,23 @@ may-parent t g (suc (suc zero)) a b e =
 may-parent t g (suc (suc (suc k))) a b e = absurd (omega arith)
 
 -- the tests of a table of groups
-module _ (t : List ℕ) (n g : ℕ) (r : Tree (sheetOf (groupsIn t n))) (a : 1 ≤ g) (b : g ≤ n) where
-  at-group : groupAt (groupsIn t n) g ≡ record { parent = parentIn t g; lo = loIn t g; hi = hiIn t g; mode = modeIn t g }
-  at-group = groupAt-groupsIn t n g a b
+module _ {t : List ℕ} {n : ℕ} (k : Tabled t n) (g : ℕ) (a : 1 ≤ g) (b : g ≤ n) where
+  group : Group (sheetIn t n) g
+  group = group-in t n a b
 
   same-parent : (ltb 0 (parentIn t g) && sameMode (modeIn t (parentIn t g)))
-      ≡ (ltb 0 (parentIn t g) && sheetOf (groupsIn t n) .same (parentIn t g))
+      ≡ (ltb 0 (parentIn t g) && sheetIn t n .same (parentIn t g))
   same-parent =
       compare-le 1 (parentIn t g)
-      (λ o. rw (groupAt-groupsIn t n (parentIn t g) o (omega (arith, parent-below t n g r a b))))
+      (λ o. rw (same-in t n (parentIn t g) (group-in t n o (omega (arith, parent-below k g (parentIn t g) b refl a)))))
       (λ o. rw (le-ltb 0 (parentIn t g) (omega arith)))
 
-  pub may-is : (q : Rule) → ruleNumber q < 5 → mayBreak t g (ruleNumber q) ≡ may (sheetOf (groupsIn t n)) g q
+  pub may-is : (q : Rule) → ruleNumber q < 5 → mayBreak t g (ruleNumber q) ≡ may (sheetIn t n) g q
   unfolding mayBreak
-  may-is outside l = rw at-group
-  may-is lacking l = rw at-group same-parent
-  may-is uncovered l = rw at-group
-  may-is shared l = rw at-group
+  may-is outside l = rw (parent-in t n g group)
+  may-is lacking l = rw (parent-in t n g group) same-parent
+  may-is uncovered l = rw (cover-in t n g group)
+  may-is shared l = rw (disjoint-in t n g group)
   may-is below l = absurd (omega arith)
   may-is above l = absurd (omega arith)
 
@@ -197,22 +196,22 @@ module _ (t : List ℕ) (n g : ℕ) (r : Tree (sheetOf (groupsIn t n))) (a : 1 �
 
   pub by-count : {X : Type 0} (A : Sets X) (q : Rule) (c : ℕ) → 5 ≤ ruleNumber q → c ≡ count A g
       → countBreaks t c g (ruleNumber q) ≡ true
-      → Broken (sheetOf (groupsIn t n)) A g q
+      → Broken (sheetIn t n) A g q
   unfolding countBreaks
   by-count A outside c l e x = absurd (omega arith)
   by-count A lacking c l e x = absurd (omega arith)
   by-count A uncovered c l e x = absurd (omega arith)
   by-count A shared c l e x = absurd (omega arith)
-  by-count A below c l e x = rw (at-group, ← e) (ltb-true c (loIn t g) x)
-  by-count A above c l e x = rw (at-group, ← e) (over c (hiIn t g) x)
+  by-count A below c l e x = rw (lo-in t n g group, ← e) (ltb-true c (loIn t g) x)
+  by-count A above c l e x = rw (hi-in t n g group, ← e) (over c (hiIn t g) x)
 
   pub count-of : {X : Type 0} (A : Sets X) (q : Rule) (c : ℕ) → 5 ≤ ruleNumber q → c ≡ count A g
       → countBreaks t c g (ruleNumber q) ≡ false
-      → Broken (sheetOf (groupsIn t n)) A g q → ⊥
+      → Broken (sheetIn t n) A g q → ⊥
   unfolding countBreaks
   count-of A outside c l e x v = absurd (omega arith)
   count-of A lacking c l e x v = absurd (omega arith)
   count-of A uncovered c l e x v = absurd (omega arith)
   count-of A shared c l e x v = absurd (omega arith)
-  count-of A below c l e x v = let z : c < loIn t g = rw (at-group, ← e) at v in omega (arith, ltb-false c (loIn t g) x)
-  count-of A above c l e x v = (rw (at-group, ← e) at v) (not-over c (hiIn t g) x)
+  count-of A below c l e x v = let z : c < loIn t g = rw (lo-in t n g group, ← e) at v in omega (arith, ltb-false c (loIn t g) x)
+  count-of A above c l e x v = (rw (hi-in t n g group, ← e) at v) (not-over c (hiIn t g) x)

@@ -7,20 +7,18 @@ use native.Mathlib.Omega.{arith}
 use native.Mathlib.Numerals.{add-one}
 use lib.ListN.{getD}
 use Rattle.registers.specs.Words.{rowGroups}
-use Rattle.meaning.specs.Sheet.{Sheet, Group, Tree}
+use Rattle.meaning.specs.Sheet.{Sheet, Group}
 use Rattle.meaning.specs.Sets.{Sets}
 use Rattle.meaning.specs.Rule.{Rule, ruleNumber, Broken}
-use Rattle.meaning.specs.OfRecords.{sheetOf}
-use Rattle.reading.specs.Tables.{groupsIn, length-groupsIn}
+use Rattle.reading.specs.SheetIn.{sheetIn, size-in, group-in, parent-in}
 use Rattle.meaning.proofs.SumLaws.{below-suc, true-not-false}
 use Rattle.registers.specs.Unbroken.{unbroken-fits, fits-answered, broken-answered}
 use Rattle.registers.specs.Words.{wordSets, words-distinct}
-use Rattle.registers.specs.Tallies.{SonsListed, Counted}
+use Rattle.registers.specs.Tallies.{Checkable, SonsListed, Counted}
 use Rattle.registers.specs.RuleTests.{parentIn, mayBreak, rowBreaks, countBreaks}
 use Rattle.registers.specs.Checked.{AnswerTo}
 use Rattle.reading.specs.declared.tables.GroupNo.{GroupNo}
 use Rattle.registers.specs.declared.check.Check.the-variants as check
-use Rattle.registers.proofs.SonLaws.{group-in, in-group, parent-in}
 use Rattle.registers.proofs.RuleLaws.{rule-first, rule-last, rule-numbered, by-row, row-of, may-is, by-count, count-of}
 
 -- nothing is broken at a group before g
@@ -69,58 +67,58 @@ rules-more : {X : Type 0} (s : Sheet) (A : Sets X) (g k : ℕ) → ClearRules s 
 rules-more s A g k c f =
     record { clear = λ q l b. below-suc (ruleNumber q) k (rw add-one at l) (λ x. f q x b) (λ x. c .clear q x b) }
 
-module _ (t : List ℕ) (n : ℕ) (w : List ℕ) (rows : ℕ) (u counts : List ℕ) (r : Tree (sheetOf (groupsIn t n))) (z : n ≤ rowGroups)
-    (sons : SonsListed (sheetOf (groupsIn t n)) u) (tally : Counted (wordSets w rows) counts) where
-  size-most : sheetOf (groupsIn t n) .size ≤ rowGroups
-  size-most = rw (length-groupsIn t n) z
+module _ (t : List ℕ) (n : ℕ) (w : List ℕ) (rows : ℕ) (u counts : List ℕ) (T : Checkable t n)
+    (sons : SonsListed (sheetIn t n) u) (tally : Counted (wordSets w rows) counts) where
+  size-most : sheetIn t n .size ≤ rowGroups
+  size-most = omega (arith, size-in t n, T .most)
 
   -- nothing is broken at any group
-  pub scan-fits : (g : ℕ) → n < g → ClearGroups (sheetOf (groupsIn t n)) (wordSets w rows) g
-      → AnswerTo (sheetOf (groupsIn t n)) (wordSets w rows) check.Fits
+  pub scan-fits : (g : ℕ) → n < g → ClearGroups (sheetIn t n) (wordSets w rows) g
+      → AnswerTo (sheetIn t n) (wordSets w rows) check.Fits
   scan-fits g l c =
       record {
         names = record { group = 0; rule = 0 };
         gives = refl;
-        answered = fits-answered (unbroken-fits (sheetOf (groupsIn t n)) (wordSets w rows) r (words-distinct w rows)
-            (λ h y q b. c .clear h y (omega (arith, in-group t n h y)) q b));
+        answered = fits-answered (unbroken-fits (sheetIn t n) (wordSets w rows) (T .tabled .tree) (words-distinct w rows)
+            (λ h y q b. c .clear h y (omega (arith, y .last, size-in t n)) q b));
       }
 
-  module _ (g k : ℕ) (a : 1 ≤ g) (b : g ≤ n) (c : ClearRules (sheetOf (groupsIn t n)) (wordSets w rows) g k) where
+  module _ (g k : ℕ) (a : 1 ≤ g) (b : g ≤ n) (c : ClearRules (sheetIn t n) (wordSets w rows) g k) where
     -- no row breaks the rule
     pub rules-row : k < 5 → (row : ℕ) → rows ≤ row → ClearRows k w row u g (parentIn t g)
-        → ClearRules (sheetOf (groupsIn t n)) (wordSets w rows) g (k + 1)
+        → ClearRules (sheetIn t n) (wordSets w rows) g (k + 1)
     rules-row l row m d =
-        rules-more (sheetOf (groupsIn t n)) (wordSets w rows) g k c
+        rules-more (sheetIn t n) (wordSets w rows) g k c
         (λ q e v.
-        let x = row-of (sheetOf (groupsIn t n)) w u rows g sons size-most (group-in t n g a b) q (omega arith) v .1 in
-        rows-clash (ruleNumber q) k w row u g _ _ e (parent-in t n g a b) d (x .0) (omega arith) (x .2))
+        let x = row-of (sheetIn t n) w u rows g sons size-most (group-in t n a b) q (omega arith) v .1 in
+        rows-clash (ruleNumber q) k w row u g _ _ e (parent-in t n g (group-in t n a b)) d (x .0) (omega arith) (x .2))
 
     -- the rule cannot be broken at the group
-    pub rules-not : k < 5 → mayBreak t g k ≡ false → ClearRules (sheetOf (groupsIn t n)) (wordSets w rows) g (k + 1)
+    pub rules-not : k < 5 → mayBreak t g k ≡ false → ClearRules (sheetIn t n) (wordSets w rows) g (k + 1)
     rules-not l d =
-        rules-more (sheetOf (groupsIn t n)) (wordSets w rows) g k c
+        rules-more (sheetIn t n) (wordSets w rows) g k c
         (λ q e v.
-        let x = row-of (sheetOf (groupsIn t n)) w u rows g sons size-most (group-in t n g a b) q (omega arith) v .0 in
-        true-not-false _ x (sym (may-is t n g r a b q (omega arith)) ∙ (rw e d)))
+        let x = row-of (sheetIn t n) w u rows g sons size-most (group-in t n a b) q (omega arith) v .0 in
+        true-not-false _ x (sym (may-is (T .tabled) g a b q (omega arith)) ∙ (rw e d)))
 
     -- the count does not break the rule
     pub rules-count : 5 ≤ k → countBreaks t (getD counts g 0) g k ≡ false
-        → ClearRules (sheetOf (groupsIn t n)) (wordSets w rows) g (k + 1)
+        → ClearRules (sheetIn t n) (wordSets w rows) g (k + 1)
     rules-count l d =
-        rules-more (sheetOf (groupsIn t n)) (wordSets w rows) g k c
-        (λ q e v. count-of t n g r a b (wordSets w rows) q (getD counts g 0) (omega arith) (tally .each g a (omega arith))
+        rules-more (sheetIn t n) (wordSets w rows) g k c
+        (λ q e v. count-of (T .tabled) g a b (wordSets w rows) q (getD counts g 0) (omega arith) (tally .each g a (omega (arith, T .most)))
         (rw e d) v)
 
-    module _ (d : ClearGroups (sheetOf (groupsIn t n)) (wordSets w rows) g) (f : 1 ≤ k) (p : GroupNo) (e : p .0 ≡ g) where
+    module _ (d : ClearGroups (sheetIn t n) (wordSets w rows) g) (f : 1 ≤ k) (p : GroupNo) (e : p .0 ≡ g) where
       -- the rule is broken
-      scan-broken : (q : Rule) → k ≡ ruleNumber q → Broken (sheetOf (groupsIn t n)) (wordSets w rows) g q
-          → AnswerTo (sheetOf (groupsIn t n)) (wordSets w rows) (check.Broken p k)
+      scan-broken : (q : Rule) → k ≡ ruleNumber q → Broken (sheetIn t n) (wordSets w rows) g q
+          → AnswerTo (sheetIn t n) (wordSets w rows) (check.Broken p k)
       scan-broken q i v =
           record {
             names = record { group = p .0; rule = k };
             gives = refl;
             answered = rw (e, i) (broken-answered q (record {
-              group = group-in t n g a b;
+              group = group-in t n a b;
               broken = v;
               lowest = d .clear;
               first = λ p o. c .clear p (omega arith);
@@ -129,19 +127,19 @@ module _ (t : List ℕ) (n : ℕ) (w : List ℕ) (rows : ℕ) (u counts : List �
 
       -- a row breaks it
       pub scan-row : k < 5 → (row : ℕ) → row < rows → mayBreak t g k ≡ true → rowBreaks k w row u g (parentIn t g) ≡ true
-          → AnswerTo (sheetOf (groupsIn t n)) (wordSets w rows) (check.Broken p k)
+          → AnswerTo (sheetIn t n) (wordSets w rows) (check.Broken p k)
       scan-row l row m x y =
           let q = rule-numbered k f (omega arith) in
           scan-broken (q .0) (q .1)
-          (by-row (sheetOf (groupsIn t n)) w u rows g sons size-most (group-in t n g a b) (q .0) row (omega arith) m
-          (sym (may-is t n g r a b (q .0) (omega arith)) ∙ (rw (← q .1) x))
-          (rw (← q .1, parent-in t n g a b) y))
+          (by-row (sheetIn t n) w u rows g sons size-most (group-in t n a b) (q .0) row (omega arith) m
+          (sym (may-is (T .tabled) g a b (q .0) (omega arith)) ∙ (rw (← q .1) x))
+          (rw (← q .1, parent-in t n g (group-in t n a b)) y))
 
       -- the count breaks it
       pub scan-count : 5 ≤ k → k < 7 → countBreaks t (getD counts g 0) g k ≡ true
-          → AnswerTo (sheetOf (groupsIn t n)) (wordSets w rows) (check.Broken p k)
+          → AnswerTo (sheetIn t n) (wordSets w rows) (check.Broken p k)
       scan-count l m x =
           let q = rule-numbered k f m in
           scan-broken (q .0) (q .1)
-          (by-count t n g r a b (wordSets w rows) (q .0) (getD counts g 0) (omega arith) (tally .each g a (omega arith))
+          (by-count (T .tabled) g a b (wordSets w rows) (q .0) (getD counts g 0) (omega arith) (tally .each g a (omega (arith, T .most)))
           (rw (← q .1) x))

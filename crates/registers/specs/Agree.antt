@@ -6,8 +6,8 @@ use Rattle.meaning.specs.Sheet.{Sheet, Group, Tree}
 use Rattle.meaning.specs.Sets.{Sets, Distinct, count}
 use Rattle.meaning.specs.Fits.{Fits, groupsOf}
 use Rattle.meaning.specs.Rule.{Rule, outside, lacking, uncovered, shared, below, above, Broken, FirstBroken, Answered}
-use Rattle.meaning.proofs.SumLaws.{sum-eq}
-use Rattle.registers.specs.Unbroken.{son-parent, unbroken-fits, fits-unbroken}
+use Rattle.meaning.proofs.SumLaws.{sum-eq, son-parent}
+use Rattle.registers.specs.Unbroken.{unbroken-fits, fits-unbroken}
 
 pub record Agree {X Y : Type 0} (s : Sheet) (A : Sets X) (B : Sets Y) : Type 0 where
   pub bound : A .bound ≡ B .bound

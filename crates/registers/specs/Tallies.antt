@@ -7,17 +7,15 @@ use mathlib.Core.List.{List}
 use lib.ListN.{length, getD, set}
 use lib.Bits.{bitOr}
 use Rattle.registers.specs.Words.{rowGroups}
-use Rattle.meaning.specs.Sheet.{Sheet, Son, Tree}
+use Rattle.meaning.specs.Sheet.{Sheet, Son}
 use Rattle.meaning.specs.Sets.{Sets, count}
-use Rattle.meaning.specs.OfRecords.{sheetOf}
-use Rattle.reading.specs.Tables.{groupFields, groupsIn}
+use Rattle.reading.specs.SheetIn.{sheetIn, Tabled}
 use Rattle.registers.specs.Words.{pairDigit, holds, wordSets}
 
--- the table holds a sheet of n groups, each after its parent
-pub record SheetIn (t : List ℕ) (n : ℕ) : Type 0 where
+-- the table holds the groups of a readable sheet, and a row has a bit for each
+pub record Checkable (t : List ℕ) (n : ℕ) : Type 0 where
+  pub tabled : Tabled t n
   pub most : n ≤ rowGroups
-  pub room : groupFields * n ≤ length t
-  pub tree : Tree (sheetOf (groupsIn t n))
 
 -- places of a table by group, and words of the table of sons: group numbers start at 1, and place 0 is for none
 abbrev pub groupPlaces : ℕ
@@ -52,7 +50,7 @@ pub record CountsTo (m : ℕ) (t : List ℕ) : Type 0 where
 pub record Gathered (t : List ℕ) (n : ℕ) (w : List ℕ) (rows : ℕ) (u c : List ℕ) : Type 0 where
   pub row-words : 2 * rows ≤ length w
   pub son-words : sonWords ≤ length u
-  pub sons : SonsListed (sheetOf (groupsIn t n)) u
+  pub sons : SonsListed (sheetIn t n) u
   pub places : groupPlaces ≤ length c
   pub counts : Counted (wordSets w rows) c
 

@@ -8,16 +8,12 @@ use Rattle.meaning.specs.Sheet.{Sheet, Top, fin, inf, AtMost, Group, Son, Tree}
 use Rattle.meaning.specs.Sets.{Sets, Distinct, count}
 use Rattle.meaning.specs.Fits.{Fits, groupsOf}
 use Rattle.meaning.specs.Rule.{Rule, outside, lacking, uncovered, shared, below, above, ruleNumber, Broken, FirstBroken, Answered}
-use Rattle.meaning.proofs.SumLaws.{split, compare-le, compare-eq, true-not-false}
+use Rattle.meaning.proofs.SumLaws.{split, compare-le, compare-eq, true-not-false, son-parent}
 use Rattle.registers.specs.Cases.{find}
 
 -- no rule is broken at any group
 abbrev pub Unbroken : {X : Type 0} → Sheet → Sets X → Type 0
 Unbroken s A = (g : ℕ) → Group s g → (q : Rule) → Broken s A g q → ⊥
-
--- in a tree the parent of a son is a group
-pub son-parent : {s : Sheet} {p g : ℕ} → Tree s → Son s p g → Group s p
-son-parent {s} {p} {g} t k = omega (arith, t .before g (k .group))
 
 -- a group is the son of p, or is not
 son-or {ℓ} : {C : Type ℓ} (s : Sheet) (p g : ℕ) → (Son s p g → C) → ((Son s p g → ⊥) → C) → C

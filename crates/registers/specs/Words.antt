@@ -7,16 +7,11 @@ use lib.ListN.{getD}
 use lib.Dec.{ltb, eqb}
 use Rattle.meaning.specs.Sum.{sum}
 use Rattle.meaning.specs.Sets.{Sets, Distinct, numbered}
-use Rattle.wire.specs.Bytes.{u32At}
 use Rattle.registers.specs.Digits.{digit}
 
 -- the groups whose digits two words have
 abbrev pub rowGroups : ℕ
 rowGroups = 2 * 64
-
--- a field of eight bytes, low byte first
-unfoldable pub u64At : List ℕ → ℕ → ℕ
-u64At b i = u32At b i + 4294967296 * u32At b (i + 4)
 
 -- digit j of two words
 unfoldable pub pairDigit : ℕ → ℕ → ℕ → ℕ

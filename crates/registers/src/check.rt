@@ -19,10 +19,9 @@ ghost use lib.ListN.{length, getD};
 ghost use Rattle.registers.specs.Words.{rowGroups};
 ghost use Rattle.wire.specs.Edition.{edition1};
 ghost use Rattle.wire.specs.RegisterFormat.{readRegister};
-ghost use Rattle.meaning.specs.OfRecords.{sheetOf};
-ghost use Rattle.reading.specs.Tables.{groupsIn};
+ghost use Rattle.reading.specs.SheetIn.{sheetIn};
 ghost use Rattle.registers.specs.Words.{holds, inBoth, wordSets};
-ghost use Rattle.registers.specs.Tallies.{SheetIn, Gathered, RowAsked};
+ghost use Rattle.registers.specs.Tallies.{Checkable, Gathered, RowAsked};
 ghost use Rattle.registers.specs.RuleTests.{parentIn, mayBreak, rowBreaks, countBreaks};
 ghost use Rattle.registers.specs.Checked.{AnswerTo, Checked};
 
@@ -119,8 +118,8 @@ fn count_breaks(groups: &[u16], counts: &[u32], g: GroupNo, rule: u16) -> bool
 
 // The scan over groups, rules and rows, left at the first broken rule.
 fn scan(groups: &[u16], size: u16, words: &[u64], n: usize, sons: &[u64], counts: &[u32]) -> Check
-    requires { ⌜ SheetIn (now groups) size × Gathered (now groups) size (now words) n (now sons) (now counts) ⌝ }
-    ensures { λ r. ⌜ AnswerTo (sheetOf (groupsIn (now (groups .entry)) size)) (wordSets (now (words .entry)) n) r ⌝ }
+    requires { ⌜ Checkable (now groups) size × Gathered (now groups) size (now words) n (now sons) (now counts) ⌝ }
+    ensures { λ r. ⌜ AnswerTo (sheetIn (now (groups .entry)) size) (wordSets (now (words .entry)) n) r ⌝ }
 {
     let mut answer = Check::Fits;
     let end = size + 1;
@@ -150,8 +149,8 @@ fn scan(groups: &[u16], size: u16, words: &[u64], n: usize, sons: &[u64], counts
 
 // All rows are read before any rule is looked at.
 pub fn check_register(groups: &[u16], size: u16, register: &[u8]) -> Check
-    requires { ⌜ SheetIn (now groups) size ⌝ }
-    ensures { λ r. ⌜ Checked (sheetOf (groupsIn (now (groups .entry)) size)) (readRegister edition1 size (now (register .entry))) r ⌝ }
+    requires { ⌜ Checkable (now groups) size ⌝ }
+    ensures { λ r. ⌜ Checked (sheetIn (now (groups .entry)) size) (readRegister edition1 size (now (register .entry))) r ⌝ }
 {
     let mut words = [0u64; ROW_WORDS];
     match read_rows(register, size, &mut words) {

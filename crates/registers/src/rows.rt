@@ -8,10 +8,9 @@ use crate::reader::row_of;
 use reading::tables::GROUPS;
 use wire::bytes;
 ghost use mathlib.Core.Path.{_≡_};
-ghost use Prim.Native.Nat.{_+_, _*_, _≤_, _<_};
+ghost use Prim.Native.Nat.{_*_, _≤_};
 ghost use lib.ListN.{length};
 ghost use Rattle.wire.specs.Limits.{rowLimit};
-ghost use Rattle.registers.specs.Words.{u64At};
 ghost use Rattle.registers.specs.RowsRead.{rowGives, frontOf, fromRow, Above, ReadInto};
 
 // A row's member, and its membership: groups 1 to 64 in the low word, 65 to 128 in the high one, lowest bit first.
@@ -32,20 +31,6 @@ pub enum RowAnswer {
 pub enum Rows {
     Count(usize),
     Refused(u32, u32),
-}
-
-// a field of four bytes and the one above it
-fn pair_of_longs(low: u32, high: u32) -> u64
-    ensures { λ r. ⌜ r ≡ low + 4294967296 * high ⌝ }
-{
-    low as u64 + 4294967296 * (high as u64)
-}
-
-fn wide(s: &[u8], at: usize) -> u64
-    requires { ⌜ at + 7 < length (now s) ⌝ }
-    ensures { λ r. ⌜ r ≡ u64At (now (s .entry)) at ⌝ }
-{
-    pair_of_longs(bytes::long(s, at), bytes::long(s, at + 4))
 }
 
 // The row after `row` rows.
@@ -71,8 +56,8 @@ pub fn row_at(register: &[u8], row: usize) -> RowAnswer
     }
     RowAnswer::Row(RowWords {
         member: bytes::long(register, at + 4),
-        low: wide(register, at + 8),
-        high: wide(register, at + 16),
+        low: bytes::wide(register, at + 8),
+        high: bytes::wide(register, at + 16),
     })
 }
 

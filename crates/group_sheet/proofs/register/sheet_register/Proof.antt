@@ -3,6 +3,7 @@ use mathlib.Core.Path.{refl, ap}
 use native.Mathlib.Omega.{arith}
 use Rattle.wire.specs.Edition.{editionOf}
 use Rattle.reading.specs.Tables.{length-groupsIn}
+use Rattle.reading.specs.SheetIn.{sheetIn}
 use Rattle.reading.specs.Loaded.{loaded-sheet, loaded-held, loaded-refused}
 use Rattle.registers.specs.Checked.{checkGives}
 use Rattle.group_sheet.specs.RegisterReply.{RegisterUnder}
@@ -75,7 +76,7 @@ returns c =
     }
 
 returns-2 : tie.Need-returns-2
-unfolding editionOf
+unfolding editionOf sheetIn
 returns-2 c =
     let e = loaded-sheet (c .before .before .before .before .before .before .before .before .before .before .before .before .before .before .load-sheet .ensures) _ (c .before .before .before .before .before .before .before .head .given .1) in
     let w = c .before .before .before .before .check-register .ensures in
@@ -92,7 +93,7 @@ same-length : tie.Need-same-length
 same-length c = search needs
 
 returns-3 : tie.Need-returns-3
-unfolding editionOf
+unfolding editionOf sheetIn
 returns-3 c =
     let e = loaded-sheet (c .before .before .before .before .before .before .before .before .before .before .before .before .before .before .before .before .before .load-sheet .ensures) _ (c .before .before .before .before .before .before .before .before .before .before .head .given .1) in
     let w = c .before .before .before .before .before .before .before .check-register .ensures in
@@ -109,7 +110,7 @@ same-length-2 : tie.Need-same-length-2
 same-length-2 c = search needs
 
 returns-4 : tie.Need-returns-4
-unfolding editionOf
+unfolding editionOf sheetIn
 returns-4 c =
     let e = loaded-sheet (c .before .before .before .before .before .before .before .before .before .before .before .before .before .before .before .before .load-sheet .ensures) _ (c .before .before .before .before .before .before .before .before .before .head .given .1) in
     let w = c .before .before .before .before .before .before .check-register .ensures in

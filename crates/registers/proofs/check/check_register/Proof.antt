@@ -4,7 +4,7 @@ use borrow.Author.Needs.{needs}
 use mathlib.Core.Path.{sym}
 use native.Mathlib.Omega.{arith}
 use native.Mathlib.Nat.{le-refl, le-of-eq}
-use Rattle.reading.specs.Tables.{length-groupsIn}
+use Rattle.reading.specs.SheetIn.{size-in}
 use Rattle.registers.specs.declared.rows.Rows.the-variants as rows
 use Rattle.registers.specs.RowsRead.{ReadInto}
 use Rattle.registers.specs.Tallies.{sonWords, groupPlaces}
@@ -87,7 +87,7 @@ returns-2 : tie.Need-returns-2
 returns-2 c =
     let n = c .before .before .before .before .before .before .before .before .before .before .before .before in
     let p = n .before .before .before .before .before .before .before .pre in
-    checked-words _ _ _ _ (read-into n) _ _ (p .tree) (rw (length-groupsIn _ _) (p .most)) (c .scan .ensures)
+    checked-words _ _ _ _ (read-into n) _ _ (p .tabled .tree) (rw (size-in _ _) (p .most)) (c .scan .ensures)
 
 pub check-register-spec : {M : Type 1} → statement M
 check-register-spec =

@@ -5,12 +5,10 @@ use Prim.Native.Nat.{_-_, _≤_, _<_}
 use mathlib.Core.Path.{_≡_, refl, sym, _∙_}
 use mathlib.Core.Logic.{⊎-elim}
 use native.Mathlib.Omega.{arith}
-use Rattle.meaning.specs.OfRecords.{sheetOf}
-use Rattle.reading.specs.Tables.{groupsIn}
+use Rattle.reading.specs.SheetIn.{sheetIn, parent-below}
 use Rattle.registers.specs.Words.{wordSets}
 use Rattle.registers.specs.RuleTests.{parentIn}
 use Rattle.registers.specs.declared.check.Check.the-variants as check
-use Rattle.registers.proofs.SonLaws.{parent-below}
 use Rattle.registers.proofs.RuleLaws.{may-parent}
 use Rattle.registers.proofs.ScanLaws.{ClearGroups, ClearRules, ClearRows, rows-none, rows-more, rules-none, groups-none}
 use Rattle.registers.proofs.ScanLaws.{groups-more, scan-fits, rules-row, rules-not, rules-count, scan-row, scan-count}
@@ -26,14 +24,14 @@ abbrev μ-loop2 : tie.MeasureT-loop2
 
 abbrev Inv-loop : tie.InvT-loop
 Inv-loop groups size words n sons counts answer₀ end g group p rule₀ answer rule =
-    (1 ≤ rule) × ((rule ≤ 7) × ((answer ≡ check.Fits) × ClearRules (sheetOf (groupsIn groups size)) (wordSets words n) g rule))
+    (1 ≤ rule) × ((rule ≤ 7) × ((answer ≡ check.Fits) × ClearRules (sheetIn groups size) (wordSets words n) g rule))
 
 abbrev μ-loop : tie.MeasureT-loop
 μ-loop groups size words n sons counts answer₀ end g group p rule₀ answer rule = 7 - rule
 
 abbrev Inv-scan : tie.InvT-scan
 Inv-scan groups size words n sons counts answer₀ end g₀ answer g =
-    (1 ≤ g) × ((g ≤ end) × ((answer ≡ check.Fits) × ClearGroups (sheetOf (groupsIn groups size)) (wordSets words n) g))
+    (1 ≤ g) × ((g ≤ end) × ((answer ≡ check.Fits) × ClearGroups (sheetIn groups size) (wordSets words n) g))
 
 abbrev μ-scan : tie.MeasureT-scan
 μ-scan groups size words n sons counts answer₀ end g₀ answer g = end - g
@@ -41,8 +39,7 @@ abbrev μ-scan : tie.MeasureT-scan
 -- a group's parent comes before it
 below : (c : tie.In-scan Inv-loop2 μ-loop2 Inv-loop μ-loop Inv-scan μ-scan)
     → parentIn (c .before .before .before .before .before .before .args .groups .now) (c .before .scan .g) < c .before .scan .g
-below c = parent-below _ _ _ (c .before .before .before .before .before .before .pre .0 .tree) (c .before .scan .inv .0)
-    (omega arith)
+below c = parent-below (c .before .before .before .before .before .before .pre .0 .tabled) _ _ (omega arith) refl (c .before .scan .inv .0)
 
 add-end : tie.Need-add-end Inv-loop2 μ-loop2 Inv-loop μ-loop Inv-scan μ-scan
 add-end c = search needs
@@ -118,7 +115,7 @@ loop-again c =
         omega (arith, w .0 .taken),
         (
           w .5 ∙ w .3 .inv .1 .0,
-          rules-row _ _ _ _ _ _ (p .0 .tree) (p .0 .most) (p .1 .sons) (p .1 .counts) _ _ (g .scan .inv .0) (omega arith)
+          rules-row _ _ _ _ _ _ (p .0) (p .1 .sons) (p .1 .counts) _ _ (g .scan .inv .0) (omega arith)
               (l .loop .inv .1 .1 .1) (w .0 .taken) _ (w .4 .left) (rw (q .parent-of .ensures) at (w .3 .inv .1 .1)),
         ),
       ),
@@ -130,7 +127,7 @@ loop-again c =
         omega (arith, w .0 .taken),
         (
           w .3 ∙ l .loop .inv .1 .1 .0,
-          rules-not _ _ _ _ _ _ (p .0 .tree) (p .0 .most) (p .1 .sons) (p .1 .counts) _ _ (g .scan .inv .0) (omega arith)
+          rules-not _ _ _ _ _ _ (p .0) (p .1 .sons) (p .1 .counts) _ _ (g .scan .inv .0) (omega arith)
               (l .loop .inv .1 .1 .1) (w .0 .taken) (sym (w .1 .ensures) ∙ w .2 .left),
         ),
       ),
@@ -141,7 +138,7 @@ loop-again c =
         omega arith,
         (
           w .3 ∙ l .loop .inv .1 .1 .0,
-          rules-count _ _ _ _ _ _ (p .0 .tree) (p .0 .most) (p .1 .sons) (p .1 .counts) _ _ (g .scan .inv .0) (omega arith)
+          rules-count _ _ _ _ _ _ (p .0) (p .1 .sons) (p .1 .counts) _ _ (g .scan .inv .0) (omega arith)
               (l .loop .inv .1 .1 .1) (w .0 .left) (sym (w .1 .ensures) ∙ w .2 .left),
         ),
       ),
@@ -172,7 +169,7 @@ returns c =
     let l = c .before in
     let p = l .before .before .before .before .before .pre in
     rw (l .scan .inv .1 .1 .0)
-    (scan-fits _ _ _ _ _ _ (p .0 .tree) (p .0 .most) (p .1 .sons) (p .1 .counts) _ (omega arith) (l .scan .inv .1 .1 .1))
+    (scan-fits _ _ _ _ _ _ (p .0) (p .1 .sons) (p .1 .counts) _ (omega arith) (l .scan .inv .1 .1 .1))
 
 returns-2 : tie.Need-returns-2 Inv-loop2 μ-loop2 Inv-loop μ-loop Inv-scan μ-scan
 returns-2 c =
@@ -182,7 +179,7 @@ returns-2 c =
     let q = l .before in
     let g = q .before .before in
     let p = g .before .before .before .before .before .pre in
-    scan-row _ _ _ _ _ _ (p .0 .tree) (p .0 .most) (p .1 .sons) (p .1 .counts) _ _ (g .scan .inv .0) (omega arith)
+    scan-row _ _ _ _ _ _ (p .0) (p .1 .sons) (p .1 .counts) _ _ (g .scan .inv .0) (omega arith)
     (l .loop .inv .1 .1 .1) (g .scan .inv .1 .1 .1) (l .loop .inv .0) _ refl (m .before .if1 .taken) _ (r .loop2-test .taken)
     (sym (m .may-break .ensures) ∙ r .before .before .if2 .taken)
     (rw (← q .parent-of .ensures) (sym (c .before .row-breaks .ensures) ∙ c .if3 .taken))
@@ -192,7 +189,7 @@ returns-3 c =
     let l = c .before .before .before .before in
     let g = l .before .before .before in
     let p = g .before .before .before .before .before .pre in
-    scan-count _ _ _ _ _ _ (p .0 .tree) (p .0 .most) (p .1 .sons) (p .1 .counts) _ _ (g .scan .inv .0) (omega arith)
+    scan-count _ _ _ _ _ _ (p .0) (p .1 .sons) (p .1 .counts) _ _ (g .scan .inv .0) (omega arith)
     (l .loop .inv .1 .1 .1) (g .scan .inv .1 .1 .1) (l .loop .inv .0) _ refl (c .before .before .if1 .left) (omega arith)
     (sym (c .before .count-breaks .ensures) ∙ c .if4 .taken)
 
