@@ -1,4 +1,5 @@
-"""What the sources say, for `believed` and `header`: the files to be believed, and the functions that are exported to C."""
+"""What the sources say, for `believed` and `header`: the files to be believed, the enums that these speak of, and the functions
+that are exported to C."""
 import glob
 import os
 import re
@@ -31,6 +32,20 @@ def believed(files):
         out += ['%s/%s.antt' % (folder, name) for name in re.findall(r'`([A-Z]\w*)`', rest)]
     if not out or not set(out) <= set(files):
         raise SystemExit('README.md lists specs that are not there: %s' % sorted(set(out) - set(files)))
+    return out
+
+
+def declared(files):
+    """The enums of the sources that the listed specs import: their declarations, by path and name."""
+    out = {}
+    for path in believed(files):
+        for crate, module, name in re.findall(
+                r'^use Rattle·(\w+)(?:·\w+)?\.specs\.declared\.([\w.]+)\.([A-Z]\w*)', files[path], re.M):
+            source = 'crates/%s/src/%s.rt' % (crate, module.replace('.', '/'))
+            found = re.search(r'^pub enum %s \{.*?^\}' % name, files.get(source, ''), re.M | re.S)
+            if not found:
+                raise SystemExit('%s: no enum %s in %s' % (path, name, source))
+            out[source, name] = found[0]
     return out
 
 
