@@ -11,7 +11,8 @@ use Rattle.reading.specs.SheetIn.{sizeLimit, Tabled}
 use Rattle.sizes.specs.Balanced.{isSon, Choice}
 use Rattle.sizes.specs.Span.{Span, none, In, meet}
 use Rattle.sizes.specs.Fold.{kindOf, later, own, Measured}
-use Rattle.meaning.proofs.SumLaws.{split, son-of}
+use Rattle.laws.specs.Cases.{split}
+use Rattle.meaning.proofs.SonLaws.{son-of}
 use Rattle.sizes.specs.LaterLaws.{later-none, later-son, later-skip}
 use Rattle.sizes.specs.Exact.{sound}
 use Rattle.sizes.specs.Bounds.{weight, weight-least}

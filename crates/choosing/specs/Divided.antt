@@ -7,14 +7,16 @@ use native.Mathlib.Omega.{arith}
 use native.Mathlib.Nat.{le-refl}
 use lib.ListN.{length, getD, set, length-set}
 use lib.Dec.{eqb}
-use Rattle.meaning.specs.Sum.{bit}
+use Rattle.laws.specs.Sum.{bit}
 use Rattle.meaning.specs.Sheet.{Sheet, Group, Son, Tree}
 use Rattle.reading.specs.Tables.{groupIn}
 use Rattle.reading.specs.SheetIn.{sheetIn, Tabled}
 use Rattle.sizes.specs.Balanced.{Choice}
 use Rattle.sizes.specs.Span.{Span, In, Kind}
 use Rattle.sizes.specs.Fold.{kindOf, later, Measured}
-use Rattle.meaning.proofs.SumLaws.{compare-eq, son-parent, bit-most}
+use Rattle.laws.specs.Cases.{compare-eq}
+use Rattle.laws.specs.SumLaws.{bit-most}
+use Rattle.meaning.proofs.SonLaws.{son-parent}
 use Rattle.runs.specs.Told.{numberIn, number-same, number-other}
 use Rattle.measuring.specs.Held.{Alike, modeKind}
 use Rattle.measuring.specs.Tables.{kind-in}

@@ -5,12 +5,13 @@ use mathlib.Core.Path.{_≡_, refl, sym, ap, _∙_, subst}
 use mathlib.Core.Bool.{Bool, false}
 use native.Mathlib.Omega.{arith}
 use native.Mathlib.Nat.{le-refl}
-use Rattle.meaning.specs.Sum.{bit}
+use Rattle.laws.specs.Sum.{bit}
 use Rattle.meaning.specs.Sheet.{Sheet, Group, Son, Tree}
 use Rattle.sizes.specs.Balanced.{isSon, Choice}
 use Rattle.sizes.specs.Span.{Span, In, Kind, Makes, join}
 use Rattle.sizes.specs.Fold.{kindOf, later, Measured}
-use Rattle.meaning.proofs.SumLaws.{compare-eq, son-is, son-parent, no-son-before, one-parent}
+use Rattle.laws.specs.Cases.{compare-eq}
+use Rattle.meaning.proofs.SonLaws.{son-is, son-parent, no-son-before, one-parent}
 use Rattle.sizes.specs.JoinedLaws.{start-in}
 use Rattle.sizes.specs.RuleSteps.{Upto, upto-none, upto-son, upto-skip, rule-upto}
 use Rattle.sizes.specs.LaterLaws.{later-none, later-skip}

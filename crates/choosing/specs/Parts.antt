@@ -4,10 +4,11 @@ use mathlib.Core.Path.{_≡_, refl, sym, ap, _∙_}
 use mathlib.Core.Bool.{Bool, true, false, cond, false≢true}
 use mathlib.Core.Logic.{_↔_}
 use native.Mathlib.Omega.{arith}
-use Rattle.meaning.specs.Sum.{bit}
+use Rattle.laws.specs.Sum.{bit}
 use Rattle.meaning.specs.Sheet.{Top, fin, inf, AtMost}
 use Rattle.sizes.specs.Span.{Span, In, plus, Kind, lap, add, eq, Makes, join}
-use Rattle.meaning.proofs.SumLaws.{compare-le, compare-eq, bit-eq}
+use Rattle.laws.specs.Cases.{compare-le, compare-eq}
+use Rattle.laws.specs.SumLaws.{bit-eq}
 use Rattle.sizes.specs.SpanLaws.{Proper, restOf, sonOf, join-in, in-meet, meet-join}
 use Rattle.sizes.specs.JoinedLaws.{makes-first, makes-second, makes-zero}
 use Rattle.measuring.specs.Held.{endless, topOf, spanOf}

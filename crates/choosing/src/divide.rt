@@ -10,7 +10,7 @@ use runs::place::parent_group;
 ghost use mathlib.Core.Path.{_≡_};
 ghost use Prim.Native.Nat.{_-_, _≤_};
 ghost use lib.ListN.{length, set};
-ghost use Rattle.meaning.specs.Sum.{bit};
+ghost use Rattle.laws.specs.Sum.{bit};
 ghost use Rattle.sizes.specs.Span.{In};
 ghost use Rattle.reading.specs.SheetIn.{sheetIn, Tabled};
 ghost use Rattle.runs.specs.Told.{numberIn};

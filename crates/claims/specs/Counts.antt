@@ -10,7 +10,7 @@ use borrow.Author.Tests.{eq-eqb, ne-eqb}
 use lib.ListN.{length, getD, set, length-set}
 use lib.Seq.{getD-set-same, getD-set-other}
 use Rattle.wire.specs.Limits.{noEnd}
-use Rattle.meaning.specs.Sum.{sum, bit}
+use Rattle.laws.specs.Sum.{sum, bit}
 use Rattle.meaning.specs.Sheet.{Sheet, Group, Son, Tree, Top, fin}
 use Rattle.meaning.specs.Claim.{counted}
 use Rattle.meaning.specs.OfRecords.{endOf, disjointMode, coverMode, sameMode}
@@ -19,7 +19,9 @@ use Rattle.meaning.specs.Shown.{above}
 use Rattle.sizes.specs.Balanced.{isSon, sons, Balanced, Choice}
 use Rattle.meaning.specs.Sheet.{Rooted}
 use Rattle.sizes.specs.Span.{smaller}
-use Rattle.meaning.proofs.SumLaws.{split, compare-eq, sum-eq, son-of, son-is}
+use Rattle.laws.specs.Cases.{split, compare-eq}
+use Rattle.laws.specs.SumLaws.{sum-eq}
+use Rattle.meaning.proofs.SonLaws.{son-of, son-is}
 use Rattle.sizes.specs.Runs.{above-runs}
 use Rattle.sizes.specs.Possible.{Sizes, nowhere, sizes-choice, possible}
 use Rattle.sizes.specs.ClaimsPlace.{isIn, placeIn, place}

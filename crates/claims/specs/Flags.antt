@@ -10,7 +10,7 @@ use lib.ListN.{length, getD, set, take, length-set, replicate, getD-replicate}
 use lib.Seq.{take-suc}
 use lib.Dec.{eqb}
 use Rattle.wire.specs.Limits.{groupCapacity}
-use Rattle.meaning.proofs.SumLaws.{compare-eq}
+use Rattle.laws.specs.Cases.{compare-eq}
 use Rattle.sizes.specs.ClaimsPlace.{isIn, placeIn}
 use Rattle.runs.specs.Told.{numberIn}
 use Rattle.measuring.specs.Held.{mayFlag}

@@ -8,14 +8,16 @@ use native.Mathlib.Nat.{le-refl}
 use borrow.Author.Tests.{lt-ltb}
 use lib.ListN.{getD, take}
 use lib.Dec.{ltb}
-use Rattle.meaning.specs.Sum.{bit}
+use Rattle.laws.specs.Sum.{bit}
 use Rattle.meaning.specs.Sheet.{Sheet, Group, Son, Tree}
 use Rattle.meaning.specs.Sets.{Sets}
 use Rattle.meaning.specs.Fits.{Fits, groupsOf}
 use Rattle.sizes.specs.Balanced.{Choice}
 use Rattle.meaning.specs.Sheet.{Rooted}
 use Rattle.sizes.specs.Possible.{nowhere, sizes-choice, choice-sizes}
-use Rattle.meaning.proofs.SumLaws.{compare-eq, son-parent, bit-le-true}
+use Rattle.laws.specs.Cases.{compare-eq}
+use Rattle.laws.specs.SumLaws.{bit-le-true}
+use Rattle.meaning.proofs.SonLaws.{son-parent}
 use Rattle.sizes.specs.ClaimsPlace.{isIn, placeIn, Placed, flags-placed, place}
 use Rattle.measuring.specs.Tables.{mayIn}
 use Rattle.choosing.specs.Divided.{markedIn}

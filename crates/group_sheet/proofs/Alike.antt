@@ -7,7 +7,7 @@ use lib.ListN.{length, getD, drop}
 use lib.Seq.{getD-drop, ext-getD}
 use Rattle.wire.specs.Bytes.{u16At, u32At}
 use Rattle.wire.specs.Encoding.{Bytes}
-use Rattle.meaning.proofs.SumLaws.{compare-le}
+use Rattle.laws.specs.Cases.{compare-le}
 
 -- the n bytes from place i on are the same in b and c
 pub record Alike (b c : List ℕ) (i n : ℕ) : Type 0 where

@@ -9,7 +9,7 @@ use lib.ListN.{length}
 use Rattle.wire.specs.Record.{Reading, read, refused}
 use Rattle.meaning.specs.Sheet.{Sheet}
 use Rattle.meaning.specs.Fits.{Possible}
-use Rattle.meaning.proofs.SumLaws.{compare-le}
+use Rattle.laws.specs.Cases.{compare-le}
 use Rattle.group_sheet.proofs.Alike.{Alike, alike-all}
 use Rattle.group_sheet.specs.Reply.{call, Refused, Replied, OnceRead, OncePossible, OnceRoom}
 use Rattle.group_sheet.specs.ClaimReply.{OnceNumbered}

@@ -18,7 +18,7 @@ use Rattle.meaning.specs.Sets.{count}
 use Rattle.meaning.specs.Fits.{Possible}
 use Rattle.meaning.specs.Claim.{Claim, Breakable}
 use Rattle.meaning.specs.OfRecords.{sheetOf, claimAt, listedSets}
-use Rattle.meaning.proofs.SumLaws.{split}
+use Rattle.laws.specs.Cases.{split}
 use Rattle.sizes.specs.ArrangedOnce.{ends-once}
 use Rattle.sizes.specs.Readable.{readable-possible-or-not, readable-breakable-or-not, readable-arrangement-once}
 use Rattle.registers.specs.Settled.{answered-once}

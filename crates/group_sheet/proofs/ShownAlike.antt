@@ -5,13 +5,14 @@ use mathlib.Core.Path.{_≡_, refl, sym, ap, _∙_, subst}
 use mathlib.Core.Bool.{Bool, true, false, cond, _||_}
 use mathlib.Core.List.{List, [], _∷_, List·Memᴰ, List·Memᴰ·head, List·Memᴰ·tail}
 use native.Mathlib.Omega.{arith}
-use Rattle.meaning.specs.Sum.{sum, bit}
+use Rattle.laws.specs.Sum.{bit}
 use Rattle.meaning.specs.Sheet.{Sheet, Group, Son, Tree}
 use Rattle.meaning.specs.Sets.{Sets, count, numbered}
 use Rattle.meaning.specs.Fits.{Meets, Fits}
 use Rattle.meaning.specs.Claim.{Claim, counted, within, separate, named, union, countNamed, Says, Breaks}
 use Rattle.meaning.specs.Shown.{shown, inRun, above}
-use Rattle.meaning.proofs.SumLaws.{sum-eq, son-parent}
+use Rattle.laws.specs.SumLaws.{sum-eq}
+use Rattle.meaning.proofs.SonLaws.{son-parent}
 use Rattle.claims.specs.Groups.{AllUpTo}
 use Rattle.claims.specs.Named.{SpeaksUpTo}
 

@@ -1,2 +1,2 @@
-pub mod SumLaws
+pub mod SonLaws
 pub mod Worked

@@ -8,9 +8,10 @@ use native.Mathlib.Omega.{arith}
 use borrow.Author.Tests.{ltb-true, ltb-false, leb-true, le-leb}
 use lib.Dec.{leb, ltb, eqb}
 use Rattle.wire.specs.SheetFormat.{GroupRecord, NameRecord, count, inside, apart}
-use Rattle.meaning.specs.Sum.{sum, bit}
+use Rattle.laws.specs.Sum.{sum, bit}
 use native.Mathlib.Nat.{le-of-eq}
-use Rattle.meaning.proofs.SumLaws.{split, not-true-false, true-not-false, bit-le, bit-le-true, bit-most, true-bit, or-true, or-left, sum-le, sum-eq, sum-add, sum-zero, sum-tight}
+use Rattle.laws.specs.Cases.{split, not-true-false, true-not-false, or-true, or-left}
+use Rattle.laws.specs.SumLaws.{bit-le, bit-le-true, bit-most, true-bit, sum-le, sum-eq, sum-add, sum-zero, sum-tight}
 use Rattle.meaning.specs.Sheet.{Sheet, Group, Son, Top, fin, inf, AtMost}
 use Rattle.meaning.specs.Sets.{Sets, numbered}
 use Rattle.meaning.specs.Sets as sets

@@ -4,7 +4,7 @@ use Prim.Native.Nat.{ℕ, zero, suc, _+_, _-_, min}
 use mathlib.Core.Path.{_≡_}
 use mathlib.Core.Bool.{cond, _&&_}
 use lib.Dec.{ltb}
-use Rattle.meaning.specs.Sum.{sum}
+use Rattle.laws.specs.Sum.{sum}
 use Rattle.meaning.specs.Sheet.{Sheet, Son, Top, fin, inf}
 use Rattle.meaning.specs.Sons.{isSon, only, sons, sonCount}
 use Rattle.meaning.specs.Part.{BottomUp}

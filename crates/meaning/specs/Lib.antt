@@ -1,4 +1,3 @@
-pub mod Sum
 pub mod Sheet
 pub mod Sons
 pub mod Sets

@@ -3,7 +3,7 @@
 use Prim.Native.Nat.{ℕ, _<_}
 use mathlib.Core.Path.{_≡_}
 use mathlib.Core.Bool.{Bool}
-use Rattle.meaning.specs.Sum.{sum, bit}
+use Rattle.laws.specs.Sum.{sum, bit}
 
 -- the members are `who 0` to `who (bound - 1)`; `has g x` says whether x is in the set of group g
 pub record Sets (X : Type 0) : Type 0 where

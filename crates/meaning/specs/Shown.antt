@@ -3,7 +3,7 @@
 use Prim.Native.Nat.{ℕ, suc, _+_}
 use mathlib.Core.Bool.{Bool, cond, _&&_}
 use lib.Dec.{leb, ltb, eqb}
-use Rattle.meaning.specs.Sum.{sum}
+use Rattle.laws.specs.Sum.{sum}
 use Rattle.meaning.specs.Sets.{Sets, numbered}
 
 -- m is in the run that starts at `first` and has `count` members

@@ -17,7 +17,8 @@ use Rattle.sizes.specs.Span.{Span, Kind, meet}
 use Rattle.sizes.specs.Fold.{kindOf, shut, start, joined, later, own, Measured}
 use Rattle.sizes.specs.Bounds.{topWeight, Small, span-small, later-small}
 use Rattle.sizes.specs.MeasuredLaws.{spans-measured}
-use Rattle.meaning.proofs.SumLaws.{compare-eq, compare-le, true-not-false, son-is}
+use Rattle.laws.specs.Cases.{compare-eq, compare-le, true-not-false}
+use Rattle.meaning.proofs.SonLaws.{son-is}
 use Rattle.measuring.specs.Held.{Alike, Room, RoomBoth, shutBy}
 use Rattle.measuring.specs.Tables.{mayIn, spansIn}
 use Rattle.measuring.specs.Links.{linkIn, sonBelow, Links}

@@ -12,7 +12,7 @@ use Rattle.reading.specs.SheetIn.{sizeLimit}
 use Rattle.sizes.specs.Span.{Span, none, span, plus, less, smaller, larger, make, meet, hull, Kind, lap, add, eq, join}
 use Rattle.sizes.specs.Fold.{ownTo}
 use Rattle.sizes.specs.Bounds.{weight-least, weight-most}
-use Rattle.meaning.proofs.SumLaws.{compare-le, compare-eq}
+use Rattle.laws.specs.Cases.{compare-le, compare-eq}
 use Rattle.measuring.specs.Held.{endless, topOf, spanOf, EndRoom, Room, Alike}
 
 pub span-eq : {l m u v : ℕ} → l ≡ m → u ≡ v → spanOf l u ≡ spanOf m v

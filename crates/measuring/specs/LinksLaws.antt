@@ -8,24 +8,15 @@ use native.Mathlib.Nat.{le-refl}
 use native.Mathlib.Numerals.{add-one}
 use lib.ListN.{length, getD, set, length-set}
 use lib.Seq.{getD-set-same, getD-set-other}
-use Rattle.meaning.specs.Sum.{sum, bit}
+use Rattle.laws.specs.Sum.{sum, bit}
 use Rattle.meaning.specs.Sheet.{Sheet, Group, Son, Tree}
 use Rattle.meaning.specs.Sons.{isSon, sonCount}
 use Rattle.reading.specs.Tables.{groupIn}
 use Rattle.reading.specs.SheetIn.{sheetIn, size-in, group-in, parent-in}
 use Rattle.sizes.specs.Span.{Span}
 use Rattle.sizes.specs.Fold.{kindOf, shut, start, joined, later}
-use Rattle.meaning.proofs.SumLaws.{
-  split,
-  compare-eq,
-  compare-le,
-  below-suc,
-  true-not-false,
-  not-true-false,
-  son-of,
-  son-is,
-  no-son-before,
-}
+use Rattle.laws.specs.Cases.{split, compare-eq, compare-le, below-suc, true-not-false, not-true-false}
+use Rattle.meaning.proofs.SonLaws.{son-of, son-is, no-son-before}
 use Rattle.sizes.specs.RuleSteps.{no-son}
 use Rattle.sizes.specs.LaterLaws.{later-none, later-son, later-skip}
 use Rattle.measuring.specs.Links.{linkIn, sonBelow, Linked, Links}

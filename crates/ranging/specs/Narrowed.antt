@@ -15,7 +15,8 @@ use Rattle.sizes.specs.Fold.{kindOf, later, Measured}
 use Rattle.sizes.specs.Ranged.{free, held, Ranged}
 use Rattle.sizes.specs.RangedExists.{held-eq}
 use Rattle.sizes.specs.RangeExact.{held-son, held-skip, possible-sets}
-use Rattle.meaning.proofs.SumLaws.{compare-le, compare-eq, son-is, son-parent, no-son-before, one-parent}
+use Rattle.laws.specs.Cases.{compare-le, compare-eq}
+use Rattle.meaning.proofs.SonLaws.{son-is, son-parent, no-son-before, one-parent}
 use Rattle.measuring.specs.Held.{spanOf, modeKind}
 use Rattle.measuring.specs.HeldLaws.{none-of, some-of}
 use Rattle.measuring.specs.Pairs.{pairIn}

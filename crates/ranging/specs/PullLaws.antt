@@ -6,7 +6,7 @@ use native.Mathlib.Omega.{arith}
 use borrow.Author.Tests.{le-leb, lt-leb}
 use Rattle.meaning.specs.Sheet.{Top, fin, inf}
 use Rattle.sizes.specs.Span.{Span, none, span, make, meet, Kind, lap, add, eq, less, shorter, reaches, pull}
-use Rattle.meaning.proofs.SumLaws.{compare-eq}
+use Rattle.laws.specs.Cases.{compare-eq}
 use Rattle.measuring.specs.Held.{endless, topOf, spanOf}
 use Rattle.measuring.specs.HeldLaws.{some-of, top-end, top-fin, less-top, make-of}
 

@@ -8,7 +8,7 @@ use native.Mathlib.Omega.{arith}
 use native.Mathlib.Nat.{le-refl}
 use lib.ListN.{length, getD, set, length-set}
 use Rattle.wire.specs.Limits.{noEnd}
-use Rattle.meaning.specs.Sum.{sum}
+use Rattle.laws.specs.Sum.{sum}
 use Rattle.meaning.specs.Sheet.{Sheet, Group, Son, Tree, Top, fin}
 use Rattle.meaning.specs.Fits.{Possible}
 use Rattle.meaning.specs.OfRecords.{disjointMode, coverMode, sameMode}
@@ -19,18 +19,9 @@ use Rattle.sizes.specs.Balanced.{isSon, only, sons}
 use Rattle.sizes.specs.Span.{Span, span, plus, add, join}
 use Rattle.sizes.specs.Fold.{kindOf, shut, start, joined, later, Measured}
 use Rattle.sizes.specs.Ranged.{free}
-use Rattle.meaning.proofs.SumLaws.{
-  split,
-  compare-le,
-  compare-eq,
-  sum-zero,
-  sum-suc,
-  son-of,
-  son-is,
-  son-parent,
-  no-son-before,
-  one-parent,
-}
+use Rattle.laws.specs.Cases.{split, compare-le, compare-eq}
+use Rattle.laws.specs.SumLaws.{sum-zero, sum-suc}
+use Rattle.meaning.proofs.SonLaws.{son-of, son-is, son-parent, no-son-before, one-parent}
 use Rattle.sizes.specs.RuleSteps.{kind-disjoint, shut-cover}
 use Rattle.sizes.specs.LaterLaws.{later-none, later-son, later-skip}
 use Rattle.sizes.specs.Possible.{Sizes, possible}

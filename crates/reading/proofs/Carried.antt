@@ -13,7 +13,7 @@ use Rattle.wire.specs.Record.{kindOf, Test, refusal, Reading, read, refused, on
 use Rattle.wire.specs.SheetFormat.{GroupRecord, NameRecord, headOf, groupOf, nameOf, claimOf, claimTests, leftOf, rightOf}
 use Rattle.wire.specs.Encoding.{encodeRecord, le16s, encodeClaim}
 use Rattle.wire.specs.Fields.{length-le16s}
-use Rattle.wire.specs.Passing.{split}
+use Rattle.laws.specs.Cases.{split}
 use Rattle.wire.specs.Sorts.{length-u16s, claim-numbered, claim-cases, claim-count, claim-inside, claim-apart}
 use Rattle.reading.specs.Tables.{length-tabulate, getD-tabulate}
 use Rattle.reading.specs.Meant.{meantNumber}

@@ -10,7 +10,7 @@ use lib.ListN.{length, drop, length-drop}
 use lib.Dec.{leb, eqb}
 use Rattle.wire.specs.Fields.{u16-drop, u16s-drop}
 use Rattle.wire.specs.Passing.{Pass, Numbered, pass-of-refusal}
-pub use Rattle.wire.specs.Passing.{split, and-true}
+use Rattle.laws.specs.Cases.{split, and-true}
 use Rattle.wire.specs.Sorts.{Framed, framed-true, framed-of, group-numbered, group-frame, name-numbered, name-frame}
 use Rattle.wire.specs.Sorts.{claim-numbered, claim-frame}
 use Rattle.wire.specs.Edition.{Edition, labelLimit}

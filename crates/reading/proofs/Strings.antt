@@ -16,7 +16,8 @@ use Rattle.wire.specs.Wide.{bytesAt}
 use Rattle.wire.specs.Encoding.{Bytes}
 use Rattle.wire.specs.SheetFormat.{NameRecord, nameOf, labelByte, labelBytes, sameLabel, used, allWithin, u16s}
 use Rattle.reading.specs.Loaded.{recordsIn}
-use Rattle.reading.proofs.Fields.{split, and-true, length-at}
+use Rattle.laws.specs.Cases.{split, and-true}
+use Rattle.reading.proofs.Fields.{length-at}
 
 -- one more byte of a run
 run-more : (s : List ℕ) (i k : ℕ) → i < length s → take (suc k) (drop i s) ≡ getD s i 0 ∷ take k (drop (i + 1) s)

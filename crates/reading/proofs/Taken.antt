@@ -11,7 +11,8 @@ use lib.Dec.{leb}
 use Rattle.wire.specs.Bytes.{u16At}
 use Rattle.wire.specs.Record.{kindOf, refusal}
 use Rattle.wire.specs.SheetFormat.{u16s, allWithin, leftOf, rightOf, claimTests}
-use Rattle.wire.specs.Passing.{and-true, Pass}
+use Rattle.laws.specs.Cases.{and-true}
+use Rattle.wire.specs.Passing.{Pass}
 use Rattle.wire.specs.Facts.{within-at}
 use Rattle.wire.specs.Sorts.{SidesFrame, claim-numbered, claim-frame, claim-cases, claim-count, claim-inside, claim-apart}
 use Rattle.reading.specs.ClaimHeld.{ListsHeld}

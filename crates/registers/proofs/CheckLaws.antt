@@ -15,7 +15,7 @@ use Rattle.meaning.specs.Sheet.{Sheet, Tree}
 use Rattle.meaning.specs.Sets.{Distinct}
 use Rattle.meaning.specs.OfRecords.{listedSets}
 use Rattle.meaning.specs.ReadableRows.{distinct-of-readable, listed-at}
-use Rattle.meaning.proofs.SumLaws.{compare-le}
+use Rattle.laws.specs.Cases.{compare-le}
 use Rattle.registers.specs.Words.{wordSets, words-distinct}
 use Rattle.registers.specs.RowsRead.{rowsBefore, Kept, ReadInto}
 use Rattle.registers.specs.Tallies.{CountsTo}

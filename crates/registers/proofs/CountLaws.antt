@@ -9,12 +9,12 @@ use lib.ListN.{length, getD, set, length-set}
 use lib.Seq.{getD-set-same, getD-set-other}
 use lib.Bits.{bitAnd, and-le-l}
 use lib.Count.{ones}
-use Rattle.registers.specs.Words.{rowGroups}
-use Rattle.meaning.specs.Sum.{sum}
+use Rattle.registers.specs.Words.{rowGroups, LowestGroup, pairDigit, digitIn, wordSets}
+use Rattle.laws.specs.Sum.{sum}
 use Rattle.meaning.specs.Sets.{count}
-use Rattle.meaning.proofs.SumLaws.{compare-le, compare-eq, sum-eq, sum-suc, sum-zero, sum-term}
-use Rattle.registers.specs.Digits.{LowestGroup, ones-of-zero}
-use Rattle.registers.specs.Words.{pairDigit, digitIn, wordSets}
+use Rattle.laws.specs.Cases.{compare-le, compare-eq}
+use Rattle.laws.specs.SumLaws.{sum-eq, sum-suc, sum-zero, sum-term}
+use Rattle.laws.specs.Digits.{ones-of-zero}
 use Rattle.registers.specs.Tallies.{groupPlaces, Counted, CountedRow, CountsTo}
 use Rattle.registers.proofs.WordLaws.{pair-low, pair-high, pair-le, pair-ones, digit-in-pair, digit-in-le, holds-digit}
 

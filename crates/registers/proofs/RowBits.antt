@@ -14,9 +14,9 @@ use Rattle.registers.specs.Words.{rowGroups}
 use Rattle.wire.specs.Wide.{u64At, bytesAt, u64-bytes}
 use Rattle.wire.specs.RegisterFormat.{Row, inGroup, clearAbove}
 use Rattle.wire.specs.Encoding.{Bytes}
-use Rattle.meaning.proofs.SumLaws.{split, compare-le, below-suc}
+use Rattle.laws.specs.Cases.{split, compare-le, below-suc}
 use Rattle.registers.specs.declared.rows.RowWords.{RowWords}
-use Rattle.registers.specs.Digits.{digit, digit-low, digit-shift, digit-none, digit-some, digit-of-zero}
+use Rattle.laws.specs.Digits.{digit, digit-low, digit-shift, digit-none, digit-some, digit-of-zero}
 use Rattle.registers.specs.Words.{pairDigit}
 use Rattle.registers.specs.RowsRead.{bytesOf, rowOfWords, Above}
 use Rattle.registers.proofs.WordLaws.{pair-low, pair-high}

@@ -20,7 +20,7 @@ use Rattle.wire.specs.Encoding.{Bytes}
 use Rattle.wire.specs.Facts.{bytes-drop}
 use Rattle.wire.specs.RowFacts.{last-member-behind}
 use Rattle.meaning.specs.OfRecords.{noRow}
-use Rattle.meaning.proofs.SumLaws.{split, below-suc}
+use Rattle.laws.specs.Cases.{split, below-suc}
 use Rattle.registers.specs.declared.rows.RowWords.{RowWords}
 use Rattle.registers.specs.declared.rows.RowAnswer.the-variants as answer
 use Rattle.registers.specs.RowsRead.{rowOfWords, Front, ended, held, turned, rowGives, frontOf, fromRow, rowsBefore, Above, Kept}

@@ -8,14 +8,14 @@ use borrow.Author.Tests.{lt-ltb, le-ltb, eq-eqb, eqb-true, ltb-true, ltb-false, 
 use lib.Dec.{ltb, eqb}
 use Rattle.wire.specs.Limits.{noEnd}
 use Rattle.registers.specs.Words.{rowGroups}
-use Rattle.meaning.specs.Sum.{sum}
+use Rattle.laws.specs.Sum.{sum}
 use Rattle.meaning.specs.Sheet.{Sheet, AtMost, Group, Son}
 use Rattle.meaning.specs.Sets.{Sets, count}
 use Rattle.meaning.specs.Rule.{Rule, outside, lacking, uncovered, shared, below, above, ruleNumber, Broken}
 use Rattle.meaning.specs.OfRecords.{endOf, sameMode}
 use Rattle.reading.specs.SheetIn.{sheetIn, Tabled, group-in, parent-in, lo-in, hi-in, disjoint-in, cover-in, same-in, parent-below}
-use Rattle.meaning.proofs.SumLaws.{and-true, split, compare-le, true-not-false, sum-some, sum-two, sum-term}
-use Rattle.registers.specs.Cases.{sum-pair}
+use Rattle.laws.specs.Cases.{and-true, split, compare-le, true-not-false}
+use Rattle.laws.specs.SumLaws.{sum-some, sum-two, sum-term, sum-pair}
 use Rattle.registers.specs.Words.{digitIn, holds, inBoth, wordSets}
 use Rattle.registers.specs.Tallies.{SonsListed}
 use Rattle.registers.specs.RuleTests.{parentIn, loIn, hiIn, modeIn, mayBreak, rowBreaks, countBreaks}

@@ -11,7 +11,7 @@ use Rattle.meaning.specs.Sheet.{Sheet, Group}
 use Rattle.meaning.specs.Sets.{Sets}
 use Rattle.meaning.specs.Rule.{Rule, ruleNumber, Broken}
 use Rattle.reading.specs.SheetIn.{sheetIn, size-in, group-in, parent-in}
-use Rattle.meaning.proofs.SumLaws.{below-suc, true-not-false}
+use Rattle.laws.specs.Cases.{below-suc, true-not-false}
 use Rattle.registers.specs.Unbroken.{unbroken-fits, fits-answered, broken-answered}
 use Rattle.registers.specs.Words.{wordSets, words-distinct}
 use Rattle.registers.specs.Tallies.{Checkable, SonsListed, Counted}

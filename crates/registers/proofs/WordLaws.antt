@@ -11,10 +11,10 @@ use lib.Dec.{eqb}
 use lib.Bits.{bitAnd, bitOr}
 use lib.Count.{ones}
 use Rattle.registers.specs.Words.{rowGroups}
-use Rattle.meaning.specs.Sum.{sum, bit}
-use Rattle.meaning.proofs.SumLaws.{compare-le, compare-eq, sum-eq}
-use Rattle.registers.specs.Cases.{sum-parts}
-use Rattle.registers.specs.Digits.{digit, digit-le, digit-and, digit-or, digit-pow, ones-digits}
+use Rattle.laws.specs.Sum.{sum, bit}
+use Rattle.laws.specs.Cases.{compare-le, compare-eq}
+use Rattle.laws.specs.SumLaws.{sum-eq, sum-parts}
+use Rattle.laws.specs.Digits.{digit, digit-le, digit-and, digit-or, digit-pow, ones-digits}
 use Rattle.registers.specs.Words.{pairDigit, digitIn, holds, inBoth}
 
 pub pair-low : (l h j : ℕ) → j < 64 → pairDigit l h j ≡ digit l j

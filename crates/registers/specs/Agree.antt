@@ -1,12 +1,13 @@
 -- Sets whose members, one by one, are in the same groups break the same rules.
 use Prim.Native.Nat.{ℕ, _<_}
 use mathlib.Core.Path.{_≡_, sym, ap, _∙_}
-use Rattle.meaning.specs.Sum.{sum, bit}
+use Rattle.laws.specs.Sum.{sum, bit}
 use Rattle.meaning.specs.Sheet.{Sheet, Group, Tree}
 use Rattle.meaning.specs.Sets.{Sets, Distinct, count}
 use Rattle.meaning.specs.Fits.{Fits, groupsOf}
 use Rattle.meaning.specs.Rule.{Rule, outside, lacking, uncovered, shared, below, above, Broken, FirstBroken, Answered}
-use Rattle.meaning.proofs.SumLaws.{sum-eq, son-parent}
+use Rattle.laws.specs.SumLaws.{sum-eq}
+use Rattle.meaning.proofs.SonLaws.{son-parent}
 use Rattle.registers.specs.Unbroken.{unbroken-fits, fits-unbroken}
 
 pub record Agree {X Y : Type 0} (s : Sheet) (A : Sets X) (B : Sets Y) : Type 0 where

@@ -1,6 +1,4 @@
-pub mod Cases
 pub mod Unbroken
-pub mod Digits
 pub mod Words
 pub mod RowsRead
 pub mod Tallies

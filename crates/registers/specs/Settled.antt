@@ -10,7 +10,7 @@ use Rattle.meaning.specs.Sets.{Sets}
 use Rattle.meaning.specs.Fits.{Fits}
 use Rattle.meaning.specs.Rule.{Rule, ruleNumber, FirstBroken, Answered}
 use Rattle.meaning.specs.OfRecords.{listedSets}
-use Rattle.meaning.proofs.SumLaws.{compare-le, compare-eq}
+use Rattle.laws.specs.Cases.{compare-le, compare-eq}
 use Rattle.registers.specs.Checked.{GroupRule, checkGives, Checked}
 use Rattle.registers.specs.declared.check.Check.{Check}
 

@@ -8,8 +8,8 @@ use Rattle.meaning.specs.Sheet.{Sheet, Top, fin, inf, AtMost, Group, Son, Tree}
 use Rattle.meaning.specs.Sets.{Sets, Distinct, count}
 use Rattle.meaning.specs.Fits.{Fits, groupsOf}
 use Rattle.meaning.specs.Rule.{Rule, outside, lacking, uncovered, shared, below, above, ruleNumber, Broken, FirstBroken, Answered}
-use Rattle.meaning.proofs.SumLaws.{split, compare-le, compare-eq, true-not-false, son-parent}
-use Rattle.registers.specs.Cases.{find}
+use Rattle.laws.specs.Cases.{split, compare-le, compare-eq, true-not-false, find}
+use Rattle.meaning.proofs.SonLaws.{son-parent}
 
 -- no rule is broken at any group
 abbrev pub Unbroken : {X : Type 0} → Sheet → Sets X → Type 0

@@ -1,13 +1,15 @@
 -- Membership as words: two words of 64 digits for a row, group g being digit (g - 1) mod 64 of word (g - 1) div 64.
 -- A table holds two words for each place.
-use Prim.Native.Nat.{ℕ, _+_, _-_, _*_, _/_, _%_, min}
+use Prim.Native.Nat.{ℕ, _+_, _-_, _*_, _/_, _%_, _<_, min}
+use mathlib.Core.Path.{_≡_}
 use mathlib.Core.Bool.{Bool, cond}
 use mathlib.Core.List.{List}
 use lib.ListN.{getD}
 use lib.Dec.{ltb, eqb}
-use Rattle.meaning.specs.Sum.{sum}
+use lib.Bits.{bitAnd}
+use Rattle.laws.specs.Sum.{sum}
+use Rattle.laws.specs.Digits.{digit, Lowest}
 use Rattle.meaning.specs.Sets.{Sets, Distinct, numbered}
-use Rattle.registers.specs.Digits.{digit}
 
 -- the groups whose digits two words have
 abbrev pub rowGroups : ℕ
@@ -16,6 +18,13 @@ rowGroups = 2 * 64
 -- digit j of two words
 unfoldable pub pairDigit : ℕ → ℕ → ℕ → ℕ
 pairDigit low high j = cond (ltb j 64) (digit low j) (digit high (j - 64))
+
+-- group g is the lowest set digit of a word whose digits are the groups after `before`
+pub record LowestGroup (before word g : ℕ) : Type 0 where
+  pub place : ℕ
+  pub within : place < 64
+  pub numbered : g ≡ before + place + 1
+  pub lowest : Lowest word place (bitAnd word (word - 1))
 
 -- digit j of the two words at place i of a table
 unfoldable pub digitIn : List ℕ → ℕ → ℕ → ℕ

@@ -5,10 +5,9 @@ ghost use Prim.Native.Nat.{_+_, _-_, _*_, _≤_, _<_};
 ghost use lib.ListN.{length, getD, set};
 ghost use lib.Bits.{bitAnd};
 ghost use Rattle.wire.specs.Limits.{rowLimit};
-ghost use Rattle.registers.specs.Words.{rowGroups};
-ghost use Rattle.meaning.specs.Sum.{sum};
-ghost use Rattle.registers.specs.Digits.{Lowest, LowestGroup};
-ghost use Rattle.registers.specs.Words.{pairDigit, wordSets};
+ghost use Rattle.registers.specs.Words.{rowGroups, LowestGroup, pairDigit, wordSets};
+ghost use Rattle.laws.specs.Sum.{sum};
+ghost use Rattle.laws.specs.Digits.{Lowest};
 ghost use Rattle.registers.specs.Tallies.{groupPlaces, Counted, CountedRow, CountsTo};
 
 // the number of a row's groups

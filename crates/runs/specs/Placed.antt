@@ -16,7 +16,8 @@ use Rattle.meaning.specs.Arranged.{ended, firstOf}
 use Rattle.reading.specs.Tables.{groupIn}
 use Rattle.reading.specs.SheetIn.{sheetIn, sizeLimit, Tabled, few-groups, disjoint-in, cover-in, same-in}
 use Rattle.sizes.specs.Balanced.{Balanced}
-use Rattle.meaning.proofs.SumLaws.{split, compare-eq, son-of, son-is, son-parent, no-son-before, one-parent}
+use Rattle.laws.specs.Cases.{split, compare-eq}
+use Rattle.meaning.proofs.SonLaws.{son-of, son-is, son-parent, no-son-before, one-parent}
 use Rattle.runs.specs.Told.{Told, numberIn, runLimit}
 
 -- The start of a son with y members: the modes of its parent ('same', 'disjoint', 'cover'), the parent's start a and count

@@ -11,7 +11,7 @@ use Rattle.meaning.specs.Sheet.{Sheet, Group, Son, Tree, Rooted}
 use Rattle.meaning.specs.Arranged.{firstOf}
 use Rattle.reading.specs.SheetIn.{sheetIn, sizeLimit, Tabled}
 use Rattle.sizes.specs.Balanced.{Balanced}
-use Rattle.meaning.proofs.SumLaws.{compare-eq}
+use Rattle.laws.specs.Cases.{compare-eq}
 use Rattle.sizes.specs.Runs.{Starts}
 use Rattle.sizes.specs.RunsInWords.{told-starts}
 

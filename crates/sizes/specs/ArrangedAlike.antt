@@ -5,7 +5,8 @@ use native.Mathlib.Omega.{arith}
 use Rattle.meaning.specs.Sheet.{Sheet, Group, Son, Tree, Rooted, Top}
 use Rattle.meaning.specs.Sons.{isSon}
 use Rattle.meaning.specs.Arranged.{leftFor, sizeOf, ended, firstOf, Arranged}
-use Rattle.meaning.proofs.SumLaws.{split, son-of, son-parent, only-eq, sons-eq}
+use Rattle.laws.specs.Cases.{split}
+use Rattle.meaning.proofs.SonLaws.{son-of, son-parent, only-eq, sons-eq}
 
 module _ {s : Sheet} (t : Tree s) {first size first' size' L L' : ℕ → ℕ} {U U' : ℕ → Top}
     (a : (g : ℕ) → Group s g → first g ≡ first' g) (b : (g : ℕ) → Group s g → size g ≡ size' g)

@@ -6,7 +6,7 @@ use mathlib.Core.Bool.{Bool, true, false, _&&_}
 use native.Mathlib.Omega.{arith}
 use native.Mathlib.Nat.{le-refl, add-zero}
 use lib.Dec.{ltb}
-use Rattle.meaning.specs.Sum.{sum}
+use Rattle.laws.specs.Sum.{sum}
 use Rattle.meaning.specs.Sheet.{Sheet, Group, Son, Tree, Rooted, Top, AtMost}
 use Rattle.meaning.specs.Shown.{shown, above}
 use Rattle.meaning.specs.Fits.{Fits}
@@ -15,21 +15,9 @@ use Rattle.sizes.specs.Balanced.{isSon, only, sons, RuleAt}
 use Rattle.sizes.specs.Span.{Span, span, In, eq}
 use Rattle.sizes.specs.Fold.{kindOf, sonCount, shut, Measured}
 use Rattle.sizes.specs.Ranged.{free}
-use Rattle.meaning.proofs.SumLaws.{
-  split,
-  compare-le,
-  below-suc,
-  bit-eq,
-  and-true,
-  true-not-false,
-  sum-eq,
-  sum-suc,
-  son-of,
-  son-is,
-  son-parent,
-  sons-le,
-  sons-prefix,
-}
+use Rattle.laws.specs.Cases.{split, compare-le, below-suc, and-true, true-not-false}
+use Rattle.laws.specs.SumLaws.{bit-eq, sum-eq, sum-suc}
+use Rattle.meaning.proofs.SonLaws.{son-of, son-is, son-parent, sons-le, sons-prefix}
 use Rattle.sizes.specs.Runs.{Starts}
 use Rattle.sizes.specs.RunsInWords.{told-starts}
 use Rattle.sizes.specs.Members.{balanced-zero}

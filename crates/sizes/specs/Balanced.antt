@@ -2,7 +2,7 @@
 use Prim.Native.Nat.{ℕ, _+_, _≤_}
 use mathlib.Core.Path.{_≡_}
 use mathlib.Core.Bool.{Bool, true}
-use Rattle.meaning.specs.Sum.{bit}
+use Rattle.laws.specs.Sum.{bit}
 use Rattle.meaning.specs.Sheet.{Sheet, Group, Son, AtMost}
 unfoldable pub use Rattle.meaning.specs.Sons.{isSon, sons}
 pub use Rattle.meaning.specs.Sons.{only}

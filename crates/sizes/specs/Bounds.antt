@@ -7,24 +7,14 @@ use native.Mathlib.Omega.{arith}
 use native.Mathlib.Nat.{le-refl, mul-le-mul-left}
 use borrow.Author.Tests.{ltb-true, leb-true, lt-ltb, le-leb, eq-eqb, ne-eqb}
 use lib.Dec.{leb, ltb, eqb}
-use Rattle.meaning.specs.Sum.{sum}
+use Rattle.laws.specs.Sum.{sum}
 use Rattle.meaning.specs.Sheet.{Sheet, Group, Tree, Top, fin, inf}
 use Rattle.meaning.specs.Sons.{isSon, only, sons}
 use Rattle.sizes.specs.Span.{Span, none, span, make, meet, hull, Kind, lap, add, eq, join, pull, larger, smaller, plus, less, shorter, reaches}
 use Rattle.sizes.specs.Fold.{kindOf, shut, start, joined, later, own, ownTo, Measured}
-use Rattle.meaning.proofs.SumLaws.{
-  split,
-  compare-le,
-  compare-eq,
-  and-true,
-  not-true-false,
-  sum-le,
-  sum-add,
-  sum-zero,
-  sum-one,
-  sum-longer,
-  son-of,
-}
+use Rattle.laws.specs.Cases.{split, compare-le, compare-eq, and-true, not-true-false}
+use Rattle.laws.specs.SumLaws.{sum-le, sum-add, sum-zero, sum-one, sum-longer}
+use Rattle.meaning.proofs.SonLaws.{son-of}
 use Rattle.sizes.specs.SpanLaws.{less-most}
 use Rattle.sizes.specs.RuleSteps.{sumLast, sum-son, sum-skip, sum-last-all}
 use Rattle.sizes.specs.LaterLaws.{later-none, later-son, later-skip}

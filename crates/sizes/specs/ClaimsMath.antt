@@ -16,23 +16,14 @@ use mathlib.Core.List.{
 use mathlib.Core.Logic.{_↔_, _⊎_, inl, inr, ⊎-elim, by-cases}
 use native.Mathlib.Omega.{arith}
 use native.Mathlib.Nat.{le-refl}
-use Rattle.meaning.specs.Sum.{bit}
+use Rattle.laws.specs.Sum.{bit}
 use Rattle.meaning.specs.Sheet.{Sheet, Group, Tree, Top, fin, inf, AtMost}
 use Rattle.meaning.specs.Sets.{Sets, count}
 use Rattle.meaning.specs.Fits.{Possible, groupsOf}
 use Rattle.meaning.specs.Claim.{Claim, counted, within, separate, named, union, countNamed, Says, Breaks, Breakable}
 use Rattle.sizes.specs.Balanced.{Choice}
-use Rattle.meaning.proofs.SumLaws.{
-  split,
-  compare-le,
-  below-suc,
-  or-true,
-  or-left,
-  or-right,
-  not-true-false,
-  true-not-false,
-  sum-zero,
-}
+use Rattle.laws.specs.Cases.{split, compare-le, below-suc, or-true, or-left, or-right, not-true-false, true-not-false}
+use Rattle.laws.specs.SumLaws.{sum-zero}
 use Rattle.sizes.specs.Possible.{Sizes, fits-sizes, sizes-sets}
 use Rattle.sizes.specs.Runs.{Starts, runs-first, shown-count}
 use Rattle.meaning.specs.Shown.{shown}

@@ -11,7 +11,7 @@ use Rattle.meaning.specs.Sheet.{Sheet, Group, Tree}
 use Rattle.meaning.specs.Sets.{Sets}
 use Rattle.meaning.specs.Fits.{Fits, groupsOf}
 use Rattle.sizes.specs.Balanced.{Choice}
-use Rattle.meaning.proofs.SumLaws.{split, or-true, or-right, not-true-false, true-not-false}
+use Rattle.laws.specs.Cases.{split, or-true, or-right, not-true-false, true-not-false}
 use Rattle.sizes.specs.Possible.{placed}
 
 -- whether g is on the list

@@ -6,14 +6,14 @@ use mathlib.Core.List.{List, [], _∷_, List·Memᴰ, List·Memᴰ·head, List·
 use mathlib.Core.Logic.{_⊎_, inl, inr, ⊎-elim, by-cases, Iff·symm, Dec·and, Dec·of-iff}
 use native.Mathlib.Omega.{arith}
 use native.Mathlib.Decide.{decLe}
-use Rattle.meaning.specs.Sum.{bit}
+use Rattle.laws.specs.Sum.{bit}
 use Rattle.meaning.specs.Sheet.{Sheet, Group, Tree, Top, fin, inf}
 use Rattle.meaning.specs.Fits.{Possible}
 use Rattle.meaning.specs.Claim.{Claim, counted, within, separate, Breakable}
 use Rattle.sizes.specs.Balanced.{Choice}
 use Rattle.sizes.specs.Span.{Span, none, span, In}
 use Rattle.sizes.specs.Ranged.{free}
-use Rattle.meaning.proofs.SumLaws.{compare-le, compare-eq}
+use Rattle.laws.specs.Cases.{compare-le, compare-eq}
 use Rattle.sizes.specs.SpanLaws.{Proper}
 use Rattle.sizes.specs.Possible.{Sizes, nowhere, sizes-choice, choice-sizes, possible}
 use Rattle.sizes.specs.ClaimsPlace.{placeIn}

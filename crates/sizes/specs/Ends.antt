@@ -11,7 +11,8 @@ use Rattle.meaning.specs.Sons.{isSon}
 use Rattle.sizes.specs.Span.{Span, none, span, In, pull}
 use Rattle.sizes.specs.Fold.{kindOf, later, Measured}
 use Rattle.sizes.specs.Ranged.{free, held, Ranged}
-use Rattle.meaning.proofs.SumLaws.{split, son-of, son-parent}
+use Rattle.laws.specs.Cases.{split}
+use Rattle.meaning.proofs.SonLaws.{son-of, son-parent}
 use Rattle.sizes.specs.SpanLaws.{Proper}
 use Rattle.sizes.specs.MeasuredLaws.{spansOf, spans-measured}
 use Rattle.sizes.specs.Bounds.{weight, weight-meet, weight-pull, weight-least, weight-most, Small, span-ends, later-ends}

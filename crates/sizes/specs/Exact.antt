@@ -5,13 +5,14 @@ use mathlib.Core.Bool.{Bool, true, cond}
 use mathlib.Core.Logic.{_↔_}
 use native.Mathlib.Omega.{arith}
 use native.Mathlib.Nat.{le-refl}
-use Rattle.meaning.specs.Sum.{bit}
+use Rattle.laws.specs.Sum.{bit}
 use Rattle.meaning.specs.Sheet.{Sheet, Group, Son, Tree, AtMost}
 use Rattle.meaning.specs.Sons.{isSon}
 use Rattle.sizes.specs.Balanced.{RuleAt, Choice}
 use Rattle.sizes.specs.Span.{Span, In, eq, Makes, join}
 use Rattle.sizes.specs.Fold.{kindOf, own, later, Measured}
-use Rattle.meaning.proofs.SumLaws.{split, compare-le, below-suc, son-of, son-is}
+use Rattle.laws.specs.Cases.{split, compare-le, below-suc}
+use Rattle.meaning.proofs.SonLaws.{son-of, son-is}
 use Rattle.sizes.specs.SpanLaws.{Proper, in-meet, meet-join, near-join, near-proper}
 use Rattle.sizes.specs.JoinedLaws.{Nears, in-own, near-own}
 use Rattle.sizes.specs.RuleSteps.{Lasts, all-lasts, lasts-all, rule-upto, rule-eq, upto-eq, Upto}

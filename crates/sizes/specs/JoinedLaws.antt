@@ -8,11 +8,12 @@ use native.Mathlib.Omega.{arith}
 use native.Mathlib.Nat.{le-refl, add-zero}
 use borrow.Author.Tests.{ltb-true, ltb-false}
 use lib.Dec.{ltb}
-use Rattle.meaning.specs.Sum.{bit}
+use Rattle.laws.specs.Sum.{bit}
 use Rattle.meaning.specs.Sheet.{Sheet, Top, fin, inf, AtMost}
 use Rattle.sizes.specs.Span.{Span, In, Kind, lap, add, eq, Makes, join}
 use Rattle.sizes.specs.Fold.{start, joined, own, ownTo}
-use Rattle.meaning.proofs.SumLaws.{split, bit-eq}
+use Rattle.laws.specs.Cases.{split}
+use Rattle.laws.specs.SumLaws.{bit-eq}
 use Rattle.sizes.specs.SpanLaws.{Near, near-make, near-join, near-hull, joint, join-of, hull-of, hull-in, in-make}
 
 -- the intervals of both states are near one number: no gap between them

@@ -6,12 +6,13 @@ use native.Mathlib.Omega.{arith}
 use native.Mathlib.Nat.{le-refl}
 use borrow.Author.Tests.{eq-eqb, ne-eqb}
 use lib.Dec.{eqb}
-use Rattle.meaning.specs.Sum.{bit}
+use Rattle.laws.specs.Sum.{bit}
 use Rattle.meaning.specs.Sheet.{Sheet}
 use Rattle.meaning.specs.Sons.{isSon}
 use Rattle.sizes.specs.Span.{Span, In, Makes, join}
 use Rattle.sizes.specs.Fold.{kindOf, shut, start, joined, later}
-use Rattle.meaning.proofs.SumLaws.{split, son-of, true-not-false}
+use Rattle.laws.specs.Cases.{split, true-not-false}
+use Rattle.meaning.proofs.SonLaws.{son-of}
 use Rattle.sizes.specs.SpanLaws.{join-in, near-proper, restOf, sonOf, joint}
 use Rattle.sizes.specs.JoinedLaws.{Nears, start-of, start-in, near-start, joined-of, joined-states, near-joined}
 use Rattle.sizes.specs.RuleSteps.{Upto, upto-none, upto-son, upto-skip, upto-bit, upto-eq, Lasts, lasts-more, lasts-less}

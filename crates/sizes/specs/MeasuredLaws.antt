@@ -4,12 +4,13 @@ use mathlib.Core.Path.{_≡_, refl, sym, ap, _∙_, fun-ext}
 use mathlib.Core.Bool.{Bool}
 use native.Mathlib.Omega.{arith}
 use native.Mathlib.Nat.{le-refl}
-use Rattle.meaning.specs.Sum.{sum, bit}
+use Rattle.laws.specs.Sum.{sum, bit}
 use Rattle.meaning.specs.Sheet.{Sheet, Group, Son, Tree}
 use Rattle.meaning.specs.Sons.{isSon, sonCount}
 use Rattle.sizes.specs.Span.{Span, none, Kind, meet}
 use Rattle.sizes.specs.Fold.{kindOf, shut, start, joined, later, own, Measured}
-use Rattle.meaning.proofs.SumLaws.{split, sum-eq}
+use Rattle.laws.specs.Cases.{split}
+use Rattle.laws.specs.SumLaws.{sum-eq}
 use Rattle.sizes.specs.RuleSteps.{Lasts, all-lasts, lasts-less, no-son}
 use Rattle.sizes.specs.LaterLaws.{later-none, later-son, later-skip}
 

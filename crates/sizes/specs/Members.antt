@@ -6,31 +6,15 @@ use mathlib.Core.Bool.{Bool, true, cond}
 use native.Mathlib.Omega.{arith}
 use native.Mathlib.Nat.{le-refl, le-antisymm}
 use lib.Dec.{eqb}
-use Rattle.meaning.specs.Sum.{sum, bit}
+use Rattle.laws.specs.Sum.{sum, bit}
 use Rattle.meaning.specs.Sheet.{Sheet, Group, Tree}
 use Rattle.meaning.specs.Sets.{Sets, count}
 use Rattle.meaning.specs.Fits.{Meets, groupsOf}
 use Rattle.meaning.specs.Sons.{isSon, only, sons}
 use Rattle.sizes.specs.Balanced.{Balanced}
-use Rattle.meaning.proofs.SumLaws.{
-  split,
-  bit-le,
-  bit-le-true,
-  bit-eq,
-  bit-true,
-  true-bit,
-  sum-one,
-  sum-but,
-  son-of,
-  son-parent,
-  sons-eq,
-  sons-term,
-  sons-locate,
-  sons-add,
-  sons-zero,
-  sons-one,
-  bit-most,
-}
+use Rattle.laws.specs.Cases.{split}
+use Rattle.laws.specs.SumLaws.{bit-le, bit-le-true, bit-eq, bit-true, true-bit, sum-one, sum-but, bit-most}
+use Rattle.meaning.proofs.SonLaws.{son-of, son-parent, sons-eq, sons-term, sons-locate, sons-add, sons-zero, sons-one}
 
 -- two sons of a 'disjoint' group that have a member are one son
 one-son : {s : Sheet} {M : ℕ → Bool} → Meets s M → (p : ℕ) → s .disjoint p ≡ true → (g h : ℕ) → g < h → h < suc (s .size)

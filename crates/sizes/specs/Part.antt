@@ -7,7 +7,7 @@ use mathlib.Core.Logic.{_↔_}
 use native.Mathlib.Omega.{arith}
 use borrow.Author.Tests.{eqb-true, eq-eqb, ne-eqb}
 use lib.Dec.{ltb, eqb}
-use Rattle.meaning.specs.Sum.{bit}
+use Rattle.laws.specs.Sum.{bit}
 use Rattle.meaning.specs.Sheet.{Sheet, Group, Son, Tree, Top}
 use Rattle.meaning.specs.Sons.{isSon}
 use Rattle.meaning.specs.Fits.{Attains}
@@ -15,7 +15,7 @@ use Rattle.meaning.specs.Part.{under, inPart, partAt, BottomUp}
 use Rattle.sizes.specs.Span.{Span, span, In}
 use Rattle.sizes.specs.Fold.{Measured}
 use Rattle.sizes.specs.Ranged.{free}
-use Rattle.meaning.proofs.SumLaws.{split, compare-eq, compare-le, or-true, or-right, true-not-false}
+use Rattle.laws.specs.Cases.{split, compare-eq, compare-le, or-true, or-right, true-not-false}
 use Rattle.sizes.specs.Members.{balanced-zero}
 use Rattle.sizes.specs.Possible.{Sizes, nowhere, sizes-choice, choice-sizes, attains}
 use Rattle.sizes.specs.Exact.{ChoiceAt, sound, sound-at, had}

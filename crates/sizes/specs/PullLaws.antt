@@ -26,7 +26,7 @@ use Rattle.sizes.specs.Span.{
   reaches,
   pull,
 }
-use Rattle.meaning.proofs.SumLaws.{split}
+use Rattle.laws.specs.Cases.{split}
 use Rattle.sizes.specs.SpanLaws.{Proper, at-le, at-max, at-smaller, in-make}
 
 -- x and y may be exchanged

@@ -6,14 +6,16 @@ use mathlib.Core.Logic.{_↔_}
 use native.Mathlib.Omega.{arith}
 use native.Mathlib.Nat.{le-refl}
 use borrow.Author.Tests.{eq-eqb, ne-eqb}
-use Rattle.meaning.specs.Sum.{bit}
+use Rattle.laws.specs.Sum.{bit}
 use Rattle.meaning.specs.Sheet.{Sheet, Group, Son, Tree, Rooted, Top, fin, inf, AtMost}
 use Rattle.meaning.specs.Fits.{Possible, Attains}
 use Rattle.sizes.specs.Balanced.{isSon, Choice}
 use Rattle.sizes.specs.Span.{Span, none, span, In, Makes, meet, pull}
 use Rattle.sizes.specs.Fold.{kindOf, later, Measured}
 use Rattle.sizes.specs.Ranged.{free, held, Ranged}
-use Rattle.meaning.proofs.SumLaws.{split, son-of, son-is, son-parent, false-bit, true-not-false}
+use Rattle.laws.specs.Cases.{split, true-not-false}
+use Rattle.laws.specs.SumLaws.{false-bit}
+use Rattle.meaning.proofs.SonLaws.{son-of, son-is, son-parent}
 use Rattle.sizes.specs.Possible.{Sizes, nowhere, sizes-choice, choice-sizes, possible, attains}
 use Rattle.sizes.specs.SpanLaws.{Proper, in-meet}
 use Rattle.sizes.specs.JoinedLaws.{makes-zero}

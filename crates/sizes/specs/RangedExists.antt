@@ -10,7 +10,8 @@ use Rattle.meaning.specs.Sheet.{Sheet, Group, Son, Tree, Rooted}
 use Rattle.sizes.specs.Span.{Span, meet, pull}
 use Rattle.sizes.specs.Fold.{kindOf, later}
 use Rattle.sizes.specs.Ranged.{held, Ranged}
-use Rattle.meaning.proofs.SumLaws.{compare-eq, son-parent}
+use Rattle.laws.specs.Cases.{compare-eq}
+use Rattle.meaning.proofs.SonLaws.{son-parent}
 
 -- h and k are equal at the groups below n
 abbrev pub Alike : Sheet → {A : Type 0} → (ℕ → A) → (ℕ → A) → ℕ → Type 0

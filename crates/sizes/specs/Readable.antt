@@ -20,7 +20,7 @@ use Rattle.meaning.specs.Fits.{Possible}
 use Rattle.meaning.specs.Claim.{Breakable}
 use Rattle.meaning.specs.OfRecords.{sheetOf, claimAt, endOf, groupAt}
 use Rattle.meaning.specs.Readable.{root-under-none, lo-most, hi-most, tree-of-right, rooted-of-right, tree-of-readable}
-use Rattle.meaning.proofs.SumLaws.{split}
+use Rattle.laws.specs.Cases.{split}
 use Rattle.sizes.specs.Bounds.{Small}
 use Rattle.sizes.specs.Ends.{End, end-limit}
 use Rattle.sizes.specs.Decidable.{possible-or-not, breakable-or-not}

@@ -8,25 +8,16 @@ use native.Mathlib.Omega.{arith}
 use native.Mathlib.Nat.{le-refl, le-trans, le-of-eq}
 use borrow.Author.Tests.{lt-ltb}
 use lib.Dec.{ltb}
-use Rattle.meaning.specs.Sum.{sum, bit}
+use Rattle.laws.specs.Sum.{sum, bit}
 use Rattle.meaning.specs.Sheet.{Sheet, Son}
 use Rattle.meaning.specs.Sons.{isSon, only, sons, sonCount}
 use Rattle.sizes.specs.Balanced.{RuleAt}
 use Rattle.sizes.specs.Span.{Kind, lap, add, eq, Makes}
 use Rattle.sizes.specs.Fold.{kindOf, shut}
 use Rattle.sizes.specs.JoinedLaws.{bit-of, makes-first}
-use Rattle.meaning.proofs.SumLaws.{
-  split,
-  below-suc,
-  true-not-false,
-  sum-eq,
-  sum-suc,
-  sum-first,
-  sum-term,
-  son-of,
-  son-is,
-  sons-term,
-}
+use Rattle.laws.specs.Cases.{split, below-suc, true-not-false}
+use Rattle.laws.specs.SumLaws.{sum-eq, sum-suc, sum-first, sum-term}
+use Rattle.meaning.proofs.SonLaws.{son-of, son-is, sons-term}
 
 -- a total x with one more number y, where that is a son's
 abbrev More : Bool → Kind → (ℕ → Type 0) → ℕ → ℕ → Type 0

@@ -7,26 +7,15 @@ use native.Mathlib.Omega.{arith}
 use native.Mathlib.Nat.{le-refl}
 use borrow.Author.Tests.{ltb-true, leb-true, eqb-true, eqb-false, lt-ltb, le-leb, lt-leb, ne-eqb}
 use lib.Dec.{leb, ltb, eqb}
-use Rattle.meaning.specs.Sum.{sum, bit}
+use Rattle.laws.specs.Sum.{sum, bit}
 use Rattle.meaning.specs.Sheet.{Sheet, Group, Son, Tree}
 use Rattle.meaning.specs.Sets.{count}
 use Rattle.meaning.specs.Fits.{Meets, Fits, groupsOf}
 use Rattle.meaning.specs.Sons.{only}
 use Rattle.sizes.specs.Balanced.{Balanced, Choice}
-use Rattle.meaning.proofs.SumLaws.{
-  split,
-  compare-le,
-  compare-eq,
-  and-true,
-  sum-eq,
-  sum-but,
-  sum-run,
-  sum-term,
-  son-parent,
-  sons-prefix,
-  only-prefix,
-  sons-locate,
-}
+use Rattle.laws.specs.Cases.{split, compare-le, compare-eq, and-true}
+use Rattle.laws.specs.SumLaws.{sum-eq, sum-but, sum-run, sum-term}
+use Rattle.meaning.proofs.SonLaws.{son-parent, sons-prefix, only-prefix, sons-locate}
 use Rattle.sizes.specs.Members.{balanced-meets}
 use Rattle.sizes.specs.Renumbered.{numbered-distinct}
 use Rattle.meaning.specs.Shown.{inRun, shown, above}

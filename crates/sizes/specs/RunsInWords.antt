@@ -3,12 +3,13 @@ use Prim.Native.Nat.{ℕ, zero, suc, _+_, _-_, _≤_, min}
 use mathlib.Core.Path.{_≡_, refl, _∙_}
 use mathlib.Core.Bool.{Bool, true, false, cond}
 use native.Mathlib.Omega.{arith}
-use Rattle.meaning.specs.Sum.{sum}
+use Rattle.laws.specs.Sum.{sum}
 use Rattle.meaning.specs.Sheet.{Sheet, Group, Son, Tree}
 use Rattle.meaning.specs.Sons.{isSon, only}
 use Rattle.meaning.specs.Arranged.{ended, firstOf}
 use Rattle.sizes.specs.Balanced.{Balanced}
-use Rattle.meaning.proofs.SumLaws.{split, son-of, son-parent}
+use Rattle.laws.specs.Cases.{split}
+use Rattle.meaning.proofs.SonLaws.{son-of, son-parent}
 use Rattle.sizes.specs.Runs.{startUnder, Starts}
 
 -- the two forms of a start, w being where the previous son ended

@@ -27,7 +27,7 @@ use Rattle.sizes.specs.Span.{
   join,
   less,
 }
-use Rattle.meaning.proofs.SumLaws.{split, compare-le}
+use Rattle.laws.specs.Cases.{split, compare-le}
 
 -- upper ends
 pub at-le : (n m : ℕ) (u : Top) → n ≤ m → AtMost m u → AtMost n u

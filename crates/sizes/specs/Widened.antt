@@ -10,7 +10,8 @@ use lib.Dec.{leb}
 use Rattle.meaning.specs.Sheet.{Sheet, Group, Son, Tree, inf}
 use Rattle.meaning.specs.Sets.{Sets}
 use Rattle.meaning.specs.Fits.{Fits}
-use Rattle.meaning.proofs.SumLaws.{split, and-true, son-parent}
+use Rattle.laws.specs.Cases.{split, and-true}
+use Rattle.meaning.proofs.SonLaws.{son-parent}
 
 -- k more groups: nobody's sons, without modes, of any count
 unfoldable pub widened : Sheet → ℕ → Sheet

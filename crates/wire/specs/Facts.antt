@@ -18,7 +18,8 @@ use Rattle.wire.specs.SheetFormat.{headTests, groupTests, nameTests, cla
 use Rattle.wire.specs.SheetFormat.{HeadRecord, GroupRecord, NameRecord, ClaimRecord, count, Records}
 use Rattle.wire.specs.SheetFormat.{parentAllowed, allWithin, closing, readClaims, readNames, readGroups, readSheet}
 use Rattle.wire.specs.Encoding.{Bytes, GroupRight, NameRight, ClaimRight, GroupEnd, ClaimEnd, Right, SheetWithin}
-use Rattle.wire.specs.Passing.{split, and-true, Pass, Numbered, onward-read, Refuses, onward-refuses}
+use Rattle.laws.specs.Cases.{split, and-true}
+use Rattle.wire.specs.Passing.{Pass, Numbered, onward-read, Refuses, onward-refuses}
 use Rattle.wire.specs.Many.{Reads, reads-same, empty-of-length, each-at, each-read, kept-read, reads-length, many-read}
 use Rattle.wire.specs.Many.{many-refuses}
 use Rattle.wire.specs.Sorts.{HeadRight, head-numbered, head-right, group-numbered, group-frame, group-right, name-numbered}

@@ -1,24 +1,13 @@
 -- Tests that pass, the refusal of a list of tests, and going on after one.
 use Prim.Native.Nat.{ℕ, _≤_}
 use mathlib.Core.Path.{_≡_, refl}
-use mathlib.Core.Bool.{Bool, true, false, _&&_, false≢true}
+use mathlib.Core.Bool.{true, false}
 use mathlib.Core.List.{List, [], _∷_}
 use native.Mathlib.Omega.{arith}
 use lib.Dec.{eqb}
 use borrow.Author.Tests.{eqb-true, eqb-false}
+use Rattle.laws.specs.Cases.{split}
 use Rattle.wire.specs.Record.{Test, test, refusal, Reading, read, refused, onward}
-
--- cases on a test, and conjunctions
-pub split {ℓ} : {C : Type ℓ} (b : Bool) → (b ≡ true → C) → (b ≡ false → C) → C
-split true y n = y refl
-split false y n = n refl
-
-pub and-true : (a b : Bool) → (a && b) ≡ true → (a ≡ true) × (b ≡ true)
-and-true true b h = (refl, h)
-and-true false b h = absurd (false≢true h)
-
-pub and-of : (a b : Bool) → a ≡ true → b ≡ true → (a && b) ≡ true
-and-of a b h k = rw (h, k)
 
 -- every test passes
 abbrev pub Pass : List Test → Type 0

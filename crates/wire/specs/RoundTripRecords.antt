@@ -20,7 +20,8 @@ use Rattle.wire.specs.SheetFormat.{headTests, groupTests, nameTests, cla
 use Rattle.wire.specs.SheetFormat.{u16s, leftOf, rightOf, allWithin, claimLength, claimFields, claimNames}
 use Rattle.wire.specs.Encoding.{Bytes, GroupRight, NameRight, SideRight, ClaimRight, GroupEnd, ClaimEnd, Right}
 use Rattle.wire.specs.Encoding.{encodeRecord, le16s, encodeHead, encodeGroup, encodeName, encodeClaim}
-use Rattle.wire.specs.Passing.{and-true, Pass}
+use Rattle.laws.specs.Cases.{and-true}
+use Rattle.wire.specs.Passing.{Pass}
 use Rattle.wire.specs.Sorts.{Framed, HeadRight, group-frame, name-frame, SidesFrame}
 use Rattle.wire.specs.Sorts.{claim-cases, claim-frame, claim-count, claim-inside, claim-apart, length-u16s, label-length}
 use Rattle.wire.specs.Fields.{Fields, none, more, u16s-drop, u16s-le16s, length-le16, length-le16s, drop-le16, drop-le16s}

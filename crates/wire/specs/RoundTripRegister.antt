@@ -16,7 +16,8 @@ use Rattle.wire.specs.Record.{lengthOf, kindOf, after, test, read, refus
 use Rattle.wire.specs.RegisterFormat.{Row, rowOf, lastMember, rowTests, readRows, readRegister}
 use Rattle.wire.specs.Encoding.{Bytes, Each, none, more, RowRight, RowFits, RowsWithin}
 use Rattle.wire.specs.Encoding.{encodeRecord, encodeAll, encodeRow, encodeRegister}
-use Rattle.wire.specs.Passing.{split, and-true, Pass, Numbered, onward-passed, onward-read, Refuses, onward-refuses}
+use Rattle.laws.specs.Cases.{split, and-true}
+use Rattle.wire.specs.Passing.{Pass, Numbered, onward-passed, onward-read, Refuses, onward-refuses}
 use Rattle.wire.specs.Many.{Reads, stop, go, reads-same, empty-of-length, each-both, each-read, encode-reads}
 use Rattle.wire.specs.Fields.{u32-le32, length-le32, drop-le32, encode-read, length-encoded, kind-encoded, length-record}
 use Rattle.wire.specs.Facts.{bytes-drop, bytes-after}

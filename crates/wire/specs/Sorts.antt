@@ -15,7 +15,8 @@ use Rattle.wire.specs.SheetFormat.{headTests, groupTests, nameTests, cla
 use Rattle.wire.specs.SheetFormat.{GroupRecord, NameRecord, ClaimRecord, count, inside, apart, u16s, allWithin, claimLength}
 use Rattle.wire.specs.SheetFormat.{claimFields, claimNames}
 use Rattle.wire.specs.Encoding.{GroupRight, NameRight, SideRight, ClaimRight}
-use Rattle.wire.specs.Passing.{split, and-true, Pass, Numbered}
+use Rattle.laws.specs.Cases.{split, and-true}
+use Rattle.wire.specs.Passing.{Pass, Numbered}
 
 -- the bytes that a record's frame promises are there
 pub record Framed (b : List ℕ) : Type 0 where

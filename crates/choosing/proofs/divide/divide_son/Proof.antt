@@ -1,7 +1,7 @@
 -- `divide_son` meets its contract.
 use mathlib.Core.Path.{ap, _∙_}
 use native.Mathlib.Omega.{arith}
-use Rattle.meaning.specs.Sum.{bit}
+use Rattle.laws.specs.Sum.{bit}
 use Rattle.runs.specs.Told.{numberIn, number-other}
 use Rattle.reading.specs.SheetIn.{size-in}
 use Rattle.choosing.specs.Divided.{

@@ -1,6 +1,6 @@
 -- `registers::check::has` meets its contract.
 use borrow.Author.Needs.{needs}
-use Rattle.registers.specs.Digits.{digit}
+use Rattle.laws.specs.Digits.{digit}
 use Rattle.registers.specs.Words.{holds, digitIn}
 use Rattle.registers.proofs.check.has.Statement.{statement}
 use Rattle.registers.proofs.check.has.Tie as tie

@@ -9,7 +9,7 @@ use lib.Count.{ones}
 use Rattle.registers.proofs.WordLaws.{pair-ones}
 use Rattle.wire.specs.Limits.{rowLimit}
 use Rattle.registers.proofs.CountLaws.{Turns, loses-low, loses-high, walk-room, walk-start, walk-end, turn, ones-positive}
-use Rattle.registers.specs.Digits.{ones-of-zero}
+use Rattle.laws.specs.Digits.{ones-of-zero}
 use Rattle.registers.proofs.counts.count_row.Statement.{statement}
 use Rattle.registers.proofs.counts.count_row.Tie as tie
 

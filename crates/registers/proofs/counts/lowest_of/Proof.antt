@@ -1,5 +1,5 @@
 -- `registers::counts::lowest_of` meets its contract.
-use Rattle.registers.specs.Digits.{lowest}
+use Rattle.laws.specs.Digits.{lowest}
 use Rattle.registers.proofs.counts.lowest_of.Statement.{statement}
 use Rattle.registers.proofs.counts.lowest_of.Tie as tie
 

@@ -10,8 +10,9 @@ use lib.Arith.{lt-one}
 use lib.Pow.{pow-lt, shr-shr, shr-lt, shr-le}
 use lib.Bits.{bitAnd, bitOr, and-step, or-step, and-self, block-half, block-odd}
 use lib.Count.{ones, ones-step, trailingZeros}
-use Rattle.meaning.specs.Sum.{sum, bit}
-use Rattle.meaning.proofs.SumLaws.{compare-le, compare-eq, sum-eq, sum-zero, sum-first}
+use Rattle.laws.specs.Sum.{sum, bit}
+use Rattle.laws.specs.Cases.{compare-le, compare-eq}
+use Rattle.laws.specs.SumLaws.{sum-eq, sum-zero, sum-first}
 
 -- digit k of a word, the lowest being digit 0
 unfoldable pub digit : ℕ → ℕ → ℕ
@@ -76,13 +77,6 @@ pub record Lowest (m t r : ℕ) : Type 0 where
   pub cleared : digit r t ≡ 0
   pub others : (j : ℕ) → (j ≡ t → ⊥) → digit r j ≡ digit m j
   pub fewer : ones m ≡ suc (ones r)
-
--- group g is the lowest set digit of a word whose digits are the groups after `before`
-pub record LowestGroup (before word g : ℕ) : Type 0 where
-  pub place : ℕ
-  pub within : place < 64
-  pub numbered : g ≡ before + place + 1
-  pub lowest : Lowest word place (bitAnd word (word - 1))
 
 pub ones-of-zero : ones 0 ≡ 0
 unfolding ones

@@ -1,0 +1,4 @@
+pub mod Sum
+pub mod Cases
+pub mod SumLaws
+pub mod Digits
