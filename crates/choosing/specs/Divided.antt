@@ -8,7 +8,8 @@ use native.Mathlib.Nat.{le-refl}
 use lib.ListN.{length, getD, set, length-set}
 use lib.Dec.{eqb}
 use Rattle.laws.specs.Sum.{bit}
-use Rattle.meaning.specs.Sheet.{Sheet, Group, Son, Tree}
+use Rattle.meaning.specs.Sheet.{Sheet, Group, Son}
+use Rattle.meaning.specs.Tree.{Tree}
 use Rattle.reading.specs.Tables.{groupIn}
 use Rattle.reading.specs.SheetIn.{sheetIn, Tabled}
 use Rattle.sizes.specs.Balanced.{Choice}

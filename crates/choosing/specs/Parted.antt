@@ -6,7 +6,8 @@ use mathlib.Core.Bool.{Bool, false}
 use native.Mathlib.Omega.{arith}
 use native.Mathlib.Nat.{le-refl}
 use Rattle.laws.specs.Sum.{bit}
-use Rattle.meaning.specs.Sheet.{Sheet, Group, Son, Tree}
+use Rattle.meaning.specs.Sheet.{Sheet, Group, Son}
+use Rattle.meaning.specs.Tree.{Tree}
 use Rattle.sizes.specs.Balanced.{isSon, Choice}
 use Rattle.sizes.specs.Span.{Span, In, Kind, Makes, join}
 use Rattle.sizes.specs.Fold.{kindOf, later, Measured}

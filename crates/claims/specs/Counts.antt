@@ -11,13 +11,14 @@ use lib.ListN.{length, getD, set, length-set}
 use lib.Seq.{getD-set-same, getD-set-other}
 use Rattle.wire.specs.Limits.{noEnd}
 use Rattle.laws.specs.Sum.{sum, bit}
-use Rattle.meaning.specs.Sheet.{Sheet, Group, Son, Tree, Top, fin}
+use Rattle.meaning.specs.Sheet.{Sheet, Group, Son, Top, fin}
+use Rattle.meaning.specs.Tree.{Tree}
 use Rattle.meaning.specs.Claim.{counted}
 use Rattle.meaning.specs.OfRecords.{endOf, disjointMode, coverMode, sameMode}
 use Rattle.meaning.specs.Sons.{only}
 use Rattle.meaning.specs.Shown.{above}
 use Rattle.sizes.specs.Balanced.{isSon, sons, Balanced, Choice}
-use Rattle.meaning.specs.Sheet.{Rooted}
+use Rattle.meaning.specs.Tree.{Rooted}
 use Rattle.sizes.specs.Span.{smaller}
 use Rattle.laws.specs.Cases.{split, compare-eq}
 use Rattle.laws.specs.SumLaws.{sum-eq}

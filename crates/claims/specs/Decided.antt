@@ -4,12 +4,13 @@ use Prim.Native.Nat.{ℕ, _≤_}
 use mathlib.Core.Path.{_≡_}
 use mathlib.Core.List.{List}
 use native.Mathlib.Omega.{arith}
-use Rattle.meaning.specs.Sheet.{Sheet, Group, Tree}
+use Rattle.meaning.specs.Sheet.{Sheet, Group}
+use Rattle.meaning.specs.Tree.{Tree}
 use Rattle.meaning.specs.Sets.{Sets}
 use Rattle.meaning.specs.Fits.{Fits}
 use Rattle.meaning.specs.Claim.{Claim, Breaks, Breakable}
 use Rattle.meaning.specs.Shown.{shown, above}
-use Rattle.meaning.specs.Sheet.{Rooted}
+use Rattle.meaning.specs.Tree.{Rooted}
 use Rattle.sizes.specs.Runs.{runs-first, shown-fits-above}
 use Rattle.runs.specs.Told.{numberIn, Told, told-runs}
 use Rattle.choosing.specs.Divided.{markedIn}

@@ -9,7 +9,7 @@ use borrow.Author.Tests.{eq-eqb, ne-eqb}
 use lib.ListN.{length, getD, set, take, length-set, replicate, getD-replicate}
 use lib.Seq.{take-suc}
 use lib.Dec.{eqb}
-use Rattle.wire.specs.Limits.{groupCapacity}
+use Rattle.wire.specs.Capacity.{groupCapacity}
 use Rattle.laws.specs.Cases.{compare-eq}
 use Rattle.sizes.specs.ClaimsPlace.{isIn, placeIn}
 use Rattle.runs.specs.Told.{numberIn}

@@ -9,11 +9,12 @@ use borrow.Author.Tests.{lt-ltb}
 use lib.ListN.{getD, take}
 use lib.Dec.{ltb}
 use Rattle.laws.specs.Sum.{bit}
-use Rattle.meaning.specs.Sheet.{Sheet, Group, Son, Tree}
+use Rattle.meaning.specs.Sheet.{Sheet, Group, Son}
+use Rattle.meaning.specs.Tree.{Tree}
 use Rattle.meaning.specs.Sets.{Sets}
 use Rattle.meaning.specs.Fits.{Fits, groupsOf}
 use Rattle.sizes.specs.Balanced.{Choice}
-use Rattle.meaning.specs.Sheet.{Rooted}
+use Rattle.meaning.specs.Tree.{Rooted}
 use Rattle.sizes.specs.Possible.{nowhere, sizes-choice, choice-sizes}
 use Rattle.laws.specs.Cases.{compare-eq}
 use Rattle.laws.specs.SumLaws.{bit-le-true}

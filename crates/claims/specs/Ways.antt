@@ -6,7 +6,8 @@ use mathlib.Core.List.{List, [], _∷_, List·Memᴰ, List·Memᴰ·head, List·
 use mathlib.Core.Logic.{⊎-elim}
 use native.Mathlib.Omega.{arith}
 use lib.ListN.{length, getD, take}
-use Rattle.meaning.specs.Sheet.{Sheet, Tree}
+use Rattle.meaning.specs.Sheet.{Sheet}
+use Rattle.meaning.specs.Tree.{Tree}
 use Rattle.meaning.specs.Shown.{above}
 use Rattle.sizes.specs.ClaimsPlace.{placed-flags, place}
 use Rattle.sizes.specs.ClaimsMath.{Known, lists, Way, away, along, breakable-lists, shown-breaks}

@@ -2,6 +2,7 @@
 use crate::places::ask_place;
 use reading::tables::GroupNo;
 use reading::tables::Meant;
+use reading::tables::NO_END;
 use reading::tables::hi_of;
 use reading::tables::lo_of;
 use reading::tables::set_hi;
@@ -17,9 +18,6 @@ ghost use Rattle.reading.specs.SheetIn.{sheetIn};
 ghost use Rattle.choosing.specs.Chosen.{Asking};
 ghost use Rattle.claims.specs.Counts.{Sized, Any, Few, Many, Under, Over};
 ghost use Rattle.claims.specs.Judged.{Judged};
-
-// the bound that stands for no upper end
-const NO_END: u16 = 65535;
 
 fn smaller(a: u16, b: u16) -> u16
     ensures { λ r. ⌜ r ≡ min a b ⌝ }

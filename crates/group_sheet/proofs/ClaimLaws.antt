@@ -11,7 +11,8 @@ use Rattle.wire.specs.Limits.{verdictBytes, shownBytes}
 use Rattle.wire.specs.Record.{read}
 use Rattle.wire.specs.SheetFormat.{Records, nameOf, readSheet}
 use Rattle.wire.specs.Facts.{read-right}
-use Rattle.meaning.specs.Sheet.{Sheet, Group, Tree}
+use Rattle.meaning.specs.Sheet.{Sheet, Group}
+use Rattle.meaning.specs.Tree.{Tree}
 use Rattle.meaning.specs.Claim.{Claim, Breakable}
 use Rattle.meaning.specs.OfRecords.{claimed, claimAt}
 use Rattle.meaning.specs.Readable.{name-group-most}

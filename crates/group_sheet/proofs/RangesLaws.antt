@@ -10,7 +10,8 @@ use Rattle.wire.specs.Limits.{rangeBytes}
 use Rattle.wire.specs.Record.{read}
 use Rattle.wire.specs.SheetFormat.{Records, readSheet}
 use Rattle.wire.specs.Facts.{read-right, right-few}
-use Rattle.meaning.specs.Sheet.{Sheet, Group, Tree, Rooted}
+use Rattle.meaning.specs.Sheet.{Sheet, Group}
+use Rattle.meaning.specs.Tree.{Tree, Rooted}
 use Rattle.meaning.specs.Fits.{Possible}
 use Rattle.meaning.specs.Arranged.{Arranged}
 use Rattle.meaning.specs.Readable.{tree-of-right, rooted-of-right}

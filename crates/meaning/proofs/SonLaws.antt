@@ -9,7 +9,8 @@ use lib.Dec.{ltb, eqb}
 use Rattle.laws.specs.Sum.{sum}
 use Rattle.laws.specs.Cases.{split, and-true, compare-le, compare-eq, not-true-false}
 use Rattle.laws.specs.SumLaws.{sum-le, sum-eq, sum-zero, sum-add, sum-term, sum-prefix, locate}
-use Rattle.meaning.specs.Sheet.{Sheet, Group, Son, Tree}
+use Rattle.meaning.specs.Sheet.{Sheet, Group, Son}
+use Rattle.meaning.specs.Tree.{Tree}
 use Rattle.meaning.specs.Sons.{isSon, only, sons}
 
 -- a group whose test says that it is a son, and a son's test

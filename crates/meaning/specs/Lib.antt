@@ -1,4 +1,5 @@
 pub mod Sheet
+pub mod Tree
 pub mod Sons
 pub mod Sets
 pub mod Fits

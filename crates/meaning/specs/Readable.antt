@@ -9,7 +9,8 @@ use Rattle.wire.specs.Record.{read}
 use Rattle.wire.specs.SheetFormat.{Records, readSheet}
 use Rattle.wire.specs.Encoding.{Right, SheetWithin}
 use Rattle.wire.specs.Facts.{read-right, ParentRight, root-parent, group-at, parent-at, name-at, end-at}
-use Rattle.meaning.specs.Sheet.{Group, Tree, Rooted}
+use Rattle.meaning.specs.Sheet.{Group}
+use Rattle.meaning.specs.Tree.{Tree, Rooted}
 use Rattle.meaning.specs.OfRecords.{groupAt, sheetOf, nameGroup}
 
 module _ {d : Records} (R : Right d) (g : ℕ) (G : Group (sheetOf (d .groups)) g) where

@@ -32,13 +32,3 @@ pub record Son (s : Sheet) (p g : ℕ) : Type 0 where
   pub above : 1 ≤ p
   pub group : Group s g
   pub under : s .parent g ≡ p
-
--- every group's parent has a lower number
-pub record Tree (s : Sheet) : Type 0 where
-  pub before : (g : ℕ) → Group s g → s .parent g < g
-
--- group 1 is the one group without a parent
-pub record Rooted (s : Sheet) : Type 0 where
-  pub one : Group s 1
-  pub top : s .parent 1 ≡ 0
-  pub rest : (g : ℕ) → Group s g → 2 ≤ g → 1 ≤ s .parent g

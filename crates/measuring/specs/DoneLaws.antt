@@ -8,7 +8,8 @@ use borrow.Author.Tests.{eq-eqb, ne-eqb, lt-ltb}
 use lib.Dec.{ltb, eqb}
 use lib.ListN.{getD}
 use Rattle.wire.specs.Limits.{noEnd}
-use Rattle.meaning.specs.Sheet.{Sheet, Group, Son, Tree, Rooted}
+use Rattle.meaning.specs.Sheet.{Sheet, Group, Son}
+use Rattle.meaning.specs.Tree.{Tree, Rooted}
 use Rattle.meaning.specs.OfRecords.{endOf, disjointMode, coverMode, sameMode}
 use Rattle.meaning.specs.Sons.{sonCount}
 use Rattle.reading.specs.Tables.{groupFields, groupIn}

@@ -5,7 +5,8 @@ use mathlib.Core.Bool.{Bool, true, false}
 use mathlib.Core.List.{List}
 use mathlib.Core.Logic.{_↔_}
 use lib.ListN.{getD}
-use Rattle.meaning.specs.Sheet.{Sheet, Group, Tree, Rooted, AtMost}
+use Rattle.meaning.specs.Sheet.{Sheet, Group, AtMost}
+use Rattle.meaning.specs.Tree.{Tree, Rooted}
 use Rattle.meaning.specs.Fits.{Fits, Possible, Attains}
 use Rattle.meaning.specs.Part.{BottomUp}
 use Rattle.meaning.specs.Arranged.{Arranged}

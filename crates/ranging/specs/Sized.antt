@@ -9,7 +9,8 @@ use native.Mathlib.Nat.{le-refl}
 use lib.ListN.{length, getD, set, length-set}
 use Rattle.wire.specs.Limits.{noEnd}
 use Rattle.laws.specs.Sum.{sum}
-use Rattle.meaning.specs.Sheet.{Sheet, Group, Son, Tree, Top, fin}
+use Rattle.meaning.specs.Sheet.{Sheet, Group, Son, Top, fin}
+use Rattle.meaning.specs.Tree.{Tree}
 use Rattle.meaning.specs.Fits.{Possible}
 use Rattle.meaning.specs.OfRecords.{disjointMode, coverMode, sameMode}
 use Rattle.meaning.specs.Arranged.{cap, leftFor, sizeOf, Arranged}

@@ -3,7 +3,8 @@ use Prim.Native.Nat.{ℕ, _+_, _-_, _*_, _≤_, _<_}
 use mathlib.Core.Path.{_≡_, sym}
 use mathlib.Core.List.{List, []}
 use lib.ListN.{length, getD, drop}
-use Rattle.wire.specs.Limits.{groupCapacity, nameLimit, claimLimit}
+use Rattle.wire.specs.Limits.{nameLimit, claimLimit}
+use Rattle.wire.specs.Capacity.{groupCapacity}
 use Rattle.wire.specs.Edition.{Edition}
 use Rattle.wire.specs.Record.{Test, Reading, read, refused}
 use Rattle.wire.specs.SheetFormat.{HeadRecord, Records, nameOf, nameTests, claimOf, claimTests, readMany}

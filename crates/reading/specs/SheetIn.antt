@@ -4,8 +4,10 @@ use mathlib.Core.Path.{_≡_, sym, ap, _∙_}
 use mathlib.Core.List.{List}
 use native.Mathlib.Omega.{arith}
 use lib.ListN.{length}
-use Rattle.wire.specs.Limits.{groupCapacity, noEnd}
-use Rattle.meaning.specs.Sheet.{Sheet, Group, Son, Tree, Rooted}
+use Rattle.wire.specs.Limits.{noEnd}
+use Rattle.wire.specs.Capacity.{groupCapacity}
+use Rattle.meaning.specs.Sheet.{Sheet, Group, Son}
+use Rattle.meaning.specs.Tree.{Tree, Rooted}
 use Rattle.meaning.specs.OfRecords.{sheetOf, endOf, disjointMode, coverMode, sameMode}
 use Rattle.reading.specs.Tables.{groupFields, groupIn, groupsIn, length-groupsIn, groupAt-groupsIn}
 

@@ -11,7 +11,8 @@ use Rattle.registers.specs.Words.{rowGroups}
 use Rattle.wire.specs.Record.{Reading, refused}
 use Rattle.wire.specs.RegisterFormat.{Row, readRegister}
 use Rattle.wire.specs.RoundTripRegister.{register-read}
-use Rattle.meaning.specs.Sheet.{Sheet, Tree}
+use Rattle.meaning.specs.Sheet.{Sheet}
+use Rattle.meaning.specs.Tree.{Tree}
 use Rattle.meaning.specs.Sets.{Distinct}
 use Rattle.meaning.specs.OfRecords.{listedSets}
 use Rattle.meaning.specs.ReadableRows.{distinct-of-readable, listed-at}

@@ -4,7 +4,8 @@ use mathlib.Core.Path.{_≡_, refl}
 use mathlib.Core.Bool.{Bool, true, false}
 use mathlib.Core.Logic.{inl, inr}
 use native.Mathlib.Omega.{arith}
-use Rattle.meaning.specs.Sheet.{Sheet, Top, fin, inf, AtMost, Group, Son, Tree}
+use Rattle.meaning.specs.Sheet.{Sheet, Top, fin, inf, AtMost, Group, Son}
+use Rattle.meaning.specs.Tree.{Tree}
 use Rattle.meaning.specs.Sets.{Sets, Distinct, count}
 use Rattle.meaning.specs.Fits.{Fits, groupsOf}
 use Rattle.meaning.specs.Rule.{Rule, outside, lacking, uncovered, shared, below, above, ruleNumber, Broken, FirstBroken, Answered}

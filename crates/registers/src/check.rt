@@ -2,13 +2,13 @@
 use crate::counts::count_groups;
 use crate::counts::count_of;
 use crate::limits::GROUP_PLACES;
-use crate::limits::NO_END;
 use crate::limits::ROW_WORDS;
 use crate::limits::SON_WORDS;
 use crate::rows::Rows;
 use crate::rows::read_rows;
 use crate::sons::gather_sons;
 use reading::tables::GroupNo;
+use reading::tables::NO_END;
 use reading::tables::hi_of;
 use reading::tables::lo_of;
 use reading::tables::mode_of;

@@ -20,6 +20,3 @@ pub const ROW_WORDS: usize = 2 * ROWS;
 pub const GROUP_PLACES: usize = GROUPS as usize + 1;
 
 pub const SON_WORDS: usize = 2 * GROUP_PLACES;
-
-// The hi that stands for no upper end.
-pub const NO_END: u16 = 65535;

@@ -6,8 +6,9 @@ use native.Mathlib.Omega.{arith}
 use native.Mathlib.Nat.{le-of-eq}
 use lib.ListN.{length, getD, set}
 use lib.Seq.{getD-set-same, getD-set-other}
-use Rattle.wire.specs.Limits.{groupCapacity}
-use Rattle.meaning.specs.Sheet.{Sheet, Group, Son, Tree, Rooted}
+use Rattle.wire.specs.Capacity.{groupCapacity}
+use Rattle.meaning.specs.Sheet.{Sheet, Group, Son}
+use Rattle.meaning.specs.Tree.{Tree, Rooted}
 use Rattle.meaning.specs.Arranged.{firstOf}
 use Rattle.reading.specs.SheetIn.{sheetIn, sizeLimit, Tabled}
 use Rattle.sizes.specs.Balanced.{Balanced}

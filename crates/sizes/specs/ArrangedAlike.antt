@@ -2,7 +2,8 @@
 use Prim.Native.Nat.{ℕ, zero, suc, _≤_}
 use mathlib.Core.Path.{_≡_, refl, sym, _∙_}
 use native.Mathlib.Omega.{arith}
-use Rattle.meaning.specs.Sheet.{Sheet, Group, Son, Tree, Rooted, Top}
+use Rattle.meaning.specs.Sheet.{Sheet, Group, Son, Top}
+use Rattle.meaning.specs.Tree.{Tree, Rooted}
 use Rattle.meaning.specs.Sons.{isSon}
 use Rattle.meaning.specs.Arranged.{leftFor, sizeOf, ended, firstOf, Arranged}
 use Rattle.laws.specs.Cases.{split}

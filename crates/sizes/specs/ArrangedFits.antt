@@ -7,7 +7,8 @@ use native.Mathlib.Omega.{arith}
 use native.Mathlib.Nat.{le-refl, add-zero}
 use lib.Dec.{ltb}
 use Rattle.laws.specs.Sum.{sum}
-use Rattle.meaning.specs.Sheet.{Sheet, Group, Son, Tree, Rooted, Top, AtMost}
+use Rattle.meaning.specs.Sheet.{Sheet, Group, Son, Top, AtMost}
+use Rattle.meaning.specs.Tree.{Tree, Rooted}
 use Rattle.meaning.specs.Shown.{shown, above}
 use Rattle.meaning.specs.Fits.{Fits}
 use Rattle.meaning.specs.Arranged.{cap, leftFor, sizeOf, ended, firstOf, Arranged}

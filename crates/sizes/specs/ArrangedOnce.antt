@@ -4,7 +4,8 @@ use mathlib.Core.Path.{_≡_, refl, ap}
 use mathlib.Core.Logic.{_↔_, Iff·symm, Iff·trans}
 use native.Mathlib.Omega.{arith}
 use native.Mathlib.Nat.{le-refl}
-use Rattle.meaning.specs.Sheet.{Sheet, Group, Tree, Rooted, Top, fin, inf, AtMost}
+use Rattle.meaning.specs.Sheet.{Sheet, Group, Top, fin, inf, AtMost}
+use Rattle.meaning.specs.Tree.{Tree, Rooted}
 use Rattle.meaning.specs.Sets.{count}
 use Rattle.meaning.specs.Fits.{Possible, Attains}
 use Rattle.meaning.specs.Part.{partAt, BottomUp}

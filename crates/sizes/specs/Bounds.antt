@@ -8,7 +8,8 @@ use native.Mathlib.Nat.{le-refl, mul-le-mul-left}
 use borrow.Author.Tests.{ltb-true, leb-true, lt-ltb, le-leb, eq-eqb, ne-eqb}
 use lib.Dec.{leb, ltb, eqb}
 use Rattle.laws.specs.Sum.{sum}
-use Rattle.meaning.specs.Sheet.{Sheet, Group, Tree, Top, fin, inf}
+use Rattle.meaning.specs.Sheet.{Sheet, Group, Top, fin, inf}
+use Rattle.meaning.specs.Tree.{Tree}
 use Rattle.meaning.specs.Sons.{isSon, only, sons}
 use Rattle.sizes.specs.Span.{Span, none, span, make, meet, hull, Kind, lap, add, eq, join, pull, larger, smaller, plus, less, shorter, reaches}
 use Rattle.sizes.specs.Fold.{kindOf, shut, start, joined, later, own, ownTo, Measured}

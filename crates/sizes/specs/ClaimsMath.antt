@@ -17,7 +17,8 @@ use mathlib.Core.Logic.{_↔_, _⊎_, inl, inr, ⊎-elim, by-cases}
 use native.Mathlib.Omega.{arith}
 use native.Mathlib.Nat.{le-refl}
 use Rattle.laws.specs.Sum.{bit}
-use Rattle.meaning.specs.Sheet.{Sheet, Group, Tree, Top, fin, inf, AtMost}
+use Rattle.meaning.specs.Sheet.{Sheet, Group, Top, fin, inf, AtMost}
+use Rattle.meaning.specs.Tree.{Tree}
 use Rattle.meaning.specs.Sets.{Sets, count}
 use Rattle.meaning.specs.Fits.{Possible, groupsOf}
 use Rattle.meaning.specs.Claim.{Claim, counted, within, separate, named, union, countNamed, Says, Breaks, Breakable}

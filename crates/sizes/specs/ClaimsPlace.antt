@@ -7,7 +7,8 @@ use mathlib.Core.List.{List, [], _∷_, List·Memᴰ, List·Memᴰ·head, List·
 use mathlib.Core.Logic.{_↔_}
 use borrow.Author.Tests.{eqb-true, eq-eqb, not-true}
 use lib.Dec.{eqb}
-use Rattle.meaning.specs.Sheet.{Sheet, Group, Tree}
+use Rattle.meaning.specs.Sheet.{Sheet, Group}
+use Rattle.meaning.specs.Tree.{Tree}
 use Rattle.meaning.specs.Sets.{Sets}
 use Rattle.meaning.specs.Fits.{Fits, groupsOf}
 use Rattle.sizes.specs.Balanced.{Choice}

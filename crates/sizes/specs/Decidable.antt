@@ -7,7 +7,8 @@ use mathlib.Core.Logic.{_⊎_, inl, inr, ⊎-elim, by-cases, Iff·symm, Dec·and
 use native.Mathlib.Omega.{arith}
 use native.Mathlib.Decide.{decLe}
 use Rattle.laws.specs.Sum.{bit}
-use Rattle.meaning.specs.Sheet.{Sheet, Group, Tree, Top, fin, inf}
+use Rattle.meaning.specs.Sheet.{Sheet, Group, Top, fin, inf}
+use Rattle.meaning.specs.Tree.{Tree}
 use Rattle.meaning.specs.Fits.{Possible}
 use Rattle.meaning.specs.Claim.{Claim, counted, within, separate, Breakable}
 use Rattle.sizes.specs.Balanced.{Choice}

@@ -5,7 +5,8 @@ use mathlib.Core.Bool.{Bool, false}
 use mathlib.Core.Logic.{_↔_, _⊎_, inl, inr, ⊎-elim}
 use native.Mathlib.Omega.{arith}
 use native.Mathlib.Nat.{le-refl, mul-le-mul-left}
-use Rattle.meaning.specs.Sheet.{Sheet, Group, Tree, Rooted, fin, inf}
+use Rattle.meaning.specs.Sheet.{Sheet, Group, fin, inf}
+use Rattle.meaning.specs.Tree.{Tree, Rooted}
 use Rattle.meaning.specs.Fits.{Attains}
 use Rattle.meaning.specs.Sons.{isSon}
 use Rattle.sizes.specs.Span.{Span, none, span, In, pull}

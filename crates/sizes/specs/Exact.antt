@@ -6,7 +6,8 @@ use mathlib.Core.Logic.{_↔_}
 use native.Mathlib.Omega.{arith}
 use native.Mathlib.Nat.{le-refl}
 use Rattle.laws.specs.Sum.{bit}
-use Rattle.meaning.specs.Sheet.{Sheet, Group, Son, Tree, AtMost}
+use Rattle.meaning.specs.Sheet.{Sheet, Group, Son, AtMost}
+use Rattle.meaning.specs.Tree.{Tree}
 use Rattle.meaning.specs.Sons.{isSon}
 use Rattle.sizes.specs.Balanced.{RuleAt, Choice}
 use Rattle.sizes.specs.Span.{Span, In, eq, Makes, join}

@@ -7,7 +7,8 @@ use native.Mathlib.Omega.{arith}
 use native.Mathlib.Nat.{le-refl, le-antisymm}
 use lib.Dec.{eqb}
 use Rattle.laws.specs.Sum.{sum, bit}
-use Rattle.meaning.specs.Sheet.{Sheet, Group, Tree}
+use Rattle.meaning.specs.Sheet.{Sheet, Group}
+use Rattle.meaning.specs.Tree.{Tree}
 use Rattle.meaning.specs.Sets.{Sets, count}
 use Rattle.meaning.specs.Fits.{Meets, groupsOf}
 use Rattle.meaning.specs.Sons.{isSon, only, sons}

@@ -8,7 +8,8 @@ use native.Mathlib.Omega.{arith}
 use borrow.Author.Tests.{eqb-true, eq-eqb, ne-eqb}
 use lib.Dec.{ltb, eqb}
 use Rattle.laws.specs.Sum.{bit}
-use Rattle.meaning.specs.Sheet.{Sheet, Group, Son, Tree, Top}
+use Rattle.meaning.specs.Sheet.{Sheet, Group, Son, Top}
+use Rattle.meaning.specs.Tree.{Tree}
 use Rattle.meaning.specs.Sons.{isSon}
 use Rattle.meaning.specs.Fits.{Attains}
 use Rattle.meaning.specs.Part.{under, inPart, partAt, BottomUp}

@@ -7,7 +7,8 @@ use mathlib.Core.Logic.{_↔_}
 use native.Mathlib.Omega.{arith}
 use native.Mathlib.Nat.{add-zero}
 use Rattle.laws.specs.Sum.{bit}
-use Rattle.meaning.specs.Sheet.{Sheet, Group, Tree, AtMost}
+use Rattle.meaning.specs.Sheet.{Sheet, Group, AtMost}
+use Rattle.meaning.specs.Tree.{Tree}
 use Rattle.meaning.specs.Sets.{Sets, count}
 use Rattle.meaning.specs.Fits.{Fits, Possible, Attains, groupsOf}
 use Rattle.sizes.specs.Ranged.{free}

@@ -6,7 +6,8 @@ use native.Mathlib.Omega.{arith}
 use native.Mathlib.Nat.{le-refl}
 use borrow.Author.Tests.{ne-eqb}
 use lib.Dec.{eqb}
-use Rattle.meaning.specs.Sheet.{Sheet, Group, Son, Tree, Rooted}
+use Rattle.meaning.specs.Sheet.{Sheet, Group, Son}
+use Rattle.meaning.specs.Tree.{Tree, Rooted}
 use Rattle.sizes.specs.Span.{Span, meet, pull}
 use Rattle.sizes.specs.Fold.{kindOf, later}
 use Rattle.sizes.specs.Ranged.{held, Ranged}

@@ -8,7 +8,8 @@ use native.Mathlib.Nat.{le-refl}
 use borrow.Author.Tests.{ltb-true, leb-true, eqb-true, eqb-false, lt-ltb, le-leb, lt-leb, ne-eqb}
 use lib.Dec.{leb, ltb, eqb}
 use Rattle.laws.specs.Sum.{sum, bit}
-use Rattle.meaning.specs.Sheet.{Sheet, Group, Son, Tree}
+use Rattle.meaning.specs.Sheet.{Sheet, Group, Son}
+use Rattle.meaning.specs.Tree.{Tree}
 use Rattle.meaning.specs.Sets.{count}
 use Rattle.meaning.specs.Fits.{Meets, Fits, groupsOf}
 use Rattle.meaning.specs.Sons.{only}

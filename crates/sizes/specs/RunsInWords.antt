@@ -4,7 +4,8 @@ use mathlib.Core.Path.{_≡_, refl, _∙_}
 use mathlib.Core.Bool.{Bool, true, false, cond}
 use native.Mathlib.Omega.{arith}
 use Rattle.laws.specs.Sum.{sum}
-use Rattle.meaning.specs.Sheet.{Sheet, Group, Son, Tree}
+use Rattle.meaning.specs.Sheet.{Sheet, Group, Son}
+use Rattle.meaning.specs.Tree.{Tree}
 use Rattle.meaning.specs.Sons.{isSon, only}
 use Rattle.meaning.specs.Arranged.{ended, firstOf}
 use Rattle.sizes.specs.Balanced.{Balanced}

@@ -7,7 +7,8 @@ use mathlib.Core.Logic.{_↔_}
 use native.Mathlib.Omega.{arith}
 use borrow.Author.Tests.{leb-true, le-leb}
 use lib.Dec.{leb}
-use Rattle.meaning.specs.Sheet.{Sheet, Group, Son, Tree, inf}
+use Rattle.meaning.specs.Sheet.{Sheet, Group, Son, inf}
+use Rattle.meaning.specs.Tree.{Tree}
 use Rattle.meaning.specs.Sets.{Sets}
 use Rattle.meaning.specs.Fits.{Fits}
 use Rattle.laws.specs.Cases.{split, and-true}

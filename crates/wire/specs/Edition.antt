@@ -1,7 +1,6 @@
 -- The editions of the format and what each of them sets: document 01, "Records of a sheet" (kinds 1 and 3) and "Registers".
 -- `EditionFacts` proves what needs an edition's numbers, by clauses; everywhere else the edition stays a variable.
 use Prim.Native.Nat.{ℕ, _+_, _*_}
-use Rattle.wire.specs.Limits.{nameLimit, claimLimit, headBytes, groupBytes, claimBytes}
 
 pub data Edition : Type 0 where
   edition1 : Edition
@@ -21,12 +20,9 @@ membershipBytes edition1 = 16
 abbrev pub groupLimit : Edition → ℕ
 groupLimit e = 8 * membershipBytes e
 
--- most bytes of a label, and of a name's record: length and kind (four bytes), group (two), label
+-- most bytes of a label
 unfoldable pub labelLimit : Edition → ℕ
 labelLimit edition1 = 16
-
-abbrev pub nameBytes : Edition → ℕ
-nameBytes e = labelLimit e + 6
 
 -- the kind of a row, and its bytes: length and kind (four bytes), member (four), membership
 unfoldable pub rowKind : Edition → ℕ
@@ -34,7 +30,3 @@ rowKind edition1 = 32
 
 abbrev pub rowBytes : Edition → ℕ
 rowBytes e = 8 + membershipBytes e
-
--- most bytes of a readable sheet
-abbrev pub sheetLimit : Edition → ℕ
-sheetLimit e = headBytes + groupBytes * groupLimit e + nameBytes e * nameLimit + claimBytes * claimLimit

@@ -2,18 +2,10 @@
 use Prim.Native.Nat.{ℕ, _≤_}
 use mathlib.Core.Path.{_≡_, refl}
 use native.Mathlib.Omega.{arith}
-use Rattle.wire.specs.Limits.{groupCapacity, noEnd}
-use Rattle.wire.specs.Edition.{
-  Edition,
-  edition1,
-  editionNumber,
-  editionOf,
-  membershipBytes,
-  groupLimit,
-  labelLimit,
-  nameBytes,
-  rowKind,
-}
+use Rattle.wire.specs.Limits.{noEnd}
+use Rattle.wire.specs.Capacity.{groupCapacity}
+use Rattle.wire.specs.Edition.{Edition, edition1, editionNumber, editionOf, membershipBytes, groupLimit, labelLimit, rowKind}
+use Rattle.wire.specs.Capacity.{nameBytes}
 
 -- no two editions have one number
 pub edition-back : (e : Edition) → editionOf (editionNumber e) ≡ e

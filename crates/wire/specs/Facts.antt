@@ -9,8 +9,10 @@ use lib.ListN.{length, take, drop, getD, length-take, length-drop}
 use lib.Seq.{getD-drop}
 use lib.Dec.{leb, ltb, eqb}
 use borrow.Author.Tests.{leb-true, ltb-true, eqb-true}
-use Rattle.wire.specs.Limits.{groupCapacity, recordLimit, noEnd, groupBytes, claimBytes}
-use Rattle.wire.specs.Edition.{Edition, editionOf, nameBytes, sheetLimit}
+use Rattle.wire.specs.Limits.{noEnd}
+use Rattle.wire.specs.Capacity.{groupCapacity, recordLimit, groupBytes, claimBytes}
+use Rattle.wire.specs.Edition.{Edition, editionOf}
+use Rattle.wire.specs.Capacity.{nameBytes, sheetLimit}
 use Rattle.wire.specs.EditionFacts.{groups-within}
 use Rattle.wire.specs.Bytes.{u16At}
 use Rattle.wire.specs.Record.{lengthOf, after, test, read, refused}

@@ -1,5 +1,6 @@
 pub mod Limits
 pub mod Edition
+pub mod Capacity
 pub mod EditionFacts
 pub mod Bytes
 pub mod Wide

@@ -2,10 +2,6 @@
 -- "Replies". `Edition` has those that an edition sets.
 use Prim.Native.Nat.{ℕ, _+_, _*_}
 
--- the groups that tables hold; no edition has more (`groups-within`)
-abbrev pub groupCapacity : ℕ
-groupCapacity = 128
-
 -- most names and claims of a sheet, most names on one side of a claim
 abbrev pub nameLimit : ℕ
 nameLimit = 128
@@ -35,17 +31,7 @@ rowLimit = 2048
 abbrev pub noGreatest : ℕ
 noGreatest = 4294967295
 
--- bytes of the records of a sheet, length field and kind among them: kind 1 (head), 2 (group), 4 to 6 (claim, the most)
-abbrev pub headBytes : ℕ
-headBytes = 12
-
-abbrev pub groupBytes : ℕ
-groupBytes = 12
-
-abbrev pub claimBytes : ℕ
-claimBytes = 8 + 2 * (sideLimit + sideLimit)
-
--- bytes of the records of a reply: kind 17 (range and run), 18 (verdict), 19 (run and mark), 20 (group and rule)
+-- bytes of the records of a reply, length field and kind among them: kind 17 (range and run), 18 (verdict), 19 (run and mark), 20 (group and rule)
 abbrev pub rangeBytes : ℕ
 rangeBytes = 20
 
@@ -57,7 +43,3 @@ shownBytes = 14
 
 abbrev pub answerBytes : ℕ
 answerBytes = 8
-
--- the number that is one past the last record of the longest sheet
-abbrev pub recordLimit : ℕ
-recordLimit = 2 + groupCapacity + nameLimit + claimLimit

@@ -10,7 +10,8 @@ use lib.ListN.{length, take, drop, length-append, take-append-drop}
 use lib.Seq.{drop-drop, take-append-seam}
 use lib.Dec.{leb}
 use borrow.Author.Tests.{leb-true, le-leb, eq-eqb, ne-eqb}
-use Rattle.wire.specs.Limits.{groupCapacity, nameLimit, sideLimit, boundLimit, noEnd}
+use Rattle.wire.specs.Limits.{nameLimit, sideLimit, boundLimit, noEnd}
+use Rattle.wire.specs.Capacity.{groupCapacity}
 use Rattle.wire.specs.Edition.{Edition, editionNumber, editionOf, labelLimit}
 use Rattle.wire.specs.EditionFacts.{edition-back, edition-fits, name-fits}
 use Rattle.wire.specs.Bytes.{u16At, le16}

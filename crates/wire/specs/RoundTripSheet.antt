@@ -5,7 +5,7 @@ use mathlib.Core.List.{List, [], _∷_, _++_, append-nil}
 use mathlib.Core.Bool.{true}
 use native.Mathlib.Omega.{arith}
 use lib.ListN.{length}
-use Rattle.wire.specs.Limits.{groupCapacity}
+use Rattle.wire.specs.Capacity.{groupCapacity}
 use Rattle.wire.specs.Record.{test, read}
 use Rattle.wire.specs.SheetFormat.{Records, groupTests, groupOf}
 use Rattle.wire.specs.SheetFormat.{nameTests, nameOf, claimTests, claimOf}

@@ -4,7 +4,7 @@ use mathlib.Core.Path.{_≡_, refl, ap, _∙_}
 use native.Mathlib.Omega.{arith}
 use borrow.Author.Needs.{needs}
 use lib.ListN.{length, replicate}
-use Rattle.wire.specs.Limits.{groupCapacity}
+use Rattle.wire.specs.Capacity.{groupCapacity}
 use Rattle.runs.specs.Told.{numberIn, number-same}
 use Rattle.reading.specs.SheetIn.{sheetIn, size-in}
 use Rattle.measuring.specs.Pairs.{pairIn}

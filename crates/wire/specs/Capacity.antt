@@ -1,0 +1,30 @@
+-- What tables hold, and how long a readable sheet can be. No contract speaks of it.
+use Prim.Native.Nat.{ℕ, _+_, _*_}
+use Rattle.wire.specs.Limits.{nameLimit, claimLimit, sideLimit}
+use Rattle.wire.specs.Edition.{Edition, groupLimit, labelLimit}
+
+-- the groups that tables hold; no edition has more (`groups-within`)
+abbrev pub groupCapacity : ℕ
+groupCapacity = 128
+
+-- the number that is one past the last record of the longest sheet
+abbrev pub recordLimit : ℕ
+recordLimit = 2 + groupCapacity + nameLimit + claimLimit
+
+-- bytes of the records of a sheet, length field and kind among them: kind 1 (head), 2 (group), 4 to 6 (claim, the most)
+abbrev pub headBytes : ℕ
+headBytes = 12
+
+abbrev pub groupBytes : ℕ
+groupBytes = 12
+
+abbrev pub claimBytes : ℕ
+claimBytes = 8 + 2 * (sideLimit + sideLimit)
+
+-- most bytes of a name's record: length and kind (four bytes), group (two), label
+abbrev pub nameBytes : Edition → ℕ
+nameBytes e = labelLimit e + 6
+
+-- most bytes of a readable sheet
+abbrev pub sheetLimit : Edition → ℕ
+sheetLimit e = headBytes + groupBytes * groupLimit e + nameBytes e * nameLimit + claimBytes * claimLimit
