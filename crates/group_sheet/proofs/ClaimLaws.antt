@@ -1,17 +1,17 @@
 -- The verdict on a claim, put together: from what the tables show to the sets read back from the reply, and from the tables of
 -- a sheet that was read to the claim itself.
-use Prim.Native.Nat.{ℕ, _+_, _-_, _*_, _≤_, _<_}
+use Prim.Native.Nat.{ℕ, _-_, _≤_, _<_}
 use mathlib.Core.Path.{_≡_, sym, ap, subst, _∙_}
 use mathlib.Core.List.{List}
 use mathlib.Core.Logic.{inl}
 use native.Mathlib.Omega.{arith}
-use lib.ListN.{length, getD}
+use lib.ListN.{length}
 use lib.Dec.{eqb}
-use Rattle.wire.specs.Limits.{verdictBytes, shownBytes}
+use Rattle.wire.specs.Limits.{verdictBytes}
 use Rattle.wire.specs.Record.{read}
-use Rattle.wire.specs.SheetFormat.{Records, nameOf, readSheet}
+use Rattle.wire.specs.SheetFormat.{nameOf, readSheet}
 use Rattle.wire.specs.Facts.{read-right}
-use Rattle.meaning.specs.Sheet.{Sheet, Group}
+use Rattle.meaning.specs.Sheet.{Sheet}
 use Rattle.meaning.specs.Tree.{Tree}
 use Rattle.meaning.specs.Claim.{Claim, Breakable}
 use Rattle.meaning.specs.OfRecords.{claimed, claimAt}

@@ -1,6 +1,6 @@
 -- The frame of the contracts settles every refusal: two exits of one call that both meet a part of it are the same where it
 -- refuses, and otherwise both meet what comes next.
-use Prim.Native.Nat.{ℕ, _≤_}
+use Prim.Native.Nat.{ℕ}
 use mathlib.Core.Path.{_≡_, refl, sym, _∙_}
 use mathlib.Core.List.{List}
 use mathlib.Core.Logic.{_⊎_, inl, inr}

@@ -34,7 +34,7 @@ use Rattle.ranging.specs.Said.{measures-done, measured-free, range-said, bounds
 use Rattle.claims.specs.Flags.{freeTable, free-flag}
 use Rattle.replies.specs.Wrote.{Wrote}
 use Rattle.replies.specs.Written.{RangeAt, RangesPut}
-use Rattle.group_sheet.specs.RangesReply.{rangeAt, runFirst, runCount, greatestOf, RangesIn}
+use Rattle.group_sheet.specs.RangesReply.{rangeAt, runFirst, runCount, greatestOf}
 use Rattle.group_sheet.specs.RangesGiven.{RangesReady, RangesWritten}
 
 -- the groups of a readable sheet, as the table holds them

@@ -1,17 +1,17 @@
 -- Sets that agree at every number up to the size of a sheet fit it alike and break the same claims: what a table shows and
 -- what is read back from the bytes of a reply are the same sets.
-use Prim.Native.Nat.{ℕ, zero, suc, _+_, _≤_, _<_, zero-le}
+use Prim.Native.Nat.{ℕ, zero, suc, _≤_}
 use mathlib.Core.Path.{_≡_, refl, sym, ap, _∙_, subst}
-use mathlib.Core.Bool.{Bool, true, false, cond, _||_}
+use mathlib.Core.Bool.{Bool}
 use mathlib.Core.List.{List, [], _∷_, List·Memᴰ, List·Memᴰ·head, List·Memᴰ·tail}
 use native.Mathlib.Omega.{arith}
 use Rattle.laws.specs.Sum.{bit}
-use Rattle.meaning.specs.Sheet.{Sheet, Group, Son}
+use Rattle.meaning.specs.Sheet.{Sheet, Son}
 use Rattle.meaning.specs.Tree.{Tree}
-use Rattle.meaning.specs.Sets.{Sets, count, numbered}
+use Rattle.meaning.specs.Sets.{count, numbered}
 use Rattle.meaning.specs.Fits.{Meets, Fits}
 use Rattle.meaning.specs.Claim.{Claim, counted, within, separate, named, union, countNamed, Says, Breaks}
-use Rattle.meaning.specs.Shown.{shown, inRun, above}
+use Rattle.meaning.specs.Shown.{shown, above}
 use Rattle.laws.specs.SumLaws.{sum-eq}
 use Rattle.meaning.proofs.SonLaws.{son-parent}
 use Rattle.claims.specs.Groups.{AllUpTo}

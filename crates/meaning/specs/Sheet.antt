@@ -1,5 +1,5 @@
 -- A sheet as mathematics: groups 1 to `size`, each with a parent, bounds and modes (document 01, "Records of a sheet").
-use Prim.Native.Nat.{ℕ, _≤_, _<_}
+use Prim.Native.Nat.{ℕ, _≤_}
 use mathlib.Core.Path.{_≡_}
 use mathlib.Core.Bool.{Bool}
 

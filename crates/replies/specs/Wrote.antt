@@ -1,12 +1,12 @@
 -- A write to n bytes at a place: the length and every other byte stay. Laws of fields read at and beside the place.
-use Prim.Native.Nat.{ℕ, zero, suc, _+_, _-_, _*_, _/_, _%_, _≤_, _<_}
-use mathlib.Core.Path.{_≡_, refl, sym, ap, _∙_}
+use Prim.Native.Nat.{ℕ, zero, suc, _+_, _-_, _/_, _%_, _≤_, _<_}
+use mathlib.Core.Path.{_≡_, refl, sym, _∙_}
 use mathlib.Core.List.{List, [], _∷_}
 use mathlib.Core.Logic.{_⊎_, inl, inr}
 use native.Mathlib.Omega.{arith}
 use native.Mathlib.Nat.{add-zero}
 use lib.ListN.{length, getD, drop, set, length-set, length-drop}
-use lib.Seq.{sets, length-sets, getD-set-same, getD-set-other, getD-drop, ext-getD}
+use lib.Seq.{sets, getD-set-same, getD-set-other, getD-drop, ext-getD}
 use Rattle.wire.specs.Bytes.{u16At, u32At, le16, le32}
 use Rattle.wire.specs.Fields.{u32-le32}
 

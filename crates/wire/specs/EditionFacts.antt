@@ -1,5 +1,5 @@
 -- What holds of every edition, proved by clauses where an edition's numbers are needed.
-use Prim.Native.Nat.{ℕ, _≤_}
+use Prim.Native.Nat.{_≤_}
 use mathlib.Core.Path.{_≡_, refl}
 use native.Mathlib.Omega.{arith}
 use Rattle.wire.specs.Limits.{noEnd}

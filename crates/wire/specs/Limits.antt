@@ -1,6 +1,6 @@
 -- The capacities and lengths that hold in every edition, each named once: document 01, "Records of a sheet", "Registers",
 -- "Replies". `Edition` has those that an edition sets.
-use Prim.Native.Nat.{ℕ, _+_, _*_}
+use Prim.Native.Nat.{ℕ}
 
 -- most names and claims of a sheet, most names on one side of a claim
 abbrev pub nameLimit : ℕ

@@ -1,5 +1,5 @@
 -- `put_words` meets its contract. The invariant: the first i fields are in the buffer, and nothing else changed.
-use Prim.Native.Nat.{_+_, _-_, _*_, _≤_}
+use Prim.Native.Nat.{_-_, _*_, _≤_}
 use mathlib.Core.Path.{_≡_, refl}
 use native.Mathlib.Omega.{arith}
 use borrow.Author.Needs.{needs}
