@@ -6,19 +6,20 @@ use mathlib.Core.List.{List}
 use native.Mathlib.Omega.{arith}
 use native.Mathlib.Nat.{le-refl}
 use lib.ListN.{length}
+use Rattle.wire.specs.Limits.{noGreatest}
 use Rattle.meaning.specs.Sheet.{Sheet, Group, Son}
 use Rattle.meaning.specs.Tree.{Tree}
 use Rattle.reading.specs.SheetIn.{sizeLimit, Tabled}
 use Rattle.sizes.specs.Balanced.{isSon, Choice}
 use Rattle.sizes.specs.Span.{Span, none, In, meet}
-use Rattle.sizes.specs.Fold.{kindOf, later, own, Measured}
+use Rattle.sizes.specs.Fold.{joinKind, later, own, Measured}
 use Rattle.laws.specs.Cases.{split}
 use Rattle.meaning.proofs.SonLaws.{son-of}
 use Rattle.sizes.specs.LaterLaws.{later-none, later-son, later-skip}
 use Rattle.sizes.specs.Exact.{sound}
 use Rattle.sizes.specs.Bounds.{weight, weight-least}
 use Rattle.runs.specs.Told.{numberIn}
-use Rattle.measuring.specs.Held.{endless, topOf, spanOf, Alike}
+use Rattle.measuring.specs.Held.{topOf, spanOf, AlikeBoth}
 use Rattle.measuring.specs.HeldLaws.{none-of, some-of}
 use Rattle.measuring.specs.Pairs.{pairIn}
 use Rattle.measuring.specs.Done.{Lent, AllDone}
@@ -45,13 +46,13 @@ pub record Chose (s : Sheet) (may : ℕ → Bool → Bool) (c : Bool) (sizes mar
   pub lacking : r ≡ false → (f : ℕ → ℕ) (M : ℕ → Bool) → Choice s may f M → M 1 ≡ c → ⊥
 
 -- the fold depends on the spans of the sons only
-later-eq : (s : Sheet) (z y : ℕ → Bool → Span) (p : ℕ) → ((g : ℕ) → Son s p g → Alike (z g) (y g)) → (k : ℕ)
-    → Alike (later s z p k) (later s y p k)
+later-eq : (s : Sheet) (z y : ℕ → Bool → Span) (p : ℕ) → ((g : ℕ) → Son s p g → AlikeBoth (z g) (y g)) → (k : ℕ)
+    → AlikeBoth (later s z p k) (later s y p k)
 later-eq s z y p h zero c = later-none s z p c ∙ sym (later-none s y p c)
 later-eq s z y p h (suc k) c =
     split (isSon s p (s .size - k))
     (λ e. later-son s z p k c e
-    ∙ joined-alike (kindOf s p) (later-eq s z y p h k) (h (s .size - k) (son-of s p (s .size - k) (omega arith) e)) c
+    ∙ joined-alike (joinKind s p) (later-eq s z y p h k) (h (s .size - k) (son-of s p (s .size - k) (omega arith) e)) c
     ∙ sym (later-son s y p k c e))
     (λ e. later-skip s z p k c e ∙ later-eq s z y p h k c ∙ sym (later-skip s y p k c e))
 
@@ -101,5 +102,5 @@ module _ {s : Sheet} {may : ℕ → Bool → Bool} {z : ℕ → Bool → Span} {
   }
 
 -- the least number is in the span
-pub least-in : (l u : ℕ) → l ≤ u → u ≤ endless → In l (spanOf l u)
+pub least-in : (l u : ℕ) → l ≤ u → u ≤ noGreatest → In l (spanOf l u)
 least-in l u h k = in-some l u l (omega arith) .0 (le-refl l, h)

@@ -14,12 +14,12 @@ use Rattle.reading.specs.Tables.{groupIn}
 use Rattle.reading.specs.SheetIn.{sheetIn, Tabled}
 use Rattle.sizes.specs.Balanced.{Choice}
 use Rattle.sizes.specs.Span.{Span, In, Kind}
-use Rattle.sizes.specs.Fold.{kindOf, later, Measured}
+use Rattle.sizes.specs.Fold.{joinKind, later, Measured}
 use Rattle.laws.specs.Cases.{compare-eq}
 use Rattle.laws.specs.SumLaws.{bit-most}
 use Rattle.meaning.proofs.SonLaws.{son-parent}
 use Rattle.runs.specs.Told.{numberIn, number-same, number-other}
-use Rattle.measuring.specs.Held.{Alike, modeKind}
+use Rattle.measuring.specs.Held.{AlikeBoth, modeKind}
 use Rattle.measuring.specs.Tables.{kind-in}
 use Rattle.measuring.specs.Pairs.{pairIn}
 use Rattle.measuring.specs.Done.{Lent}
@@ -34,7 +34,7 @@ markedIn t g = eqb (getD t (g - 1) 0) 1
 pub record Folded (s : Sheet) (spans after : List ℕ) : Type 0 where
   pub may : ℕ → Bool → Bool
   pub measured : Measured s may (pairIn spans)
-  pub followed : (p g : ℕ) → Son s p g → Alike (pairIn after g) (later s (pairIn spans) p (s .size - g))
+  pub followed : (p g : ℕ) → Son s p g → AlikeBoth (pairIn after g) (later s (pairIn spans) p (s .size - g))
   pub lent : Lent (s .size) spans after
 
 -- the tables have room for n groups
@@ -89,7 +89,7 @@ module _ {s : Sheet} {may : ℕ → Bool → Bool} {z : ℕ → Bool → Span} (
       }
 
   pub divided-divisible : {sizes marks rest states : List ℕ} (p g : ℕ) → Son s p g → DividedTo s z sizes marks rest states (g - 1)
-      → Divisible (kindOf s p) (later s z p (s .size - g)) (z g) (numberIn rest p) (markedIn states p)
+      → Divisible (joinKind s p) (later s z p (s .size - g)) (z g) (numberIn rest p) (markedIn states p)
   divided-divisible p zero k w = absurd (omega (arith, k .group .first))
   divided-divisible p (suc i) k w =
       let e : suc i - 1 ≡ i = omega arith in
@@ -97,7 +97,7 @@ module _ {s : Sheet} {may : ℕ → Bool → Bool} {z : ℕ → Bool → Span} (
 
   pub divided-more : (sizes marks rest states : List ℕ) (p g x y : ℕ) (b d : Bool) → Son s p g
       → RoomFor (s .size) sizes marks rest states → DividedTo s z sizes marks rest states (g - 1)
-      → Shared (kindOf s p) (later s z p (s .size - g)) (z g) (numberIn rest p) (markedIn states p) x b y d
+      → Shared (joinKind s p) (later s z p (s .size - g)) (z g) (numberIn rest p) (markedIn states p) x b y d
       → DividedTo s z (set sizes (g - 1) y) (set marks (g - 1) (bit d)) (set (set rest (g - 1) y) (p - 1) x)
       (set (set states (g - 1) (bit d)) (p - 1) (bit b)) g
   divided-more sizes marks rest states p zero x y b d k l w v = absurd (omega (arith, k .group .first))
@@ -145,12 +145,12 @@ divided-all t w e o = record {
 }
 
 -- the same of spans that are equal in each state
-pub divisible-alike : (q : Kind) {a b z y : Bool → Span} (r : ℕ) (c : Bool) → Alike a b → Alike z y → Divisible q b y r c
+pub divisible-alike : (q : Kind) {a b z y : Bool → Span} (r : ℕ) (c : Bool) → AlikeBoth a b → AlikeBoth z y → Divisible q b y r c
     → Divisible q a z r c
 divisible-alike q r c e f w = (w .0, w .1, w .2, rw (e (w .0), f (w .1)) (w .3))
 
-pub shared-alike : {q : Kind} {a b z y : Bool → Span} {r : ℕ} {c : Bool} {x : ℕ} {i : Bool} {n : ℕ} {j : Bool} → Alike a b
-    → Alike z y
+pub shared-alike : {q : Kind} {a b z y : Bool → Span} {r : ℕ} {c : Bool} {x : ℕ} {i : Bool} {n : ℕ} {j : Bool} → AlikeBoth a b
+    → AlikeBoth z y
     → Shared q a z r c x i n j → Shared q b y r c x i n j
 shared-alike {i = i} {j = j} e f w = record {
   states = w .states;
@@ -161,9 +161,9 @@ shared-alike {i = i} {j = j} e f w = record {
 
 -- what the code reads of a son's parent and of the later sons, in the mathematics' terms
 pub kind-table : (t : List ℕ) (n p g k : ℕ) (q : Kind) → Tabled t n → Son (sheetIn t n) p g → k ≡ groupIn t (p - 1) .mode
-    → q ≡ modeKind k → q ≡ kindOf (sheetIn t n) p
+    → q ≡ modeKind k → q ≡ joinKind (sheetIn t n) p
 kind-table t n p g k q w i d e = e ∙ ap modeKind d ∙ sym (kind-in t n p (son-parent (w .tree) i))
 
 pub rest-table : {s : Sheet} {spans after : List ℕ} {x : Bool → Span} (p g : ℕ) → Folded s spans after → Son s p g
-    → Alike x (pairIn after g) → Alike x (later s (pairIn spans) p (s .size - g))
+    → AlikeBoth x (pairIn after g) → AlikeBoth x (later s (pairIn spans) p (s .size - g))
 rest-table p g w k e c = e c ∙ w .followed p g k c

@@ -10,7 +10,7 @@ use Rattle.meaning.specs.Sheet.{Sheet, Group, Son}
 use Rattle.meaning.specs.Tree.{Tree}
 use Rattle.sizes.specs.Balanced.{isSon, Choice}
 use Rattle.sizes.specs.Span.{Span, In, Kind, Makes, join}
-use Rattle.sizes.specs.Fold.{kindOf, later, Measured}
+use Rattle.sizes.specs.Fold.{joinKind, later, Measured}
 use Rattle.laws.specs.Cases.{compare-eq}
 use Rattle.meaning.proofs.SonLaws.{son-is, son-parent, no-son-before, one-parent}
 use Rattle.sizes.specs.JoinedLaws.{start-in}
@@ -45,7 +45,7 @@ pub record Shared (q : Kind) (a z : Bool → Span) (r : ℕ) (c : Bool) (x : ℕ
 -- one more group, g, a son of p: what changes in the four tables
 pub record Dividing (s : Sheet) (z : ℕ → Bool → Span) (f : ℕ → ℕ) (M : ℕ → Bool) (R : ℕ → ℕ) (C : ℕ → Bool)
     (f' : ℕ → ℕ) (M' : ℕ → Bool) (R' : ℕ → ℕ) (C' : ℕ → Bool) (p g : ℕ) : Type 0 where
-  pub share : Shared (kindOf s p) (later s z p (s .size - g)) (z g) (R p) (C p) (R' p) (C' p) (f' g) (M' g)
+  pub share : Shared (joinKind s p) (later s z p (s .size - g)) (z g) (R p) (C p) (R' p) (C' p) (f' g) (M' g)
   pub ownRest : R' g ≡ f' g
   pub ownState : C' g ≡ M' g
   pub numbers : (h : ℕ) → 1 ≤ h → (h ≡ g → ⊥) → f' h ≡ f h
@@ -79,7 +79,7 @@ leads-own {s} t g F x k G w u =
 
 -- the group before: a step over one more group
 leads-son : {s : Sheet} (p i : ℕ) (F F' : ℕ → ℕ) (x x' y : ℕ) → Son s p (suc i) → ((h : ℕ) → 1 ≤ h → h ≤ i → F' h ≡ F h)
-    → Makes (kindOf s p) x' (F' (suc i)) x → Leads s p F i x y → Leads s p F' (suc i) x' y
+    → Makes (joinKind s p) x' (F' (suc i)) x → Leads s p F i x y → Leads s p F' (suc i) x' y
 leads-son {s} p i F F' x x' y k same m w G a u =
     let e : s .size - i ≡ suc (s .size - suc i) = omega (arith, k .group .last) in
     let o : s .size - (s .size - suc i) ≡ suc i = omega (arith, k .group .last) in
@@ -117,7 +117,7 @@ module _ {s : Sheet} {may : ℕ → Bool → Bool} {z : ℕ → Bool → Span} (
   -- the number left to a group's later sons can be divided between the first of them and the others
   pub parted-divisible : {f : ℕ → ℕ} {M : ℕ → Bool} {R : ℕ → ℕ} {C : ℕ → Bool} (p i : ℕ) → Son s p (suc i)
       → Parted s z f M R C i
-      → Divisible (kindOf s p) (later s z p (s .size - suc i)) (z (suc i)) (R p) (C p)
+      → Divisible (joinKind s p) (later s z p (s .size - suc i)) (z (suc i)) (R p) (C p)
   parted-divisible {R = R} {C = C} p i k w =
       let q = son-parent t k in
       let e : s .size - i ≡ suc (s .size - suc i) = omega (arith, k .group .last) in

@@ -4,6 +4,7 @@ use mathlib.Core.Path.{_≡_, refl, sym, ap, _∙_}
 use mathlib.Core.Bool.{Bool, true, false, cond, false≢true}
 use mathlib.Core.Logic.{_↔_}
 use native.Mathlib.Omega.{arith}
+use Rattle.wire.specs.Limits.{noGreatest}
 use Rattle.laws.specs.Sum.{bit}
 use Rattle.meaning.specs.Sheet.{Top, fin, inf, AtMost}
 use Rattle.sizes.specs.Span.{Span, In, plus, Kind, lap, add, eq, Makes, join}
@@ -11,7 +12,7 @@ use Rattle.laws.specs.Cases.{compare-le, compare-eq}
 use Rattle.laws.specs.SumLaws.{bit-eq}
 use Rattle.sizes.specs.SpanLaws.{Proper, restOf, sonOf, join-in, in-meet, meet-join}
 use Rattle.sizes.specs.JoinedLaws.{makes-first, makes-second, makes-zero}
-use Rattle.measuring.specs.Held.{endless, topOf, spanOf}
+use Rattle.measuring.specs.Held.{topOf, spanOf}
 use Rattle.measuring.specs.HeldLaws.{none-of, some-of, top-end, top-fin, cap-top, less-top, join-none-left, join-none-right}
 use Rattle.choosing.specs.Parted.{Divisible, Shared}
 
@@ -64,17 +65,17 @@ states-right add a z r true false false w i j = absurd (last (w .0) (w .1) (w .2
     last false false m h = omega arith
 
 -- upper ends as numbers, for a number that is not above the one for no end
-pub at-top : (r u : ℕ) → r ≤ endless → (r ≤ u) ↔ AtMost r (topOf u)
+pub at-top : (r u : ℕ) → r ≤ noGreatest → (r ≤ u) ↔ AtMost r (topOf u)
 at-top r u l =
-    compare-eq u endless
+    compare-eq u noGreatest
     (λ e. rw (e, top-end) (λ h. tt, λ h. l))
     (λ n. rw (top-fin n) (λ h. h, λ h. h))
 
-pub at-plus-top : (r u v : ℕ) → r ≤ endless → (r - u ≤ v) ↔ AtMost r (plus (topOf u) (topOf v))
+pub at-plus-top : (r u v : ℕ) → r ≤ noGreatest → (r - u ≤ v) ↔ AtMost r (plus (topOf u) (topOf v))
 at-plus-top r u v l =
-    compare-eq u endless
+    compare-eq u noGreatest
     (λ e. rw (e, top-end) (λ h. any (topOf v), λ h. omega arith))
-    (λ n. compare-eq v endless
+    (λ n. compare-eq v noGreatest
     (λ e. rw (e, top-end, top-fin n) (λ h. tt, λ h. omega arith))
     (λ o. rw (top-fin n, top-fin o) (λ h. omega arith, λ h. omega arith)))
   where
@@ -82,32 +83,32 @@ at-plus-top r u v l =
     any (fin k) = tt
     any inf = tt
 
-pub proper-of : (l u : ℕ) → l ≤ endless → Proper (spanOf l u)
+pub proper-of : (l u : ℕ) → l ≤ noGreatest → Proper (spanOf l u)
 unfolding Proper
 proper-of l u b = compare-le l u (λ h. rw (some-of h) (at-top l u b .0 h)) (λ h. rw (none-of h) tt)
 
 -- the numbers of joined spans
-pub in-lap : {l u m v r : ℕ} → l ≤ u → m ≤ v → r ≤ endless → ((max l m ≤ r) × (r - u ≤ v)) ↔ In r (join lap (spanOf l u)
+pub in-lap : {l u m v r : ℕ} → l ≤ u → m ≤ v → r ≤ noGreatest → ((max l m ≤ r) × (r - u ≤ v)) ↔ In r (join lap (spanOf l u)
     (spanOf m v))
 unfolding join
 in-lap {l} {u} {m} {v} {r} h k b =
     let e = at-plus-top r u v b in
     rw (some-of h, some-of k) (λ w. (w .0, e .0 (w .1)), λ w. (w .0, e .1 (w .1)))
 
-pub in-add : {l u m v r : ℕ} → l ≤ u → m ≤ v → r ≤ endless → ((l + m ≤ r) × (r - u ≤ v)) ↔ In r (join add (spanOf l u)
+pub in-add : {l u m v r : ℕ} → l ≤ u → m ≤ v → r ≤ noGreatest → ((l + m ≤ r) × (r - u ≤ v)) ↔ In r (join add (spanOf l u)
     (spanOf m v))
 unfolding join
 in-add {l} {u} {m} {v} {r} h k b =
     let e = at-plus-top r u v b in
     rw (some-of h, some-of k) (λ w. (w .0, e .0 (w .1)), λ w. (w .0, e .1 (w .1)))
 
-pub in-some : (l u r : ℕ) → r ≤ endless → ((l ≤ r) × (r ≤ u)) ↔ In r (spanOf l u)
+pub in-some : (l u r : ℕ) → r ≤ noGreatest → ((l ≤ r) × (r ≤ u)) ↔ In r (spanOf l u)
 in-some l u r b =
     compare-le l u
     (λ h. let e = at-top r u b in rw (some-of h) (λ w. (w .0, e .0 (w .1)), λ w. (w .0, e .1 (w .1))))
     (λ h. rw (none-of h) (λ w. omega arith, λ w. absurd w))
 
-pub in-eq : (l u m v r : ℕ) → r ≤ endless → ((max l m ≤ r) × (r ≤ min u v)) ↔ In r (join eq (spanOf l u) (spanOf m v))
+pub in-eq : (l u m v r : ℕ) → r ≤ noGreatest → ((max l m ≤ r) × (r ≤ min u v)) ↔ In r (join eq (spanOf l u) (spanOf m v))
 in-eq l u m v r b =
     let i = in-some l u r b in
     let j = in-some m v r b in
@@ -125,11 +126,11 @@ in-none q l u m v r h = (
 )
 
 -- the part of the one son, and that of the later sons from it
-pub son-lap : {l u m v r : ℕ} → l ≤ u → m ≤ v → r ≤ endless → sonOf lap (spanOf l u) (spanOf m v) r ≡ min v r
+pub son-lap : {l u m v r : ℕ} → l ≤ u → m ≤ v → r ≤ noGreatest → sonOf lap (spanOf l u) (spanOf m v) r ≡ min v r
 unfolding sonOf
 son-lap {v = v} {r = r} h k b = rw (some-of h, some-of k) (cap-top v r b)
 
-pub son-add : {l u m v r : ℕ} → l ≤ u → m ≤ v → r ≤ endless → sonOf add (spanOf l u) (spanOf m v) r ≡ max m (r - u)
+pub son-add : {l u m v r : ℕ} → l ≤ u → m ≤ v → r ≤ noGreatest → sonOf add (spanOf l u) (spanOf m v) r ≡ max m (r - u)
 unfolding sonOf
 son-add {u = u} {r = r} h k b = rw (some-of h, some-of k, less-top r u b)
 
@@ -142,14 +143,14 @@ restBy lap u r y = min u r
 restBy add u r y = r - y
 restBy eq u r y = r
 
-rest-by : (q : Kind) (l u m v r : ℕ) → l ≤ u → m ≤ v → r ≤ endless
+rest-by : (q : Kind) (l u m v r : ℕ) → l ≤ u → m ≤ v → r ≤ noGreatest
     → restOf q (spanOf l u) (spanOf m v) r ≡ restBy q u r (sonOf q (spanOf l u) (spanOf m v) r)
 unfolding restOf restBy sonOf
 rest-by lap l u m v r h k b = rw (some-of h, some-of k) (cap-top u r b)
 rest-by add l u m v r h k b = rw (some-of h, some-of k)
 rest-by eq l u m v r h k b = rw (some-of h, some-of k)
 
-pub shared-right : (q : Kind) (a z : Bool → Span) (l u m v r x y : ℕ) (c b d : Bool) → l ≤ endless → m ≤ endless → r ≤ endless
+pub shared-right : (q : Kind) (a z : Bool → Span) (l u m v r x y : ℕ) (c b d : Bool) → l ≤ noGreatest → m ≤ noGreatest → r ≤ noGreatest
     → a b ≡ spanOf l u → z d ≡ spanOf m v → Makes q (bit b) (bit d) (bit c) → In r (join q (spanOf l u) (spanOf m v))
     → y ≡ sonOf q (spanOf l u) (spanOf m v) r → x ≡ restBy q u r y → Shared q a z r c x b y d
 shared-right q a z l u m v r x y c b d i j k e f s h n o =

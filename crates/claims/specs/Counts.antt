@@ -27,7 +27,7 @@ use Rattle.sizes.specs.Runs.{above-runs}
 use Rattle.sizes.specs.Possible.{Sizes, nowhere, sizes-choice, possible}
 use Rattle.sizes.specs.ClaimsPlace.{isIn, placeIn, place}
 use Rattle.sizes.specs.ClaimsCount.{rebound, narrowHi, narrowLo, narrowHi-sizes, narrowLo-sizes, narrowHi-choice, narrowLo-choice}
-use Rattle.sizes.specs.ClaimsMath.{Above, breakable-size, breakable-empty, empty-breaks, shown-breaks-count}
+use Rattle.sizes.specs.ClaimsMath.{MoreThan, breakable-size, breakable-empty, empty-breaks, shown-breaks-count}
 use Rattle.runs.specs.Told.{numberIn}
 use Rattle.reading.specs.SheetIn.{Tabled}
 use Rattle.reading.specs.SheetIn.{sheetIn, size-in, parent-in, lo-in, hi-in, disjoint-in, cover-in, same-in}
@@ -51,7 +51,7 @@ abbrev pub Under : ℕ → ℕ → (ℕ → ℕ) → Type 0
 Under g lo f = f g < lo
 
 abbrev pub Over : ℕ → Top → (ℕ → ℕ) → Type 0
-Over g hi f = Above (f g) hi
+Over g hi f = MoreThan (f g) hi
 
 -- the counts that numbers and marks in tables give
 abbrev pub counts : List ℕ → List ℕ → ℕ → ℕ

@@ -19,7 +19,7 @@ use Rattle.sizes.specs.Possible.{nowhere, sizes-choice, choice-sizes}
 use Rattle.laws.specs.Cases.{compare-eq}
 use Rattle.laws.specs.SumLaws.{bit-le-true}
 use Rattle.meaning.proofs.SonLaws.{son-parent}
-use Rattle.sizes.specs.ClaimsPlace.{isIn, placeIn, Placed, flags-placed, place}
+use Rattle.sizes.specs.ClaimsPlace.{isIn, placeIn, AtPlace, flags-placed, place}
 use Rattle.measuring.specs.Tables.{mayIn}
 use Rattle.choosing.specs.Divided.{markedIn}
 use Rattle.choosing.specs.Chosen.{Chose}
@@ -29,12 +29,12 @@ use Rattle.claims.specs.Judged.{Fitting, choice-allowed}
 
 -- some sets that fit have such a member
 abbrev pub PlaceHad : Sheet → List ℕ → List ℕ → Type 0
-PlaceHad s ins outs = (A : Sets ℕ) × Fits s A × (j : ℕ) × (j < A .bound) × Placed s ins outs (groupsOf A j)
+PlaceHad s ins outs = (A : Sets ℕ) × Fits s A × (j : ℕ) × (j < A .bound) × AtPlace s ins outs (groupsOf A j)
 
 -- numbers and marks of sets that fit, of which member 0 is one
 pub record PlaceShown (s : Sheet) (ins outs sizes marks : List ℕ) : Type 0 where
   pub fitting : Fitting s sizes marks
-  pub placed : Placed s ins outs (markedIn marks)
+  pub placed : AtPlace s ins outs (markedIn marks)
 
 abbrev pub PlaceJudged : Sheet → List ℕ → List ℕ → List ℕ → List ℕ → Bool → Type 0
 PlaceJudged s ins outs sizes marks x = Witnessed (PlaceShown s ins outs sizes marks) (PlaceHad s ins outs) x

@@ -7,7 +7,7 @@ use Rattle.meaning.specs.Sheet.{Sheet, Group, Son}
 use Rattle.reading.specs.SheetIn.{sheetIn, Tabled}
 use Rattle.sizes.specs.Span.{Span}
 use Rattle.sizes.specs.Fold.{later}
-use Rattle.measuring.specs.Held.{Alike}
+use Rattle.measuring.specs.Held.{AlikeBoth}
 use Rattle.measuring.specs.Links.{Links}
 use Rattle.measuring.specs.Pairs.{pairFields, pairIn}
 
@@ -17,7 +17,7 @@ pub data Within (s : Sheet) : ℕ → ℕ → Type 0 where
   below : {g i h : ℕ} → Son s g i → Within s i h → Within s g h
 
 -- h is at or below a son of g that comes after i
-pub record Under (s : Sheet) (g i h : ℕ) : Type 0 where
+pub record UnderLater (s : Sheet) (g i h : ℕ) : Type 0 where
   pub son : ℕ
   pub is : Son s g son
   pub after : i < son
@@ -25,10 +25,10 @@ pub record Under (s : Sheet) (g i h : ℕ) : Type 0 where
 
 -- the table has the spans of group h; the joined spans of the brothers after h
 abbrev pub Spanned : (ℕ → Bool → Span) → List ℕ → ℕ → Type 0
-Spanned z t h = Alike (pairIn t h) (z h)
+Spanned z t h = AlikeBoth (pairIn t h) (z h)
 
 abbrev pub Followed : Sheet → (ℕ → Bool → Span) → List ℕ → ℕ → Type 0
-Followed s z t h = Alike (pairIn t h) (later s z (s .parent h) (s .size - h))
+Followed s z t h = AlikeBoth (pairIn t h) (later s z (s .parent h) (s .size - h))
 
 -- what is right in the tables stays right
 pub record Stays (s : Sheet) (z : ℕ → Bool → Span) (spans after spans' after' : List ℕ) : Type 0 where
@@ -37,8 +37,8 @@ pub record Stays (s : Sheet) (z : ℕ → Bool → Span) (spans after spans' aft
 
 -- the groups at and below the sons of g after i are measured
 pub record Done (s : Sheet) (z : ℕ → Bool → Span) (g i : ℕ) (spans after spans' after' : List ℕ) : Type 0 where
-  pub spanned : (h : ℕ) → Under s g i h → Spanned z spans' h
-  pub followed : (h : ℕ) → Under s g i h → Followed s z after' h
+  pub spanned : (h : ℕ) → UnderLater s g i h → Spanned z spans' h
+  pub followed : (h : ℕ) → UnderLater s g i h → Followed s z after' h
   pub stays : Stays s z spans after spans' after'
 
 -- the tables beside that of n groups are long enough

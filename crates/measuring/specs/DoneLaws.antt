@@ -15,19 +15,19 @@ use Rattle.meaning.specs.Sons.{sonCount}
 use Rattle.reading.specs.Tables.{groupFields, groupIn}
 use Rattle.reading.specs.SheetIn.{sheetIn, Tabled, size-in, few-groups, lo-in, hi-in, disjoint-in, cover-in, same-in}
 use Rattle.sizes.specs.Span.{Span, Kind, meet}
-use Rattle.sizes.specs.Fold.{kindOf, shut, start, joined, later, own, Measured}
+use Rattle.sizes.specs.Fold.{joinKind, shut, start, joined, later, own, Measured}
 use Rattle.sizes.specs.Bounds.{topWeight, Small, span-small, later-small}
 use Rattle.sizes.specs.MeasuredLaws.{spans-measured}
 use Rattle.laws.specs.Cases.{compare-eq, compare-le, true-not-false}
 use Rattle.meaning.proofs.SonLaws.{son-is}
-use Rattle.measuring.specs.Held.{Alike, Room, RoomBoth, shutBy}
+use Rattle.measuring.specs.Held.{AlikeBoth, Room, RoomBoth, shutBy}
 use Rattle.measuring.specs.Tables.{mayIn, spansIn}
 use Rattle.measuring.specs.Links.{linkIn, sonBelow, Links}
 use Rattle.measuring.specs.LinksLaws.{count-by, below-gap, below-son, last-is, last-son, next-is, later-last, later-next}
 use Rattle.measuring.specs.Pairs.{pairIn, PairPut}
-use Rattle.measuring.specs.Done.{Within, here, below, Under, Spanned, Followed, Done, Readable, AllDone}
+use Rattle.measuring.specs.Done.{Within, here, below, UnderLater, Spanned, Followed, Done, Readable, AllDone}
 
-pub joined-alike : (q : Kind) {a b z y : Bool → Span} → Alike a b → Alike z y → Alike (joined q a z) (joined q b y)
+pub joined-alike : (q : Kind) {a b z y : Bool → Span} → AlikeBoth a b → AlikeBoth z y → AlikeBoth (joined q a z) (joined q b y)
 joined-alike q {a} {b} {z} {y} h k c = ap (λ u. joined q u z c) (fun-ext h) ∙ ap (λ u. joined q b u c) (fun-ext k)
 
 pub within-group : {s : Sheet} {g h : ℕ} → Group s g → Within s g h → Group s h
@@ -64,7 +64,7 @@ module _ (s : Sheet) (z : ℕ → Bool → Span) where
       (λ q. rw q (w .put))
       (λ q c. w .others h (k .first) q c ∙ e c)
 
-pub put-alike : {t u : List ℕ} {i : ℕ} {p q : Bool → Span} → Alike p q → PairPut t i p u → PairPut t i q u
+pub put-alike : {t u : List ℕ} {i : ℕ} {p q : Bool → Span} → AlikeBoth p q → PairPut t i p u → PairPut t i q u
 put-alike e w = record { put = λ c. w .put c ∙ e c; others = w .others }
 
 -- nothing is measured yet
@@ -77,18 +77,18 @@ done-none s z g spans after =
       stays = record { spanned = λ h k e. e; followed = λ h k e. e };
     }
   where
-    none : (h : ℕ) → Under s g (sonBelow s g (suc (s .size))) h → ⊥
+    none : (h : ℕ) → UnderLater s g (sonBelow s g (suc (s .size))) h → ⊥
     none h u =
         true-not-false _ (son-is (u .is)) (below-gap s g (suc (s .size)) (u .son) (u .after) (omega arith))
 
 -- a group at or below i
-within-cases {ℓ} : {P : Type ℓ} {s : Sheet} {i h : ℕ} → Within s i h → (h ≡ i → P) → (Under s i 0 h → P) → P
+within-cases {ℓ} : {P : Type ℓ} {s : Sheet} {i h : ℕ} → Within s i h → (h ≡ i → P) → (UnderLater s i 0 h → P) → P
 within-cases here a b = a refl
 within-cases (below {i = j} k w) a b = b (record { son = j; is = k; after = k .group .first; at = w })
 
 -- a group at or below a son of g from i on: i, one below i, or one at or below a later son
-under-cases {ℓ} : {P : Type ℓ} (s : Sheet) (g i h : ℕ) → Under s g (sonBelow s g i) h → (h ≡ i → P) → (Under s i 0 h → P)
-    → (Under s g i h → P) → P
+under-cases {ℓ} : {P : Type ℓ} (s : Sheet) (g i h : ℕ) → UnderLater s g (sonBelow s g i) h → (h ≡ i → P) → (UnderLater s i 0 h → P)
+    → (UnderLater s g i h → P) → P
 under-cases s g i h u a b c =
     compare-eq (u .son) i
     (λ e. within-cases (rw e at (u .at)) a b)
@@ -121,7 +121,7 @@ done-son s z g i t₀ a₀ t a t' a' a'' k d e m w =
     put : PairPut a' i (later s z (s .parent i) (s .size - i)) a''
     put = rw (k .under) w
 
-    group : (h : ℕ) → Under s g (sonBelow s g i) h → Group s h
+    group : (h : ℕ) → UnderLater s g (sonBelow s g i) h → Group s h
     group h u = within-group (u .is .group) (u .at)
 
 -- the spans of g are put when all below it are measured
@@ -205,7 +205,7 @@ pub record AtSon (s : Sheet) (z : ℕ → Bool → Span) (g i : ℕ) (sum : Bool
     (spans after spans' after' : List ℕ) : Type 0 where
   pub chain : 1 ≤ i → Son s g i
   pub done : Done s z g i spans after spans' after'
-  pub joins : Alike sum (later s z g (s .size - i))
+  pub joins : AlikeBoth sum (later s z g (s .size - i))
 
 module _ {t : List ℕ} {n : ℕ} {f last prev : List ℕ} (w : Readable t n f last prev) {g : ℕ} (k : Group (sheetIn t n) g) where
   measured : Measured (sheetIn t n) (mayIn f) (spansIn t n f)
@@ -215,7 +215,7 @@ module _ {t : List ℕ} {n : ℕ} {f last prev : List ℕ} (w : Readable t n f l
   same-last = last-is t n last prev (w .links) g k ∙ ap (λ m. sonBelow (sheetIn t n) g (suc m)) (sym (size-in t n))
 
   pub at-last : (i : ℕ) (sum : Bool → Span) (spans after : List ℕ) → i ≡ linkIn last g
-      → Alike sum (start (shut (sheetIn t n) g)) → AtSon (sheetIn t n) (spansIn t n f) g i sum spans after spans after
+      → AlikeBoth sum (start (shut (sheetIn t n) g)) → AtSon (sheetIn t n) (spansIn t n f) g i sum spans after spans after
   at-last i sum spans after e h =
       let d = e ∙ same-last in
       record {
@@ -227,7 +227,7 @@ module _ {t : List ℕ} {n : ℕ} {f last prev : List ℕ} (w : Readable t n f l
   pub at-next : {i j : ℕ} {sum : Bool → Span} (sum' y : Bool → Span) {t₀ a₀ t₁ a₁ t₂ a₂ a₃ : List ℕ}
       → AtSon (sheetIn t n) (spansIn t n f) g i sum t₀ a₀ t₁ a₁ → 1 ≤ i
       → Done (sheetIn t n) (spansIn t n f) i 0 t₁ a₁ t₂ a₂ → Spanned (spansIn t n f) t₂ i → PairPut a₂ i sum a₃
-      → Alike y (pairIn t₂ i) → Alike sum' (joined (kindOf (sheetIn t n) g) sum y) → j ≡ linkIn prev i
+      → AlikeBoth y (pairIn t₂ i) → AlikeBoth sum' (joined (joinKind (sheetIn t n) g) sum y) → j ≡ linkIn prev i
       → AtSon (sheetIn t n) (spansIn t n f) g j sum' t₀ a₀ t₂ a₃
   at-next {i} {j} sum' y {t₀} {a₀} {t₁} {a₁} {t₂} {a₂} {a₃} a l d m p v q e =
       let s = sheetIn t n in
@@ -237,20 +237,20 @@ module _ {t : List ℕ} {n : ℕ} {f last prev : List ℕ} (w : Readable t n f l
         chain = rw b (below-son s g i (omega arith));
         done = rw b (done-son s (spansIn t n f) g i t₀ a₀ t₁ a₁ t₂ a₂ a₃ son (a .done) d m (put-alike (a .joins) p));
         joins = λ c. q c
-            ∙ joined-alike (kindOf s g) (a .joins) (λ b. v b ∙ m b) c
+            ∙ joined-alike (joinKind s g) (a .joins) (λ b. v b ∙ m b) c
             ∙ sym (rw b (later-next s (spansIn t n f) g i son c));
       }
 
-  pub at-end : {i : ℕ} {sum : Bool → Span} {t₀ a₀ t₁ a₁ : List ℕ} → AtSon (sheetIn t n) (spansIn t n f) g i sum t₀ a₀ t₁ a₁
+  pub all-joined : {i : ℕ} {sum : Bool → Span} {t₀ a₀ t₁ a₁ : List ℕ} → AtSon (sheetIn t n) (spansIn t n f) g i sum t₀ a₀ t₁ a₁
       → i ≡ 0
-      → Done (sheetIn t n) (spansIn t n f) g 0 t₀ a₀ t₁ a₁ × Alike sum (later (sheetIn t n) (spansIn t n f) g n)
-  at-end {i} a e =
+      → Done (sheetIn t n) (spansIn t n f) g 0 t₀ a₀ t₁ a₁ × AlikeBoth sum (later (sheetIn t n) (spansIn t n f) g n)
+  all-joined {i} a e =
       let m : sheetIn t n .size - i ≡ n = omega (arith, size-in t n) in
       (rw e at (a .done), λ c. a .joins c ∙ ap (λ m. later (sheetIn t n) (spansIn t n f) g m c) m)
 
   -- the sons give the group
-  pub finished : (p : Bool → Span) → Alike p (later (sheetIn t n) (spansIn t n f) g n) → (r : Bool → Span)
-      → Alike r (λ c. meet (p c) (own (sheetIn t n) (mayIn f) g c)) → Alike r (spansIn t n f g)
+  pub finished : (p : Bool → Span) → AlikeBoth p (later (sheetIn t n) (spansIn t n f) g n) → (r : Bool → Span)
+      → AlikeBoth r (λ c. meet (p c) (own (sheetIn t n) (mayIn f) g c)) → AlikeBoth r (spansIn t n f g)
   finished p h r e c =
       e c
       ∙ ap (λ u. meet u (own (sheetIn t n) (mayIn f) g c))
@@ -265,7 +265,7 @@ module _ {t : List ℕ} {n : ℕ} {f last prev : List ℕ} (w : Readable t n f l
         rw (a .joins c)
         (room-later (w .long .tabled) b measured g (sheetIn t n .size - i) c (omega (arith, size-in t n)))
 
-    pub room-son : {i : ℕ} {y : Bool → Span} (u : List ℕ) → Group (sheetIn t n) i → Alike y (pairIn u i)
+    pub room-son : {i : ℕ} {y : Bool → Span} (u : List ℕ) → Group (sheetIn t n) i → AlikeBoth y (pairIn u i)
         → Spanned (spansIn t n f) u i
         → RoomBoth y
     room-son {i} u j v m c = rw (v c ∙ m c) (room-span (w .long .tabled) b measured i j c)

@@ -14,12 +14,9 @@ use Rattle.measuring.specs.declared.spans.Pair.{Pair as PairCode}
 use Rattle.measuring.specs.declared.spans.Kind.{Kind as KindCode}
 use Rattle.measuring.specs.declared.spans.Kind.the-variants.{Lap, Add, Eq}
 
--- the number that stands for no upper end, in tables as in a reply
-abbrev pub endless : ℕ
-endless = noGreatest
-
+-- an upper end as tables and replies have it
 unfoldable pub topOf : ℕ → Top
-topOf m = cond (eqb m endless) inf (fin m)
+topOf m = cond (eqb m noGreatest) inf (fin m)
 
 -- the numbers from l to m, none where l is above m
 unfoldable pub spanOf : ℕ → ℕ → Span
@@ -34,8 +31,8 @@ pairOf p false = spanHeld (p .out)
 pairOf p true = spanHeld (p .inn)
 
 -- equal in both states
-abbrev pub Alike : (Bool → Span) → (Bool → Span) → Type 0
-Alike f h = (c : Bool) → f c ≡ h c
+abbrev pub AlikeBoth : (Bool → Span) → (Bool → Span) → Type 0
+AlikeBoth f h = (c : Bool) → f c ≡ h c
 
 abbrev pub kindHeld : KindCode → Kind
 kindHeld Lap = lap
@@ -44,7 +41,7 @@ kindHeld Eq = eq
 
 -- ends that leave room for one sum
 abbrev pub EndRoom : ℕ → Type 0
-EndRoom m = (m ≡ endless → ⊥) → m ≤ sizeLimit
+EndRoom m = (m ≡ noGreatest → ⊥) → m ≤ sizeLimit
 
 abbrev pub Room : Span → Type 0
 Room s = weight s ≤ sizeLimit

@@ -15,7 +15,7 @@ use Rattle.meaning.specs.Sons.{isSon, sonCount}
 use Rattle.reading.specs.Tables.{groupIn}
 use Rattle.reading.specs.SheetIn.{sheetIn, size-in, group-in, parent-in}
 use Rattle.sizes.specs.Span.{Span}
-use Rattle.sizes.specs.Fold.{kindOf, shut, start, joined, later}
+use Rattle.sizes.specs.Fold.{joinKind, shut, start, joined, later}
 use Rattle.laws.specs.Cases.{split, compare-eq, compare-le, below-suc, true-not-false, not-true-false}
 use Rattle.meaning.proofs.SonLaws.{son-of, son-is, no-son-before}
 use Rattle.sizes.specs.RuleSteps.{no-son}
@@ -196,7 +196,7 @@ module _ (s : Sheet) (z : ℕ → Bool → Span) (p : ℕ) where
 
   -- at the brother before son i, that son is joined
   pub later-next : (i : ℕ) → Son s p i → (c : Bool)
-      → later s z p (s .size - sonBelow s p i) c ≡ joined (kindOf s p) (later s z p (s .size - i)) (z i) c
+      → later s z p (s .size - sonBelow s p i) c ≡ joined (joinKind s p) (later s z p (s .size - i)) (z i) c
   later-next zero k c = absurd (omega arith)
   later-next (suc i) k c =
       let b = below-most s p i in
@@ -205,7 +205,7 @@ module _ (s : Sheet) (z : ℕ → Bool → Span) (p : ℕ) where
       (λ j l h. below-gap s p (suc i) j l (omega arith)) c
       ∙ later-same _ (suc (s .size - suc i)) c (omega arith)
       ∙ later-son s z p (s .size - suc i) c (rw m (son-is k))
-      ∙ ap (λ j. joined (kindOf s p) (later s z p (s .size - suc i)) (z j) c) m
+      ∙ ap (λ j. joined (joinKind s p) (later s z p (s .size - suc i)) (z j) c) m
 
 -- the links of the sheet in a table
 module _ (t : List ℕ) (n : ℕ) where

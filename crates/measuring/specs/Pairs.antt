@@ -7,7 +7,7 @@ use native.Mathlib.Omega.{arith}
 use lib.ListN.{length, getD, set, length-set}
 use lib.Seq.{getD-set-same, getD-set-other}
 use Rattle.sizes.specs.Span.{Span}
-use Rattle.measuring.specs.Held.{spanOf, Alike}
+use Rattle.measuring.specs.Held.{spanOf, AlikeBoth}
 use Rattle.measuring.specs.HeldLaws.{span-eq}
 
 -- numbers of a pair
@@ -21,8 +21,8 @@ pairIn t g true = spanOf (getD t (pairFields * (g - 1) + 2) 0) (getD t (pairFiel
 
 -- u is t with the spans p at group g
 pub record PairPut (t : List ℕ) (g : ℕ) (p : Bool → Span) (u : List ℕ) : Type 0 where
-  pub put : Alike (pairIn u g) p
-  pub others : (h : ℕ) → 1 ≤ h → (h ≡ g → ⊥) → Alike (pairIn u h) (pairIn t h)
+  pub put : AlikeBoth (pairIn u g) p
+  pub others : (h : ℕ) → 1 ≤ h → (h ≡ g → ⊥) → AlikeBoth (pairIn u h) (pairIn t h)
 
 -- the four stores
 abbrev pub stored : List ℕ → ℕ → ℕ → ℕ → ℕ → ℕ → List ℕ
@@ -65,10 +65,10 @@ module _ (t : List ℕ) (k a b c d : ℕ) where
     stored-3 : getD (stored t k a b c d) (k + 3) 0 ≡ d
     stored-3 = getD-set-same three (k + 3) d 0 (simp length-set (omega arith))
 
-pub stored-put : (t : List ℕ) (g a b c d : ℕ) (p : Bool → Span) → 1 ≤ g → pairFields * g ≤ length t → p false ≡ spanOf a b
+pub pair-put : (t : List ℕ) (g a b c d : ℕ) (p : Bool → Span) → 1 ≤ g → pairFields * g ≤ length t → p false ≡ spanOf a b
     → p true ≡ spanOf c d → PairPut t g p (stored t (pairFields * (g - 1)) a b c d)
 unfolding pairIn
-stored-put t g a b c d p l r e f = record { put = at; others = other }
+pair-put t g a b c d p l r e f = record { put = at; others = other }
   where
     at : (q : Bool) → pairIn (stored t (pairFields * (g - 1)) a b c d) g q ≡ p q
     at false =

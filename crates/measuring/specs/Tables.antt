@@ -9,7 +9,7 @@ use Rattle.meaning.specs.OfRecords.{endOf}
 use Rattle.reading.specs.Tables.{groupIn}
 use Rattle.reading.specs.SheetIn.{sheetIn, lo-in, hi-in, disjoint-in, same-in}
 use Rattle.sizes.specs.Span.{Span, none}
-use Rattle.sizes.specs.Fold.{kindOf, ownTo, own}
+use Rattle.sizes.specs.Fold.{joinKind, ownTo, own}
 use Rattle.sizes.specs.MeasuredLaws.{spansOf}
 use Rattle.measuring.specs.Held.{mayFlag, modeKind}
 
@@ -22,8 +22,8 @@ abbrev pub spansIn : List ℕ → ℕ → List ℕ → ℕ → Bool → Span
 spansIn t n f = spansOf (sheetIn t n) (mayIn f)
 
 module _ (t : List ℕ) (n g : ℕ) (k : Group (sheetIn t n) g) where
-  pub kind-in : kindOf (sheetIn t n) g ≡ modeKind (groupIn t (g - 1) .mode)
-  unfolding kindOf modeKind
+  pub kind-in : joinKind (sheetIn t n) g ≡ modeKind (groupIn t (g - 1) .mode)
+  unfolding joinKind modeKind
   kind-in = rw (same-in t n g k, disjoint-in t n g k)
 
   pub own-in : (f : List ℕ) (c : Bool) → own (sheetIn t n) (mayIn f) g c

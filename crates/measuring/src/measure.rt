@@ -22,7 +22,7 @@ ghost use Rattle.reading.specs.Tables.{groupFields};
 ghost use Rattle.reading.specs.SheetIn.{sheetIn};
 ghost use Rattle.sizes.specs.Span as sizes;
 ghost use Rattle.sizes.specs.Fold as fold;
-ghost use Rattle.measuring.specs.Held.{pairOf, Alike, RoomBoth, shutBy};
+ghost use Rattle.measuring.specs.Held.{pairOf, AlikeBoth, RoomBoth, shutBy};
 ghost use Rattle.measuring.specs.Tables.{mayIn, spansIn};
 ghost use Rattle.measuring.specs.Links.{Links};
 ghost use Rattle.measuring.specs.Done.{Long, Readable, Lent, Done, Spanned, AllDone};
@@ -47,7 +47,7 @@ fn start_of(groups: &[u16], size: u16, last: &[u16], prev: &[u16], g: GroupNo) -
     requires { ⌜ (groupFields * size ≤ length (now groups)) × (size ≤ length (now last)) × (size ≤ length (now prev)) ⌝ }
     requires { ⌜ Group (sheetIn (now groups) size) (g .0) ⌝ }
     requires { ⌜ Links (sheetIn (now groups) size) (now last) (now prev) size ⌝ }
-    ensures { λ r. ⌜ Alike (pairOf r) (fold.start (fold.shut (sheetIn (now (groups .entry)) size) (g .0))) ⌝ }
+    ensures { λ r. ⌜ AlikeBoth (pairOf r) (fold.start (fold.shut (sheetIn (now (groups .entry)) size) (g .0))) ⌝ }
 {
     let son = link_at(last, g);
     let other = link_at(prev, son);
@@ -66,7 +66,7 @@ fn flag_at(flags: &[u8], g: GroupNo) -> u8
 fn finish(groups: &[u16], size: u16, flags: &[u8], below: Pair, g: GroupNo) -> Pair
     requires { ⌜ (groupFields * size ≤ length (now groups)) × (size ≤ length (now flags)) ⌝ }
     requires { ⌜ Group (sheetIn (now groups) size) (g .0) ⌝ }
-    ensures { λ r. ⌜ Alike (pairOf r) (λ c. sizes.meet (pairOf below c)
+    ensures { λ r. ⌜ AlikeBoth (pairOf r) (λ c. sizes.meet (pairOf below c)
         (fold.own (sheetIn (now (groups .entry)) size) (mayIn (now (flags .entry))) (g .0) c)) ⌝ }
 {
     meet_pairs(
@@ -80,8 +80,8 @@ fn join_son(groups: &[u16], size: u16, g: GroupNo, sum: Pair, z: Pair) -> Pair
     requires { ⌜ groupFields * size ≤ length (now groups) ⌝ }
     requires { ⌜ Group (sheetIn (now groups) size) (g .0) ⌝ }
     requires { ⌜ RoomBoth (pairOf sum) × RoomBoth (pairOf z) ⌝ }
-    ensures { λ r. ⌜ Alike (pairOf r)
-        (fold.joined (fold.kindOf (sheetIn (now (groups .entry)) size) (g .0)) (pairOf sum) (pairOf z)) ⌝ }
+    ensures { λ r. ⌜ AlikeBoth (pairOf r)
+        (fold.joined (fold.joinKind (sheetIn (now (groups .entry)) size) (g .0)) (pairOf sum) (pairOf z)) ⌝ }
 {
     join_pairs(kind_of(mode_of(groups, g)), sum, z)
 }
@@ -125,7 +125,7 @@ fn measure_sons(
     requires { ⌜ Group (sheetIn (now groups) size) (g .0) ⌝ }
     ensures { λ r. ⌜ Done (sheetIn (now (groups .entry)) size) (spansIn (now (groups .entry)) size (now (flags .entry)))
         (g .0) 0 (now (spans .entry)) (now (after .entry)) (now (spans .exit)) (now (after .exit)) ⌝ }
-    ensures { λ r. ⌜ Alike (pairOf r) (fold.later (sheetIn (now (groups .entry)) size)
+    ensures { λ r. ⌜ AlikeBoth (pairOf r) (fold.later (sheetIn (now (groups .entry)) size)
         (spansIn (now (groups .entry)) size (now (flags .entry))) (g .0) size) ⌝ }
 {
     let mut sum = start_of(groups, size, last, prev, g);

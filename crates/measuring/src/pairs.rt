@@ -6,7 +6,7 @@ use reading::tables::GROUP_CAPACITY;
 use reading::tables::GroupNo;
 ghost use Prim.Native.Nat.{_*_, _≤_};
 ghost use lib.ListN.{length};
-ghost use Rattle.measuring.specs.Held.{pairOf, Alike};
+ghost use Rattle.measuring.specs.Held.{pairOf, AlikeBoth};
 ghost use Rattle.measuring.specs.Pairs.{pairFields, pairIn, PairPut};
 
 // Numbers of a pair, and the length of a table of pairs for any sheet.
@@ -16,7 +16,7 @@ pub const PAIR_TABLE: usize = PAIR_FIELDS * GROUP_CAPACITY;
 
 pub fn pair_at(t: &[u32], g: GroupNo) -> Pair
     requires { ⌜ (1 ≤ g .0) × (pairFields * (g .0) ≤ length (now t)) ⌝ }
-    ensures { λ r. ⌜ Alike (pairOf r) (pairIn (now (t .entry)) (g .0)) ⌝ }
+    ensures { λ r. ⌜ AlikeBoth (pairOf r) (pairIn (now (t .entry)) (g .0)) ⌝ }
 {
     let i = g.0 as usize;
     let k = PAIR_FIELDS * (i - 1);

@@ -4,16 +4,17 @@ use reading::tables::NO_END;
 ghost use mathlib.Core.Path.{_≡_};
 ghost use mathlib.Core.Bool.{true, false, cond};
 ghost use Prim.Native.Nat.{_+_, _-_, min, max};
+ghost use Rattle.wire.specs.Limits.{noGreatest};
 ghost use Rattle.meaning.specs.OfRecords.{endOf};
 ghost use Rattle.sizes.specs.Span as sizes;
 ghost use Rattle.sizes.specs.Fold as fold;
-ghost use Rattle.measuring.specs.Held.{endless, topOf, EndRoom, spanHeld, Room, kindHeld, mayFlag, modeKind};
-ghost use Rattle.measuring.specs.Held.{pairOf, RoomBoth, Alike};
+ghost use Rattle.measuring.specs.Held.{topOf, EndRoom, spanHeld, Room, kindHeld, mayFlag, modeKind};
+ghost use Rattle.measuring.specs.Held.{pairOf, RoomBoth, AlikeBoth};
 
 // stands for no upper end; no sum of upper ends reaches it
-pub const ENDLESS: u32 = 4294967295;
+pub const NO_GREATEST: u32 = 4294967295;
 
-// The numbers from `least` to `most`, or from `least` on where `most` is ENDLESS; none where `least` is above `most`.
+// The numbers from `least` to `most`, or from `least` on where `most` is NO_GREATEST; none where `least` is above `most`.
 pub struct Span {
     pub least: u32,
     pub most: u32,
@@ -54,13 +55,13 @@ pub fn minus(a: u32, b: u32) -> u32
 // the sum of two upper ends
 fn plus(a: u32, b: u32) -> u32
     requires { ⌜ EndRoom a × EndRoom b ⌝ }
-    ensures { λ r. ⌜ (topOf r ≡ sizes.plus (topOf a) (topOf b)) × (r ≡ min (a + b) endless) ⌝ }
+    ensures { λ r. ⌜ (topOf r ≡ sizes.plus (topOf a) (topOf b)) × (r ≡ min (a + b) noGreatest) ⌝ }
 {
-    if a == ENDLESS {
-        return ENDLESS;
+    if a == NO_GREATEST {
+        return NO_GREATEST;
     }
-    if b == ENDLESS {
-        return ENDLESS;
+    if b == NO_GREATEST {
+        return NO_GREATEST;
     }
     a + b
 }
@@ -131,7 +132,7 @@ fn add(a: Span, b: Span) -> Span
 
 pub fn lap_pairs(a: Pair, z: Pair) -> Pair
     requires { ⌜ RoomBoth (pairOf a) × RoomBoth (pairOf z) ⌝ }
-    ensures { λ r. ⌜ Alike (pairOf r) (fold.joined sizes.lap (pairOf a) (pairOf z)) ⌝ }
+    ensures { λ r. ⌜ AlikeBoth (pairOf r) (fold.joined sizes.lap (pairOf a) (pairOf z)) ⌝ }
 {
     let one = hull(lap(a.inn, z.out), lap(a.out, z.inn));
     Pair {
@@ -142,7 +143,7 @@ pub fn lap_pairs(a: Pair, z: Pair) -> Pair
 
 pub fn add_pairs(a: Pair, z: Pair) -> Pair
     requires { ⌜ RoomBoth (pairOf a) × RoomBoth (pairOf z) ⌝ }
-    ensures { λ r. ⌜ Alike (pairOf r) (fold.joined sizes.add (pairOf a) (pairOf z)) ⌝ }
+    ensures { λ r. ⌜ AlikeBoth (pairOf r) (fold.joined sizes.add (pairOf a) (pairOf z)) ⌝ }
 {
     Pair {
         out: add(a.out, z.out),
@@ -151,7 +152,7 @@ pub fn add_pairs(a: Pair, z: Pair) -> Pair
 }
 
 pub fn meet_pairs(a: Pair, z: Pair) -> Pair
-    ensures { λ r. ⌜ Alike (pairOf r) (λ c. sizes.meet (pairOf a c) (pairOf z c)) ⌝ }
+    ensures { λ r. ⌜ AlikeBoth (pairOf r) (λ c. sizes.meet (pairOf a c) (pairOf z c)) ⌝ }
 {
     Pair {
         out: meet(a.out, z.out),
@@ -162,7 +163,7 @@ pub fn meet_pairs(a: Pair, z: Pair) -> Pair
 // one more son, with intervals z, joined to those joined so far, a
 pub fn join_pairs(k: Kind, a: Pair, z: Pair) -> Pair
     requires { ⌜ RoomBoth (pairOf a) × RoomBoth (pairOf z) ⌝ }
-    ensures { λ r. ⌜ Alike (pairOf r) (fold.joined (kindHeld k) (pairOf a) (pairOf z)) ⌝ }
+    ensures { λ r. ⌜ AlikeBoth (pairOf r) (fold.joined (kindHeld k) (pairOf a) (pairOf z)) ⌝ }
 {
     match k {
         Kind::Lap => lap_pairs(a, z),
@@ -173,7 +174,7 @@ pub fn join_pairs(k: Kind, a: Pair, z: Pair) -> Pair
 
 // the intervals before any son is joined; `shut`: the sons alone must make up the group
 pub fn start(shut: bool) -> Pair
-    ensures { λ r. ⌜ Alike (pairOf r) (fold.start shut) ⌝ }
+    ensures { λ r. ⌜ AlikeBoth (pairOf r) (fold.start shut) ⌝ }
 {
     if shut {
         return Pair {
@@ -184,11 +185,11 @@ pub fn start(shut: bool) -> Pair
     Pair {
         out: Span {
             least: 0,
-            most: ENDLESS,
+            most: NO_GREATEST,
         },
         inn: Span {
             least: 0,
-            most: ENDLESS,
+            most: NO_GREATEST,
         },
     }
 }
@@ -200,7 +201,7 @@ fn own_out(lo: u16, hi: u16) -> Span
     if hi == NO_END {
         return Span {
             least: lo as u32,
-            most: ENDLESS,
+            most: NO_GREATEST,
         };
     }
     Span {
@@ -221,7 +222,7 @@ fn own_in(lo: u16, hi: u16) -> Span
     if hi == NO_END {
         return Span {
             least: less_one(lo),
-            most: ENDLESS,
+            most: NO_GREATEST,
         };
     }
     if hi == 0 {
@@ -235,7 +236,7 @@ fn own_in(lo: u16, hi: u16) -> Span
 
 // the same where the flag lets the member be out of the group (1) and in it (2), none where it does not
 pub fn own_pair(lo: u16, hi: u16, flag: u8) -> Pair
-    ensures { λ r. ⌜ Alike (pairOf r) (λ c. cond (mayFlag flag c) (fold.ownTo lo (endOf hi) c) sizes.none) ⌝ }
+    ensures { λ r. ⌜ AlikeBoth (pairOf r) (λ c. cond (mayFlag flag c) (fold.ownTo lo (endOf hi) c) sizes.none) ⌝ }
 {
     if flag % 2 == 1 {
         if flag / 2 % 2 == 1 {

@@ -4,26 +4,27 @@ use mathlib.Core.Path.{_≡_, refl, sym, ap}
 use mathlib.Core.Bool.{true, false, cond}
 use native.Mathlib.Omega.{arith}
 use borrow.Author.Tests.{le-leb, lt-leb}
+use Rattle.wire.specs.Limits.{noGreatest}
 use Rattle.meaning.specs.Sheet.{Top, fin, inf}
 use Rattle.sizes.specs.Span.{Span, none, span, make, meet, Kind, lap, add, eq, less, shorter, reaches, pull}
 use Rattle.laws.specs.Cases.{compare-eq}
-use Rattle.measuring.specs.Held.{endless, topOf, spanOf}
+use Rattle.measuring.specs.Held.{topOf, spanOf}
 use Rattle.measuring.specs.HeldLaws.{some-of, top-end, top-fin, less-top, make-of}
 
 -- an upper end less a number, and whether a number reaches it
-pub shorter-end : (u a : ℕ) → u ≡ endless → topOf endless ≡ shorter (topOf u) a
+pub shorter-end : (u a : ℕ) → u ≡ noGreatest → topOf noGreatest ≡ shorter (topOf u) a
 shorter-end u a e = rw (e, top-end)
 
-pub shorter-fin : (u a : ℕ) → u ≤ endless → (u ≡ endless → ⊥) → topOf (u - a) ≡ shorter (topOf u) a
+pub shorter-fin : (u a : ℕ) → u ≤ noGreatest → (u ≡ noGreatest → ⊥) → topOf (u - a) ≡ shorter (topOf u) a
 shorter-fin u a h n = rw (top-fin n, top-fin {m = u - a} (λ e. n (omega arith)))
 
-pub reaches-top : (m u : ℕ) → m ≤ endless → m ≤ u → reaches m (topOf u) ≡ true
+pub reaches-top : (m u : ℕ) → m ≤ noGreatest → m ≤ u → reaches m (topOf u) ≡ true
 reaches-top m u h k =
-    compare-eq u endless
+    compare-eq u noGreatest
     (λ e. rw (e, top-end))
     (λ e. rw (top-fin e) (le-leb m u k))
 
-pub reaches-not : (m u : ℕ) → m ≤ endless → u < m → reaches m (topOf u) ≡ false
+pub reaches-not : (m u : ℕ) → m ≤ noGreatest → u < m → reaches m (topOf u) ≡ false
 reaches-not m u h k = rw (top-fin {m = u} (λ e. omega arith)) (lt-leb m u k)
 
 -- nothing is pulled out of nothing, nor with nothing beside it
@@ -48,11 +49,11 @@ pull-eq-meet (span l u) (span m v) = refl
 unfoldable pub pullBy : ℕ → ℕ → Top → ℕ → Top → Span
 pullBy c l u m v = cond (reaches m u) (make (less l v) (shorter u c)) none
 
-pub by-none : (c l u m : ℕ) (v : Top) → m ≤ endless → u < m → pullBy c l (topOf u) m v ≡ none
+pub by-none : (c l u m : ℕ) (v : Top) → m ≤ noGreatest → u < m → pullBy c l (topOf u) m v ≡ none
 unfolding pullBy
 by-none c l u m v b h = rw (reaches-not m u b h)
 
-pub by-some : (c l u m v w : ℕ) → l ≤ endless → m ≤ endless → m ≤ u → topOf w ≡ shorter (topOf u) c
+pub by-some : (c l u m v w : ℕ) → l ≤ noGreatest → m ≤ noGreatest → m ≤ u → topOf w ≡ shorter (topOf u) c
     → spanOf (l - v) w ≡ pullBy c l (topOf u) m (topOf v)
 unfolding pullBy
 by-some c l u m v w a b h e = rw (reaches-top m u b h, less-top l v a, ← e) (sym (make-of (l - v) w (omega arith)))

@@ -18,7 +18,7 @@ use Rattle.reading.specs.Tables.{groupIn}
 use Rattle.reading.specs.SheetIn.{sheetIn, sizeLimit, Tabled, disjoint-in, cover-in, same-in}
 use Rattle.sizes.specs.Balanced.{isSon, only, sons}
 use Rattle.sizes.specs.Span.{Span, span, plus, add, join}
-use Rattle.sizes.specs.Fold.{kindOf, shut, start, joined, later, Measured}
+use Rattle.sizes.specs.Fold.{joinKind, shut, start, joined, later, Measured}
 use Rattle.sizes.specs.Ranged.{free}
 use Rattle.laws.specs.Cases.{split, compare-le, compare-eq}
 use Rattle.laws.specs.SumLaws.{sum-zero, sum-suc}
@@ -26,7 +26,7 @@ use Rattle.meaning.proofs.SonLaws.{son-of, son-is, son-parent, no-son-before, o
 use Rattle.sizes.specs.RuleSteps.{kind-disjoint, shut-cover}
 use Rattle.sizes.specs.LaterLaws.{later-none, later-son, later-skip}
 use Rattle.sizes.specs.Possible.{Sizes, possible}
-use Rattle.sizes.specs.RangeExact.{span-ends}
+use Rattle.sizes.specs.RangeExact.{span-has-ends}
 use Rattle.sizes.specs.ArrangedFits.{arranged-sizes, arranged-exists}
 use Rattle.sizes.specs.ArrangedAlike.{arranged-eq}
 use Rattle.sizes.specs.Bounds.{weight-least}
@@ -78,12 +78,12 @@ module _ {groups spans after : List ℕ} {n : ℕ} (k : Arrangeable groups n spa
   unfolding pairIn
   span-told g q =
       let w = possible (k .tabled .tree) .0 (k .fit) in
-      let e = span-ends (k .tabled .tree) (k .tabled .rooted) (k .measured) (w .0) (w .1) g q in
+      let e = span-has-ends (k .tabled .tree) (k .tabled .rooted) (k .measured) (w .0) (w .1) g q in
       let d = k .measures .spanned g q in
       sym d ∙ span-of-ends _ _ (e .0) (e .1) (d ∙ e .2)
 
   -- the least of the sons of p among the last i groups, together
-  later-least : (p : ℕ) → kindOf s p ≡ add → shut s p ≡ true → (i : ℕ) → i ≤ s .size
+  later-least : (p : ℕ) → joinKind s p ≡ add → shut s p ≡ true → (i : ℕ) → i ≤ s .size
       → (l : ℕ) × (u : Top) × (later s (k .z) p i false ≡ span l u)
       × (l + sum (only s p (leastIn spans)) (suc (s .size - i)) ≡ sons s p (leastIn spans))
   unfolding start joined join sons

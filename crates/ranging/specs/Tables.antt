@@ -43,10 +43,10 @@ pub record SpanPut (t : List ℕ) (g : ℕ) (p : Span) (u : List ℕ) : Type 0 w
   pub others : (h : ℕ) → 1 ≤ h → (h ≡ g → ⊥) → spanIn u h ≡ spanIn t h
 
 -- two stores
-pub stored-put : (t : List ℕ) (g a b : ℕ) → 1 ≤ g → spanFields * g ≤ length t
+pub span-put : (t : List ℕ) (g a b : ℕ) → 1 ≤ g → spanFields * g ≤ length t
     → SpanPut t g (spanOf a b) (set (set t (spanFields * (g - 1)) a) (spanFields * (g - 1) + 1) b)
 unfolding spanIn
-stored-put t g a b l r =
+span-put t g a b l r =
     let k = spanFields * (g - 1) in
     let u = set t k a in
     record {

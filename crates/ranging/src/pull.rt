@@ -1,6 +1,6 @@
 // What a son may have where its parent's total and the other sons are known.
-use measuring::spans::ENDLESS;
 use measuring::spans::Kind;
+use measuring::spans::NO_GREATEST;
 use measuring::spans::Span;
 use measuring::spans::meet;
 use measuring::spans::minus;
@@ -16,8 +16,8 @@ fn shorter(u: u32, a: u32) -> u32
     requires { ⌜ a ≤ u ⌝ }
     ensures { λ r. ⌜ topOf r ≡ sizes.shorter (topOf u) a ⌝ }
 {
-    if u == ENDLESS {
-        return ENDLESS;
+    if u == NO_GREATEST {
+        return NO_GREATEST;
     }
     u - a
 }

@@ -40,7 +40,7 @@ pub fn parent_group(groups: &[u16], size: u16, g: GroupNo) -> GroupNo
 }
 
 // where the son g of p starts
-fn start_of(
+fn son_start(
     groups: &[u16],
     size: u16,
     sizes: &[u32],
@@ -83,7 +83,7 @@ fn place_son(
         (firsts .exit))) (numberIn (now (ends .exit))) (g .0) ⌝ }
 {
     let p = parent_group(groups, size, g);
-    let first = start_of(groups, size, sizes, firsts, ends, p, g);
+    let first = son_start(groups, size, sizes, firsts, ends, p, g);
     let i = g.0 as usize;
     let j = p.0 as usize;
     firsts[i - 1] = first;

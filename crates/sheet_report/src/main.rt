@@ -14,13 +14,13 @@ fn field(reply: &[u8], at: usize) -> u64 {
     if reply.len() - 4 < at {
         return 0;
     }
-    wide(reply[at])
-        + 256 * wide(reply[at + 1])
-        + 65536 * wide(reply[at + 2])
-        + 16777216 * wide(reply[at + 3])
+    byte(reply[at])
+        + 256 * byte(reply[at + 1])
+        + 65536 * byte(reply[at + 2])
+        + 16777216 * byte(reply[at + 3])
 }
 
-fn wide(x: u8) -> u64
+fn byte(x: u8) -> u64
     ensures { λ r. ⌜ (r ≡ x) × (r < 256) ⌝ }
 {
     x as u64

@@ -14,7 +14,7 @@ use Rattle.meaning.specs.Fits.{Fits}
 use Rattle.meaning.specs.Arranged.{cap, leftFor, sizeOf, ended, firstOf, Arranged}
 use Rattle.sizes.specs.Balanced.{isSon, only, sons, RuleAt}
 use Rattle.sizes.specs.Span.{Span, span, In, eq}
-use Rattle.sizes.specs.Fold.{kindOf, sonCount, shut, Measured}
+use Rattle.sizes.specs.Fold.{joinKind, sonCount, shut, Measured}
 use Rattle.sizes.specs.Ranged.{free}
 use Rattle.laws.specs.Cases.{split, compare-le, below-suc, and-true, true-not-false}
 use Rattle.laws.specs.SumLaws.{bit-eq, sum-eq, sum-suc}
@@ -28,10 +28,10 @@ use Rattle.sizes.specs.RuleSteps.{Upto, upto-none, upto-son, upto-skip, 
 use Rattle.sizes.specs.JoinedLaws.{in-own}
 use Rattle.sizes.specs.Exact.{in-span, span-proper, sound, Grown, grow}
 use Rattle.sizes.specs.PullLaws.{proper-least}
-use Rattle.sizes.specs.RangedExists.{Alike, Down, down-exists, down-unique, root-or-son}
+use Rattle.sizes.specs.RangedExists.{AlikeBelow, Down, down-exists, down-unique, root-or-son}
 
 -- a total of numbers that are all the same, where nobody is left
-shut-zero : (s : Sheet) (p : ℕ) (f : ℕ → ℕ) → kindOf s p ≡ eq → shut s p ≡ true → (k x : ℕ) → Upto s p f k x → x ≡ 0
+shut-zero : (s : Sheet) (p : ℕ) (f : ℕ → ℕ) → joinKind s p ≡ eq → shut s p ≡ true → (k x : ℕ) → Upto s p f k x → x ≡ 0
 shut-zero s p f e b zero x u = upto-none s p f x .0 u b
 shut-zero s p f e b (suc k) x u =
     split (isSon s p (s .size - k))
@@ -53,8 +53,8 @@ sum-gap a b k (suc n) h l =
 module _ (s : Sheet) (L : ℕ → ℕ) (U : ℕ → Top) (size : ℕ → ℕ) (p : ℕ) (f : ℕ → ℕ) (r : RuleAt s p f) (e : f p ≡ size p)
     (within : (g : ℕ) → Son s p g → In (f g) (span (L g) (U g)))
     (given : (g : ℕ) → Son s p g → size g ≡ sizeOf s L U size p g) where
-  abbrev Kept : Type 0
-  Kept = RuleAt s p size × ((g : ℕ) → Son s p g → In (size g) (span (L g) (U g)))
+  abbrev SizesKept : Type 0
+  SizesKept = RuleAt s p size × ((g : ℕ) → Son s p g → In (size g) (span (L g) (U g)))
 
   same-size : s .same p ≡ true → (g : ℕ) → Son s p g → f g ≡ size g
   unfolding sizeOf
@@ -67,10 +67,10 @@ module _ (s : Sheet) (L : ℕ → ℕ) (U : ℕ → Top) (size : ℕ → ℕ) (p
       omega (arith, rw o at a, r .equal g k m))
       (λ o. omega (arith, rw o at a, r .equal g k m))
 
-  same-kept : s .same p ≡ true → Kept
+  same-kept : s .same p ≡ true → SizesKept
   same-kept m = (rule-eq s p f size (same-size m) e r, λ g k. rw (same-size m g k) at (within g k))
 
-  least-kept : s .same p ≡ false → s .cover p ≡ false → Kept
+  least-kept : s .same p ≡ false → s .cover p ≡ false → SizesKept
   unfolding sizeOf
   least-kept m c =
       let is : (g : ℕ) → Son s p g → size g ≡ L g = λ g k. rw (m, c) at (given g k) in (
@@ -83,7 +83,7 @@ module _ (s : Sheet) (L : ℕ → ℕ) (U : ℕ → Top) (size : ℕ → ℕ) (p
         λ g k. (omega (arith, is g k), at-le (size g) (f g) (U g) (omega (arith, is g k, within g k .0)) (within g k .1)),
       )
 
-  cover-kept : s .same p ≡ false → s .cover p ≡ true → s .disjoint p ≡ false → Kept
+  cover-kept : s .same p ≡ false → s .cover p ≡ true → s .disjoint p ≡ false → SizesKept
   unfolding sizeOf
   cover-kept m c d =
       let is : (g : ℕ) → Son s p g → size g ≡ cap (U g) (size p) =
@@ -137,7 +137,7 @@ module _ (s : Sheet) (L : ℕ → ℕ) (U : ℕ → Top) (size : ℕ → ℕ) (p
         (λ o. let w = shared-size n (son-of s p n (omega arith) o) (shared n (omega arith)) in rw o (omega arith))
         (λ o. rw o (omega (arith, shared n (omega arith))))
 
-    shared-kept : Kept
+    shared-kept : SizesKept
     unfolding sons leftFor
     shared-kept =
         let w = shared (suc (s .size)) (le-refl _) in (
@@ -154,7 +154,7 @@ module _ (s : Sheet) (L : ℕ → ℕ) (U : ℕ → Top) (size : ℕ → ℕ) (p
         )
 
   -- the rule holds at p, and its sons' sizes are within their bounds
-  sizes-kept : Kept
+  sizes-kept : SizesKept
   sizes-kept =
       split (s .same p) same-kept
       (λ m. split (s .cover p) (λ c. split (s .disjoint p) (shared-kept m c) (cover-kept m c)) (least-kept m))
@@ -232,20 +232,20 @@ module _ {s : Sheet} {z : ℕ → Bool → Span} {L : ℕ → ℕ} {U : ℕ → 
 -- The arrangement exists: sizes first, then starts.
 module _ {s : Sheet} (t : Tree s) (r : Rooted s) (L : ℕ → ℕ) (U : ℕ → Top) where
   -- sums over the sons below g speak of groups below g
-  only-alike : (h k : ℕ → ℕ) (p g n : ℕ) → n ≤ g → g ≤ s .size → Alike s h k g → sum (only s p h) n ≡ sum (only s p k) n
+  only-alike : (h k : ℕ → ℕ) (p g n : ℕ) → n ≤ g → g ≤ s .size → AlikeBelow s h k g → sum (only s p h) n ≡ sum (only s p k) n
   only-alike h k p g n l q w =
       sum-eq _ _ n
       (λ i j. split (isSon s p i) (λ o. rw o (w i (son-of s p i (omega arith) o .group) (omega arith))) (λ o. rw o))
 
-  parent-alike : {A : Type 0} (h k : ℕ → A) (p g : ℕ) → Son s p g → Alike s h k g → h p ≡ k p
+  parent-alike : {A : Type 0} (h k : ℕ → A) (p g : ℕ) → Son s p g → AlikeBelow s h k g → h p ≡ k p
   parent-alike h k p g j w = w p (son-parent t j) (omega (arith, t .before g (j .group)))
 
-  size-local : (h k : ℕ → ℕ) (p g : ℕ) → Son s p g → Alike s h k g → sizeOf s L U h p g ≡ sizeOf s L U k p g
+  size-local : (h k : ℕ → ℕ) (p g : ℕ) → Son s p g → AlikeBelow s h k g → sizeOf s L U h p g ≡ sizeOf s L U k p g
   unfolding sizeOf leftFor
   size-local h k p g j w =
       rw (parent-alike h k p g j w, only-alike h k p g g (le-refl g) (j .group .last) w)
 
-  ended-local : (a b h k : ℕ → ℕ) (p g n : ℕ) → Son s p g → n ≤ g → Alike s a b g → Alike s h k g
+  ended-local : (a b h k : ℕ → ℕ) (p g n : ℕ) → Son s p g → n ≤ g → AlikeBelow s a b g → AlikeBelow s h k g
       → ended s h a p n ≡ ended s k b p n
   unfolding ended
   ended-local a b h k p g zero j l v w = parent-alike h k p g j w
@@ -254,11 +254,11 @@ module _ {s : Sheet} (t : Tree s) (r : Rooted s) (L : ℕ → ℕ) (U : ℕ → 
       (λ o. let i = son-of s p n (omega arith) o .group in rw (o, v n i l, w n i l))
       (λ o. rw o (ended-local a b h k p g n j (omega arith) v w))
 
-  first-local : (a b h k : ℕ → ℕ) (p g : ℕ) → Son s p g → Alike s a b (suc g) → Alike s h k g
+  first-local : (a b h k : ℕ → ℕ) (p g : ℕ) → Son s p g → AlikeBelow s a b (suc g) → AlikeBelow s h k g
       → firstOf s h a p g ≡ firstOf s k b p g
   unfolding firstOf
   first-local a b h k p g j v w =
-      let u : Alike s a b g = λ i q l. v i q (omega arith) in
+      let u : AlikeBelow s a b g = λ i q l. v i q (omega arith) in
       rw (
         parent-alike h k p g j w,
         parent-alike a b p g j u,
@@ -267,7 +267,7 @@ module _ {s : Sheet} (t : Tree s) (r : Rooted s) (L : ℕ → ℕ) (U : ℕ → 
       )
 
   -- the starts, for given sizes
-  start-local : (size h k : ℕ → ℕ) (p g : ℕ) → Son s p g → Alike s h k g → firstOf s h size p g ≡ firstOf s k size p g
+  start-local : (size h k : ℕ → ℕ) (p g : ℕ) → Son s p g → AlikeBelow s h k g → firstOf s h size p g ≡ firstOf s k size p g
   start-local size h k p g j w = first-local size size h k p g j (λ i q l. refl) w
 
   pub arranged-exists : (first : ℕ → ℕ) × (size : ℕ → ℕ) × Arranged s L U first size

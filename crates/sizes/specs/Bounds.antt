@@ -12,7 +12,7 @@ use Rattle.meaning.specs.Sheet.{Sheet, Group, Top, fin, inf}
 use Rattle.meaning.specs.Tree.{Tree}
 use Rattle.meaning.specs.Sons.{isSon, only, sons}
 use Rattle.sizes.specs.Span.{Span, none, span, make, meet, hull, Kind, lap, add, eq, join, pull, larger, smaller, plus, less, shorter, reaches}
-use Rattle.sizes.specs.Fold.{kindOf, shut, start, joined, later, own, ownTo, Measured}
+use Rattle.sizes.specs.Fold.{joinKind, shut, start, joined, later, own, ownTo, Measured}
 use Rattle.laws.specs.Cases.{split, compare-le, compare-eq, and-true, not-true-false}
 use Rattle.laws.specs.SumLaws.{sum-le, sum-add, sum-zero, sum-one, sum-longer}
 use Rattle.meaning.proofs.SonLaws.{son-of}
@@ -130,7 +130,7 @@ later-weight s z p (suc k) c =
     (λ e. rw (later-son s z p k c e, sum-son s p W k e)
     (omega (
       arith,
-      weight-joined (kindOf s p) (later s z p k) (z (s .size - k)) c,
+      weight-joined (joinKind s p) (later s z p k) (z (s .size - k)) c,
       later-weight s z p k false,
       later-weight s z p k true,
     )))

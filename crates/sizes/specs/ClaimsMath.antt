@@ -28,7 +28,7 @@ use Rattle.laws.specs.SumLaws.{sum-zero}
 use Rattle.sizes.specs.Possible.{Sizes, fits-sizes, sizes-sets}
 use Rattle.sizes.specs.Runs.{Starts, runs-first, shown-count}
 use Rattle.meaning.specs.Shown.{shown}
-use Rattle.sizes.specs.ClaimsPlace.{placeIn, Placed, flags-placed, place}
+use Rattle.sizes.specs.ClaimsPlace.{placeIn, AtPlace, flags-placed, place}
 use Rattle.sizes.specs.ClaimsCount.{narrowHi, narrowLo, narrowHi-sizes, narrowLo-sizes}
 
 -- Some member is in a set of l, and in a set of r where b is true, in none of r where b is false.
@@ -39,21 +39,21 @@ pub record Meeting {X : Type 0} (A : Sets X) (l r : List ℕ) (b : Bool) : Type 
   pub right : union A r (A .who member) ≡ b
 
 -- n passes the upper end
-abbrev pub Above : ℕ → Top → Type 0
-Above n (fin k) = k < n
-Above n inf = ⊥
+abbrev pub MoreThan : ℕ → Top → Type 0
+MoreThan n (fin k) = k < n
+MoreThan n inf = ⊥
 
 -- how sets break a claim
 abbrev pub Fails : {X : Type 0} → Claim → Sets X → Type 0
-Fails (counted g lo hi) A = (countNamed A g < lo) ⊎ Above (countNamed A g) hi
+Fails (counted g lo hi) A = (countNamed A g < lo) ⊎ MoreThan (countNamed A g) hi
 Fails (within l r) A = Meeting A l r false
 Fails (separate l r) A = Meeting A l r true
 
-end-or-above : (n : ℕ) (u : Top) → AtMost n u ⊎ Above n u
+end-or-above : (n : ℕ) (u : Top) → AtMost n u ⊎ MoreThan n u
 end-or-above n (fin k) = compare-le n k inl inr
 end-or-above n inf = inl tt
 
-above-end : (n : ℕ) (u : Top) → Above n u → AtMost n u → ⊥
+above-end : (n : ℕ) (u : Top) → MoreThan n u → AtMost n u → ⊥
 above-end n (fin k) a b = omega arith
 above-end n inf a b = a
 
@@ -155,7 +155,7 @@ pub data Way (l r : List ℕ) : Bool → List ℕ → List ℕ → Type 0 where
   along : {g h : ℕ} → List·Memᴰ g l → 1 ≤ g → List·Memᴰ h r → 1 ≤ h → Way l r true (g ∷ h ∷ []) []
 
 pub way-meeting : {X : Type 0} {s : Sheet} (A : Sets X) {l r ins outs : List ℕ} {b : Bool} → Known s l → Known s r
-    → Way l r b ins outs → (j : ℕ) → j < A .bound → Placed s ins outs (groupsOf A j) → Meeting A l r b
+    → Way l r b ins outs → (j : ℕ) → j < A .bound → AtPlace s ins outs (groupsOf A j) → Meeting A l r b
 way-meeting A {r = r} k n (away {g = g} m p) j i w = record {
   member = j;
   listed = i;
@@ -176,7 +176,7 @@ way-meeting A k n (along {g = g} {h = h} m p o q) j i w = record {
 }
 
 pub meeting-way : {X : Type 0} (s : Sheet) (A : Sets X) (l r : List ℕ) (b : Bool) → (w : Meeting A l r b)
-    → (ins outs : List ℕ) × Way l r b ins outs × Placed s ins outs (groupsOf A (w .member))
+    → (ins outs : List ℕ) × Way l r b ins outs × AtPlace s ins outs (groupsOf A (w .member))
 meeting-way s A l r false w =
     let x = A .who (w .member) in
     let u = union-has A l x (w .left) in (
@@ -248,7 +248,7 @@ unfolding countNamed
 countNamed-empty A = sum-zero _ _ (λ i l. refl)
 
 -- sets whose count is not from lo to hi break the claim
-pub count-breaks : {X : Type 0} (A : Sets X) (g lo k : ℕ) (hi : Top) → 1 ≤ g → count A g ≡ k → (k < lo) ⊎ Above k hi
+pub count-breaks : {X : Type 0} (A : Sets X) (g lo k : ℕ) (hi : Top) → 1 ≤ g → count A g ≡ k → (k < lo) ⊎ MoreThan k hi
     → Breaks (counted g lo hi) A
 count-breaks A g lo k hi p e w =
     fails-breaks (counted g lo hi) A (rw (countNamed-group A g p ∙ e) w)
@@ -256,14 +256,14 @@ count-breaks A g lo k hi p e w =
 -- the sets that a choice shows, with such a count, break the claim
 pub shown-breaks-count : {s : Sheet} {may : ℕ → Bool → Bool} {f st : ℕ → ℕ} {M : ℕ → Bool} → Tree s → Choice s may f M
     → Starts s f st → (n g lo : ℕ) (hi : Top) → Group s g → st g + f g ≤ n
-    → (f g + bit (M g) < lo) ⊎ Above (f g + bit (M g)) hi → Breaks (counted g lo hi) (shown st f M n)
+    → (f g + bit (M g) < lo) ⊎ MoreThan (f g + bit (M g)) hi → Breaks (counted g lo hi) (shown st f M n)
 shown-breaks-count {f = f} {st = st} {M = M} t c h n g lo hi q l w =
     count-breaks (shown st f M n) g lo _ hi (q .first)
     (shown-count st f M n g (runs-first t (c .others) h g q) l) w
 
 -- A count claim on a group can be broken exactly when the group has a size below lo or above hi.
 pub breakable-size : {s : Sheet} → Tree s → (g lo : ℕ) (hi : Top) → Group s g
-    → Breakable s (counted g lo hi) ↔ ((f : ℕ → ℕ) × Sizes s f × ((f g < lo) ⊎ Above (f g) hi))
+    → Breakable s (counted g lo hi) ↔ ((f : ℕ → ℕ) × Sizes s f × ((f g < lo) ⊎ MoreThan (f g) hi))
 breakable-size t g lo hi q = (
   λ w. (
     count (w .0),
@@ -289,7 +289,7 @@ low-size g lo q = (
   λ w. (omega arith, (w .0, narrowHi-sizes g (lo - 1) q .1 (w .1, omega arith))),
 )
 
-high-size : {s : Sheet} (g : ℕ) (hi : Top) → Group s g → High s g hi ↔ ((f : ℕ → ℕ) × Sizes s f × Above (f g) hi)
+high-size : {s : Sheet} (g : ℕ) (hi : Top) → Group s g → High s g hi ↔ ((f : ℕ → ℕ) × Sizes s f × MoreThan (f g) hi)
 high-size g (fin h) q = (
   λ w. let v = narrowLo-sizes g (h + 1) q .0 (w .1) in (w .0, v .0, omega (arith, v .1)),
   λ w. (w .0, narrowLo-sizes g (h + 1) q .1 (w .1, omega arith)),
@@ -316,7 +316,7 @@ breakable-counted {s} t g lo hi q =
 pub empty-breaks : {X : Type 0} (A : Sets X) (lo : ℕ) (hi : Top) → 1 ≤ lo → Breaks (counted 0 lo hi) A
 empty-breaks A lo hi l = fails-breaks (counted 0 lo hi) A (inl (omega (arith, countNamed-empty A)))
 
-not-above-zero : (u : Top) → Above 0 u → ⊥
+not-above-zero : (u : Top) → MoreThan 0 u → ⊥
 not-above-zero (fin k) a = omega arith
 not-above-zero inf a = a
 

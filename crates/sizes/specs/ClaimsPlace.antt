@@ -38,11 +38,11 @@ of-isIn g (x ∷ xs) h =
     or-true (eqb g x) (isIn g xs) h (λ e. List·Memᴰ·head (eqb-true g x e)) (λ e. List·Memᴰ·tail (of-isIn g xs e))
 
 -- M is in every group of `ins` and in none of `outs`
-pub record Placed (s : Sheet) (ins outs : List ℕ) (M : ℕ → Bool) : Type 0 where
+pub record AtPlace (s : Sheet) (ins outs : List ℕ) (M : ℕ → Bool) : Type 0 where
   pub held : (g : ℕ) → List·Memᴰ g ins → Group s g → M g ≡ true
   pub kept : (g : ℕ) → List·Memᴰ g outs → Group s g → M g ≡ false
 
-pub placed-flags : {s : Sheet} {ins outs : List ℕ} {M : ℕ → Bool} → Placed s ins outs M
+pub placed-flags : {s : Sheet} {ins outs : List ℕ} {M : ℕ → Bool} → AtPlace s ins outs M
     → (g : ℕ) → Group s g → placeIn ins outs g (M g) ≡ true
 unfolding placeIn
 placed-flags {s} {ins} {outs} {M} p g q =
@@ -52,7 +52,7 @@ placed-flags {s} {ins} {outs} {M} p g q =
     (λ e. rw (e, not-true-false (isIn g ins) (λ i. true-not-false (M g) (p .held g (of-isIn g ins i) q) e)))
 
 pub flags-placed : {s : Sheet} (ins outs : List ℕ) (M : ℕ → Bool) → ((g : ℕ) → Group s g → placeIn ins outs g (M g) ≡ true)
-    → Placed s ins outs M
+    → AtPlace s ins outs M
 unfolding placeIn
 flags-placed ins outs M a = record {
   held = λ g m q. split
@@ -67,7 +67,7 @@ flags-placed ins outs M a = record {
 
 -- Some sets that fit have a member in every group of `ins` and in none of `outs` exactly when there is a choice.
 pub place : {s : Sheet} (ins outs : List ℕ) → Tree s
-    → ((A : Sets ℕ) × Fits s A × (j : ℕ) × (j < A .bound) × Placed s ins outs (groupsOf A j))
+    → ((A : Sets ℕ) × Fits s A × (j : ℕ) × (j < A .bound) × AtPlace s ins outs (groupsOf A j))
     ↔ ((f : ℕ → ℕ) × (M : ℕ → Bool) × Choice s (placeIn ins outs) f M)
 place ins outs t =
     let e = placed (placeIn ins outs) t in (

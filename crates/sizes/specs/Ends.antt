@@ -10,7 +10,7 @@ use Rattle.meaning.specs.Tree.{Tree, Rooted}
 use Rattle.meaning.specs.Fits.{Attains}
 use Rattle.meaning.specs.Sons.{isSon}
 use Rattle.sizes.specs.Span.{Span, none, span, In, pull}
-use Rattle.sizes.specs.Fold.{kindOf, later, Measured}
+use Rattle.sizes.specs.Fold.{joinKind, later, Measured}
 use Rattle.sizes.specs.Ranged.{free, held, Ranged}
 use Rattle.laws.specs.Cases.{split}
 use Rattle.meaning.proofs.SonLaws.{son-of, son-parent}
@@ -55,8 +55,8 @@ module _ {s : Sheet} {z : ℕ → Bool → Span} {R : ℕ → Span} {B : ℕ} (t
       (λ e. rw e
       (omega (
         arith,
-        weight-meet (later s z p (s .size - n) false) (pull (kindOf s p) (held s z R p n) (z n false)),
-        weight-pull (kindOf s p) (held s z R p n) (z n false),
+        weight-meet (later s z p (s .size - n) false) (pull (joinKind s p) (held s z R p n) (z n false)),
+        weight-pull (joinKind s p) (held s z R p n) (z n false),
         later-limit p (s .size - n) q (omega arith),
         span-limit n (son-of s p n (omega arith) e .group),
         held-limit p n q (omega arith) w,
@@ -72,8 +72,8 @@ module _ {s : Sheet} {z : ℕ → Bool → Span} {R : ℕ → Span} {B : ℕ} (t
       rw (h .son p g k)
       (omega (
         arith,
-        weight-meet (z g false) (pull (kindOf s p) (held s z R p g) (later s z p (s .size - g) false)),
-        weight-pull (kindOf s p) (held s z R p g) (later s z p (s .size - g) false),
+        weight-meet (z g false) (pull (joinKind s p) (held s z R p g) (later s z p (s .size - g) false)),
+        weight-pull (joinKind s p) (held s z R p g) (later s z p (s .size - g) false),
         span-limit g q,
         later-limit p (s .size - g) i (omega arith),
         held-limit p g i (omega arith) (range-limit d p (omega (arith, t .before g q)) i),

@@ -11,7 +11,7 @@ use Rattle.meaning.specs.Tree.{Tree}
 use Rattle.meaning.specs.Sons.{isSon}
 use Rattle.sizes.specs.Balanced.{RuleAt, Choice}
 use Rattle.sizes.specs.Span.{Span, In, eq, Makes, join}
-use Rattle.sizes.specs.Fold.{kindOf, own, later, Measured}
+use Rattle.sizes.specs.Fold.{joinKind, own, later, Measured}
 use Rattle.laws.specs.Cases.{split, compare-le, below-suc}
 use Rattle.meaning.proofs.SonLaws.{son-of, son-is}
 use Rattle.sizes.specs.SpanLaws.{Proper, in-meet, meet-join, near-join, near-proper}
@@ -69,16 +69,16 @@ pub record Grown (s : Sheet) (z : ℕ → Bool → Span) (n : ℕ) (f : ℕ → 
   pub within : (g : ℕ) → Group s g → s .parent g < n → In (f g) (z g (M g))
 
 -- the same numbers and marks at the groups whose parent is below n
-pub record Agree (s : Sheet) (n : ℕ) (f h : ℕ → ℕ) (M N : ℕ → Bool) : Type 0 where
+pub record AgreeBelow (s : Sheet) (n : ℕ) (f h : ℕ → ℕ) (M N : ℕ → Bool) : Type 0 where
   pub numbers : (g : ℕ) → Group s g → s .parent g < n → h g ≡ f g
   pub marks : (g : ℕ) → Group s g → s .parent g < n → N g ≡ M g
 
 -- a choice that keeps the numbers and marks of the groups whose parent is below n
-abbrev pub Kept : (s : Sheet) (may : ℕ → Bool → Bool) (n : ℕ) (f : ℕ → ℕ) (M : ℕ → Bool) → Type 0
-Kept s may n f M = (h : ℕ → ℕ) × (N : ℕ → Bool) × Choice s may h N × Agree s n f h M N
+abbrev pub KeepingChoice : (s : Sheet) (may : ℕ → Bool → Bool) (n : ℕ) (f : ℕ → ℕ) (M : ℕ → Bool) → Type 0
+KeepingChoice s may n f M = (h : ℕ → ℕ) × (N : ℕ → Bool) × Choice s may h N × AgreeBelow s n f h M N
 
-kept-then : (s : Sheet) (may : ℕ → Bool → Bool) (n : ℕ) (f h : ℕ → ℕ) (M N : ℕ → Bool) → Agree s n f h M N
-    → Kept s may (suc n) h N → Kept s may n f M
+kept-then : (s : Sheet) (may : ℕ → Bool → Bool) (n : ℕ) (f h : ℕ → ℕ) (M N : ℕ → Bool) → AgreeBelow s n f h M N
+    → KeepingChoice s may (suc n) h N → KeepingChoice s may n f M
 kept-then s may n f h M N a u = (
   u .0,
   u .1,
@@ -165,7 +165,7 @@ module _ (s : Sheet) (may : ℕ → Bool → Bool) (z : ℕ → Bool → Span) (
       (λ c j. sym (a c (j .group) (omega arith))) (sym (a p g (omega (arith, t .before p g)))) (w p g i))
 
   -- the sons of n take the numbers that the fold gives them
-  over-agree : (n : ℕ) (f h : ℕ → ℕ) (M N : ℕ → Bool) → Agree s n f (over s n h f) M (over s n N M)
+  over-agree : (n : ℕ) (f h : ℕ → ℕ) (M N : ℕ → Bool) → AgreeBelow s n f (over s n h f) M (over s n N M)
   over-agree n f h M N =
       record {
         numbers = λ g k l. over-other s n h f g k (λ e. omega arith);
@@ -187,7 +187,7 @@ module _ (s : Sheet) (may : ℕ → Bool → Bool) (z : ℕ → Bool → Span) (
       }
 
   grow-down : (d n : ℕ) → 1 ≤ n → s .size < n + d → (f : ℕ → ℕ) (M : ℕ → Bool) → Grown s z n f M
-      → Kept s may n f M
+      → KeepingChoice s may n f M
   grow-down zero n i l f M w =
       (f, M, grown-choice n f M (omega arith) w, record { numbers = λ g k l. refl; marks = λ g k l. refl })
   grow-down (suc d) n i l f M w =
@@ -202,12 +202,12 @@ module _ (s : Sheet) (may : ℕ → Bool → Bool) (z : ℕ → Bool → Span) (
   -- Numbers and marks that are right so far can be completed: those of the groups whose parent is below n are kept, and
   -- the sons of n, n + 1, .. are given theirs anew.
   pub grow : (n : ℕ) → 1 ≤ n → (f : ℕ → ℕ) (M : ℕ → Bool) → Grown s z n f M
-      → Kept s may n f M
+      → KeepingChoice s may n f M
   grow n i f M w = grow-down (s .size) n i (omega arith) f M w
 
   -- numbers and marks of the parentless groups, in their spans, are those of some choice
   pub had : (f : ℕ → ℕ) (M : ℕ → Bool) → ((g : ℕ) → Group s g → s .parent g ≡ 0 → In (f g) (z g (M g)))
-      → Kept s may 1 f M
+      → KeepingChoice s may 1 f M
   had f M w =
       grow 1 (le-refl 1) f M
       (record {
@@ -228,6 +228,6 @@ module _ (s : Sheet) (may : ℕ → Bool → Bool) (z : ℕ → Bool → Span) (
 
   -- a number of the fold at p's son `size - k`: some states of the sons after it and of that son can be joined to it
   pub step-states : (p k x : ℕ) (c : Bool) → isSon s p (s .size - k) ≡ true → In x (later s z p (suc k) c)
-      → (b d : Bool) × Makes (kindOf s p) (bit b) (bit d) (bit c)
-      × In x (join (kindOf s p) (later s z p k b) (z (s .size - k) d))
+      → (b d : Bool) × Makes (joinKind s p) (bit b) (bit d) (bit c)
+      × In x (join (joinKind s p) (later s z p k b) (z (s .size - k) d))
   step-states p k x c e h = divide-states s z p k x c (near-sons p (suc k)) e h

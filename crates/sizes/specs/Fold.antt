@@ -10,8 +10,8 @@ use Rattle.sizes.specs.Balanced.{isSon}
 use Rattle.sizes.specs.Span.{Span, none, span, make, meet, hull, Kind, lap, add, eq, join}
 
 -- how the sons of p are joined
-unfoldable pub kindOf : Sheet → ℕ → Kind
-kindOf s p = cond (s .same p) eq (cond (s .disjoint p) add lap)
+unfoldable pub joinKind : Sheet → ℕ → Kind
+joinKind s p = cond (s .same p) eq (cond (s .disjoint p) add lap)
 
 -- whether the sons alone must make up p: 'cover'; under 'same' that is so by itself with one son, and with two or more
 -- sons under 'same' and 'disjoint' nobody is left
@@ -34,7 +34,7 @@ joined eq a z true = join eq (a true) (z true)
 -- the sons of p among the last k groups, joined from the last one on
 unfoldable pub later : Sheet → (ℕ → Bool → Span) → ℕ → ℕ → Bool → Span
 later s z p zero c = start (shut s p) c
-later s z p (suc k) c = cond (isSon s p (s .size - k)) (joined (kindOf s p) (later s z p k) (z (s .size - k)) c) (later s z p k c)
+later s z p (suc k) c = cond (isSon s p (s .size - k)) (joined (joinKind s p) (later s z p k) (z (s .size - k)) c) (later s z p k c)
 
 -- upper end less 1 for the member in the group, none where there is no room for it
 abbrev pub ownTo : ℕ → Top → Bool → Span

@@ -10,7 +10,7 @@ use Rattle.laws.specs.Sum.{bit}
 use Rattle.meaning.specs.Sheet.{Sheet}
 use Rattle.meaning.specs.Sons.{isSon}
 use Rattle.sizes.specs.Span.{Span, In, Makes, join}
-use Rattle.sizes.specs.Fold.{kindOf, shut, start, joined, later}
+use Rattle.sizes.specs.Fold.{joinKind, shut, start, joined, later}
 use Rattle.laws.specs.Cases.{split, true-not-false}
 use Rattle.meaning.proofs.SonLaws.{son-of}
 use Rattle.sizes.specs.SpanLaws.{join-in, near-proper, restOf, sonOf, joint}
@@ -22,7 +22,7 @@ unfolding later
 later-none s z p c = refl
 
 pub later-son : (s : Sheet) (z : ℕ → Bool → Span) (p k : ℕ) (c : Bool) → isSon s p (s .size - k) ≡ true
-    → later s z p (suc k) c ≡ joined (kindOf s p) (later s z p k) (z (s .size - k)) c
+    → later s z p (suc k) c ≡ joined (joinKind s p) (later s z p k) (z (s .size - k)) c
 unfolding later
 later-son s z p k c e = rw e
 
@@ -44,7 +44,7 @@ later-of s z p f M (suc k) x c u v w =
     (λ e. let a = upto-son s p f k x e .0 u in
     let b = upto-bit s p M k c e v in
     rw (later-son s z p k c e)
-    (joined-of (kindOf s p) (later s z p k) (z i) (b .0) (M i) c (a .0) (f i) x (b .2)
+    (joined-of (joinKind s p) (later s z p k) (z i) (b .0) (M i) c (a .0) (f i) x (b .2)
     (later-of s z p f M k (a .0) (b .0) (a .1) (b .1) before)
     (w k (le-refl (suc k)) e) (a .2)))
     (λ e. rw (later-skip s z p k c e)
@@ -58,41 +58,41 @@ near-later s z p (suc k) w =
     let h = near-later s z p k (lasts-less s p (λ g. (m : ℕ) × Nears m (z g)) k w) in
     split (isSon s p (s .size - k))
     (λ e. let j = w k (le-refl (suc k)) e in (
-      joint (kindOf s p) (h .0) (j .0),
+      joint (joinKind s p) (h .0) (j .0),
       λ c. rw (later-son s z p k c e)
-          (near-joined (kindOf s p) (later s z p k) (z (s .size - k)) (h .0) (j .0) (h .1) (j .1) c),
+          (near-joined (joinKind s p) (later s z p k) (z (s .size - k)) (h .0) (j .0) (h .1) (j .1) c),
     ))
     (λ e. (h .0, λ c. rw (later-skip s z p k c e) (h .1 c)))
 
 -- A total in the fold, taken apart at the son `size - k`: states for the sons after it and for that son, whose joined
 -- span has the total; then `restOf` and `sonOf` are numbers for the two, and they make the total.
 pub record Divided (s : Sheet) (z : ℕ → Bool → Span) (p k x : ℕ) (c b d : Bool) : Type 0 where
-  pub states : Makes (kindOf s p) (bit b) (bit d) (bit c)
-  pub rest : In (restOf (kindOf s p) (later s z p k b) (z (s .size - k) d) x) (later s z p k b)
-  pub son : In (sonOf (kindOf s p) (later s z p k b) (z (s .size - k) d) x) (z (s .size - k) d)
-  pub makes : Makes (kindOf s p) (restOf (kindOf s p) (later s z p k b) (z (s .size - k) d) x)
-      (sonOf (kindOf s p) (later s z p k b) (z (s .size - k) d) x) x
+  pub states : Makes (joinKind s p) (bit b) (bit d) (bit c)
+  pub rest : In (restOf (joinKind s p) (later s z p k b) (z (s .size - k) d) x) (later s z p k b)
+  pub son : In (sonOf (joinKind s p) (later s z p k b) (z (s .size - k) d) x) (z (s .size - k) d)
+  pub makes : Makes (joinKind s p) (restOf (joinKind s p) (later s z p k b) (z (s .size - k) d) x)
+      (sonOf (joinKind s p) (later s z p k b) (z (s .size - k) d) x) x
 
 -- any states whose joined span has the total will do
 pub divide-at : (s : Sheet) (z : ℕ → Bool → Span) (p k x : ℕ) (c b d : Bool)
     → Lasts s p (λ g. (m : ℕ) × Nears m (z g)) (suc k) → isSon s p (s .size - k) ≡ true
-    → Makes (kindOf s p) (bit b) (bit d) (bit c) → In x (join (kindOf s p) (later s z p k b) (z (s .size - k) d))
+    → Makes (joinKind s p) (bit b) (bit d) (bit c) → In x (join (joinKind s p) (later s z p k b) (z (s .size - k) d))
     → Divided s z p k x c b d
 divide-at s z p k x c b d w e m h =
     let n = near-later s z p k (lasts-less s p (λ g. (m : ℕ) × Nears m (z g)) k w) in
     let j = w k (le-refl (suc k)) e in
-    let v = join-in (kindOf s p) (later s z p k b) (z (s .size - k) d) x
+    let v = join-in (joinKind s p) (later s z p k b) (z (s .size - k) d) x
     (near-proper (bit b) (n .0) (later s z p k b) (n .1 b)) (near-proper (bit d) (j .0) (z (s .size - k) d) (j .1 d)) h in
     record { states = m; rest = v .0; son = v .1; makes = v .2 }
 
 pub divide-states : (s : Sheet) (z : ℕ → Bool → Span) (p k x : ℕ) (c : Bool)
     → Lasts s p (λ g. (m : ℕ) × Nears m (z g)) (suc k) → isSon s p (s .size - k) ≡ true
     → In x (later s z p (suc k) c)
-    → (b d : Bool) × Makes (kindOf s p) (bit b) (bit d) (bit c) × In x (join (kindOf s p) (later s z p k b) (z (s .size - k) d))
+    → (b d : Bool) × Makes (joinKind s p) (bit b) (bit d) (bit c) × In x (join (joinKind s p) (later s z p k b) (z (s .size - k) d))
 divide-states s z p k x c w e h =
     let n = near-later s z p k (lasts-less s p (λ g. (m : ℕ) × Nears m (z g)) k w) in
     let j = w k (le-refl (suc k)) e in
-    joined-states (kindOf s p) (later s z p k) (z (s .size - k)) (n .0) (j .0) (n .1) (j .1) c x (rw (later-son s z p k c e) at h)
+    joined-states (joinKind s p) (later s z p k) (z (s .size - k)) (n .0) (j .0) (n .1) (j .1) c x (rw (later-son s z p k c e) at h)
 
 -- f with y at i
 abbrev pub put : {A : Type 0} → ℕ → A → (ℕ → A) → ℕ → A
@@ -105,7 +105,7 @@ pub record Taken (s : Sheet) (z : ℕ → Bool → Span) (p k x : ℕ) (c : Bool
   pub within : Lasts s p (λ g. In (f g) (z g (M g))) k
 
 pub taken-more : (s : Sheet) (z : ℕ → Bool → Span) (p k x : ℕ) (c b d : Bool) (f : ℕ → ℕ) (M : ℕ → Bool) (r y : ℕ)
-    → isSon s p (s .size - k) ≡ true → Makes (kindOf s p) (bit b) (bit d) (bit c) → Makes (kindOf s p) r y x
+    → isSon s p (s .size - k) ≡ true → Makes (joinKind s p) (bit b) (bit d) (bit c) → Makes (joinKind s p) r y x
     → In y (z (s .size - k) d) → Taken s z p k r b f M
     → Taken s z p (suc k) x c (put (s .size - k) y f) (put (s .size - k) d M)
 taken-more s z p k x c b d f M r y e m w h t =
@@ -140,7 +140,7 @@ later-in s z p (suc k) x c w h =
     (λ e. let j = divide-states s z p k x c w e h in
     let v = divide-at s z p k x c (j .0) (j .1) w e (j .2) (j .3) in
     let u = later-in s z p k _ (j .0) before (v .rest) in (
-      put (s .size - k) (sonOf (kindOf s p) (later s z p k (j .0)) (z (s .size - k) (j .1)) x) (u .0),
+      put (s .size - k) (sonOf (joinKind s p) (later s z p k (j .0)) (z (s .size - k) (j .1)) x) (u .0),
       put (s .size - k) (j .1) (u .1),
       taken-more s z p k x c (j .0) (j .1) (u .0) (u .1) _ _ e (j .2) (v .makes) (v .son) (u .2),
     ))

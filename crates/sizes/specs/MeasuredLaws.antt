@@ -9,7 +9,7 @@ use Rattle.meaning.specs.Sheet.{Sheet, Group, Son}
 use Rattle.meaning.specs.Tree.{Tree}
 use Rattle.meaning.specs.Sons.{isSon, sonCount}
 use Rattle.sizes.specs.Span.{Span, none, Kind, meet}
-use Rattle.sizes.specs.Fold.{kindOf, shut, start, joined, later, own, Measured}
+use Rattle.sizes.specs.Fold.{joinKind, shut, start, joined, later, own, Measured}
 use Rattle.laws.specs.Cases.{split}
 use Rattle.laws.specs.SumLaws.{sum-eq}
 use Rattle.sizes.specs.RuleSteps.{Lasts, all-lasts, lasts-less, no-son}
@@ -46,8 +46,8 @@ module _ (s r : Sheet) (may can : ℕ → Bool → Bool) (z : s .size ≡ r .siz
   son-alike zero l = no-son s p ∙ sym (no-son r p)
   son-alike (suc g) l = a .sons (suc g) (omega arith)
 
-  kind-alike : kindOf s p ≡ kindOf r p
-  unfolding kindOf
+  kind-alike : joinKind s p ≡ joinKind r p
+  unfolding joinKind
   kind-alike = rw (a .same, a .disjoint)
 
   count-alike : sonCount s p ≡ sonCount r p
@@ -73,7 +73,7 @@ module _ (s r : Sheet) (may can : ℕ → Bool → Bool) (z : s .size ≡ r .siz
       let same = son-alike (s .size - k) (omega arith) in
       split (isSon s p (s .size - k))
       (λ e. later-son s y p k c e
-      ∙ joined-eq (kindOf s p) _ _ _ _ before (w k (le-refl (suc k)) e) c
+      ∙ joined-eq (joinKind s p) _ _ _ _ before (w k (le-refl (suc k)) e) c
       ∙ rw (kind-alike, ← i) (sym (later-son r x p k c (rw (i, ← same) e))))
       (λ e. later-skip s y p k c e ∙ before c ∙ sym (later-skip r x p k c (rw (i, ← same) e)))
 

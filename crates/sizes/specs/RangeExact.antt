@@ -12,7 +12,7 @@ use Rattle.meaning.specs.Tree.{Tree, Rooted}
 use Rattle.meaning.specs.Fits.{Possible, Attains}
 use Rattle.sizes.specs.Balanced.{isSon, Choice}
 use Rattle.sizes.specs.Span.{Span, none, span, In, Makes, meet, pull}
-use Rattle.sizes.specs.Fold.{kindOf, later, Measured}
+use Rattle.sizes.specs.Fold.{joinKind, later, Measured}
 use Rattle.sizes.specs.Ranged.{free, held, Ranged}
 use Rattle.laws.specs.Cases.{split, true-not-false}
 use Rattle.laws.specs.SumLaws.{false-bit}
@@ -32,7 +32,7 @@ unfolding held
 held-none s z R p = rw (no-son s p)
 
 pub held-son : (s : Sheet) (z : ℕ → Bool → Span) (R : ℕ → Span) (p n : ℕ) → isSon s p n ≡ true
-    → held s z R p (suc n) ≡ meet (later s z p (s .size - n) false) (pull (kindOf s p) (held s z R p n) (z n false))
+    → held s z R p (suc n) ≡ meet (later s z p (s .size - n) false) (pull (joinKind s p) (held s z R p n) (z n false))
 unfolding held
 held-son s z R p n e = rw e
 
@@ -52,7 +52,7 @@ upto-nothing : (s : Sheet) (p k : ℕ) → Upto s p (λ g. 0) k 0
 upto-nothing s p zero = upto-none s p (λ g. 0) 0 .1 (λ b. refl)
 upto-nothing s p (suc k) =
     split (isSon s p (s .size - k))
-    (λ e. upto-son s p (λ g. 0) k 0 e .1 (0, upto-nothing s p k, makes-zero (kindOf s p)))
+    (λ e. upto-son s p (λ g. 0) k 0 e .1 (0, upto-nothing s p k, makes-zero (joinKind s p)))
     (λ e. upto-skip s p (λ g. 0) k 0 e .1 (upto-nothing s p k))
 
 -- the totals of the sons numbered n and above, and of those above n
@@ -123,8 +123,8 @@ module _ {s : Sheet} {z : ℕ → Bool → Span} (t : Tree s) (r : Rooted s) (m 
       (λ a. v .0 (w .0 a), λ n. w .1 (v .1 n))
 
   -- where sizes exist, the spans of the fold have ends
-  pub span-ends : (f : ℕ → ℕ) → Sizes s f → (g : ℕ) → Group s g → (l : ℕ) × (u : Top) × (z g false ≡ span l u)
-  span-ends f w g q = in-ends (f g) (z g false) (sizes-in f w g q)
+  pub span-has-ends : (f : ℕ → ℕ) → Sizes s f → (g : ℕ) → Group s g → (l : ℕ) × (u : Top) × (z g false ≡ span l u)
+  span-has-ends f w g q = in-ends (f g) (z g false) (sizes-in f w g q)
 
 module _ {s : Sheet} {z : ℕ → Bool → Span} {R : ℕ → Span} (t : Tree s) (r : Rooted s) (m : Measured s free z)
     (h : Ranged s z R) where
@@ -147,7 +147,7 @@ module _ {s : Sheet} {z : ℕ → Bool → Span} {R : ℕ → Span} (t : Tree s)
         rw (held-son s z R p (suc n) e)
             (in-meet (a .0) _ _ .1 (
               totals-in t r m f w p k (a .0) (a .1),
-              pull-of (kindOf s p) (held s z R p (suc n)) (z (suc n) false) (a .0) (f (suc n)) (v .0) (v .2)
+              pull-of (joinKind s p) (held s z R p (suc n)) (z (suc n) false) (a .0) (f (suc n)) (v .0) (v .2)
                   (sizes-in t r m f w (suc n) (b .group)) (rw o at (a .2)),
             )),
       ))
@@ -165,8 +165,8 @@ module _ {s : Sheet} {z : ℕ → Bool → Span} {R : ℕ → Span} (t : Tree s)
       rw (h .son p (suc n) k)
       (in-meet (f (suc n)) _ _ .1 (
         sizes-in t r m f w (suc n) (k .group),
-        pull-of (kindOf s p) (held s z R p (suc n)) (later s z p j false) (f (suc n)) (a .0) (v .0) (v .2)
-            (totals-in t r m f w p j (a .0) (a .1)) (makes-swap (kindOf s p) (a .0) (f (suc n)) (v .0) (rw o at (a .2))),
+        pull-of (joinKind s p) (held s z R p (suc n)) (later s z p j false) (f (suc n)) (a .0) (v .0) (v .2)
+            (totals-in t r m f w p j (a .0) (a .1)) (makes-swap (joinKind s p) (a .0) (f (suc n)) (v .0) (rw o at (a .2))),
       ))
 
   sound-below : (f : ℕ → ℕ) → Sizes s f → (d g : ℕ) → g ≤ d → Group s g → In (f g) (R g)
@@ -193,12 +193,12 @@ module _ {s : Sheet} {z : ℕ → Bool → Span} {R : ℕ → Span} (t : Tree s)
       (x : ℕ) × (f : ℕ → ℕ) × (M : ℕ → Bool) × In x (R p) × Taken s z p (s .size) x false f M × (f g ≡ y) × (M g ≡ false)
 
   -- the number y, marked false, put at the son numbered n in front of numbers for the later ones
-  taken-put : (p n x y a : ℕ) (f : ℕ → ℕ) (M : ℕ → Bool) → Son s p n → Makes (kindOf s p) x y a → In y (z n false)
+  taken-put : (p n x y a : ℕ) (f : ℕ → ℕ) (M : ℕ → Bool) → Son s p n → Makes (joinKind s p) x y a → In y (z n false)
       → Taken s z p (s .size - n) x false f M → Taken s z p (suc (s .size - n)) a false (put n y f) (put n false M)
   taken-put p n x y a f M k w i v =
       let o = last-is s n (k .group .last) in
       subst (λ j. Taken s z p (suc (s .size - n)) a false (put j y f) (put j false M)) o
-      (taken-more s z p (s .size - n) a false false false f M x y (rw o (son-is k)) (makes-zero (kindOf s p)) w (rw o i) v)
+      (taken-more s z p (s .size - n) a false false false f M x y (rw o (son-is k)) (makes-zero (joinKind s p)) w (rw o i) v)
 
   -- what is held by the sons numbered n + 1 and above, once they have their numbers: numbers for the ones before
   held-in : (p g y : ℕ) → Group s p → (n : ℕ) → n < g → g ≤ s .size → (x : ℕ) (f : ℕ → ℕ) (M : ℕ → Bool)
@@ -211,7 +211,7 @@ module _ {s : Sheet} {z : ℕ → Bool → Span} {R : ℕ → Span} (t : Tree s)
       let d = last-is s (suc n) (omega arith) in
       split (isSon s p (suc n))
       (λ a. let k : Son s p (suc n) = son-of s p (suc n) (omega arith) a in
-      let u = pull-in (kindOf s p) (held s z R p (suc n)) (z (suc n) false) x
+      let u = pull-in (joinKind s p) (held s z R p (suc n)) (z (suc n) false) x
       (held-proper s z R p (suc n) (range-proper p q)) (span-proper s free z t m (suc n) (k .group) false)
       (in-meet x _ _ .0 (rw (held-son s z R p (suc n) a) at i) .1) in
       let other = ne-eqb g (suc n) (omega arith) in
@@ -236,14 +236,14 @@ module _ {s : Sheet} {z : ℕ → Bool → Span} {R : ℕ → Span} (t : Tree s)
       let g = suc n in
       let q = son-parent t k in
       let w = in-meet y _ _ .0 (rw (h .son p g k) at i) in
-      let u = pull-in (kindOf s p) (held s z R p g) (later s z p (s .size - g) false) y
+      let u = pull-in (joinKind s p) (held s z R p g) (later s z p (s .size - g) false) y
       (held-proper s z R p g (range-proper p q)) (later-proper s free z t m p (s .size - g) false) (w .1) in
       let v = later-in s z p (s .size - g) (u .0) false (near-sons s free z t m p (s .size - g)) (u .2) in
       let c : suc (s .size - suc n) ≡ s .size - n = omega arith in
       let is = eq-eqb g g refl in
       held-in p g y q n (le-refl g) (k .group .last) (u .1) (put g y (v .0)) (put g false (v .1)) (u .3)
       (subst (λ j. Taken s z p j (u .1) false (put g y (v .0)) (put g false (v .1))) c
-      (taken-put p g (u .0) y (u .1) (v .0) (v .1) k (makes-swap (kindOf s p) y (u .0) (u .1) (u .4)) (w .0) (v .2)))
+      (taken-put p g (u .0) y (u .1) (v .0) (v .1) k (makes-swap (joinKind s p) y (u .0) (u .1) (u .4)) (w .0) (v .2)))
       (rw is) (rw is)
 
   -- numbers for the sons of p, whose total is p's in some sizes, with the groups after p done again

@@ -6,7 +6,7 @@ use mathlib.Core.Bool.{Bool, true, false, cond}
 use Rattle.meaning.specs.Sheet.{Sheet, Son}
 use Rattle.sizes.specs.Balanced.{isSon}
 use Rattle.sizes.specs.Span.{Span, meet, pull}
-use Rattle.sizes.specs.Fold.{kindOf, later}
+use Rattle.sizes.specs.Fold.{joinKind, later}
 
 -- no flag forbids anything
 abbrev pub free : ℕ → Bool → Bool
@@ -16,9 +16,9 @@ free g c = true
 unfoldable pub held : Sheet → (ℕ → Bool → Span) → (ℕ → Span) → ℕ → ℕ → Span
 held s z R p zero = R p
 held s z R p (suc n) =
-    cond (isSon s p n) (meet (later s z p (s .size - n) false) (pull (kindOf s p) (held s z R p n) (z n false))) (held s z R p n)
+    cond (isSon s p n) (meet (later s z p (s .size - n) false) (pull (joinKind s p) (held s z R p n) (z n false))) (held s z R p n)
 
 pub record Ranged (s : Sheet) (z : ℕ → Bool → Span) (R : ℕ → Span) : Type 0 where
   pub root : R 1 ≡ z 1 false
   pub son : (p g : ℕ) → Son s p g →
-      R g ≡ meet (z g false) (pull (kindOf s p) (held s z R p g) (later s z p (s .size - g) false))
+      R g ≡ meet (z g false) (pull (joinKind s p) (held s z R p g) (later s z p (s .size - g) false))

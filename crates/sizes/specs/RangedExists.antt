@@ -9,14 +9,14 @@ use lib.Dec.{eqb}
 use Rattle.meaning.specs.Sheet.{Sheet, Group, Son}
 use Rattle.meaning.specs.Tree.{Tree, Rooted}
 use Rattle.sizes.specs.Span.{Span, meet, pull}
-use Rattle.sizes.specs.Fold.{kindOf, later}
+use Rattle.sizes.specs.Fold.{joinKind, later}
 use Rattle.sizes.specs.Ranged.{held, Ranged}
 use Rattle.laws.specs.Cases.{compare-eq}
 use Rattle.meaning.proofs.SonLaws.{son-parent}
 
 -- h and k are equal at the groups below n
-abbrev pub Alike : Sheet → {A : Type 0} → (ℕ → A) → (ℕ → A) → ℕ → Type 0
-Alike s h k n = (m : ℕ) → Group s m → m < n → h m ≡ k m
+abbrev pub AlikeBelow : Sheet → {A : Type 0} → (ℕ → A) → (ℕ → A) → ℕ → Type 0
+AlikeBelow s h k n = (m : ℕ) → Group s m → m < n → h m ≡ k m
 
 -- h is given at the root, and at each son g of p by `F h p g`
 pub record Down (s : Sheet) {A : Type 0} (top : A) (F : (ℕ → A) → ℕ → ℕ → A) (h : ℕ → A) : Type 0 where
@@ -36,7 +36,7 @@ root-or-son {s} r g q x y =
 
 -- where F h p g speaks of h at groups below g only
 module _ {s : Sheet} {A : Type 0} (t : Tree s) (r : Rooted s) (top : A) (F : (ℕ → A) → ℕ → ℕ → A)
-    (w : (h k : ℕ → A) (p g : ℕ) → Son s p g → Alike s h k g → F h p g ≡ F k p g) where
+    (w : (h k : ℕ → A) (p g : ℕ) → Son s p g → AlikeBelow s h k g → F h p g ≡ F k p g) where
   down-root : (d : ℕ) → down s top F d 1 ≡ top
   unfolding down
   down-root zero = refl
@@ -65,7 +65,7 @@ module _ {s : Sheet} {A : Type 0} (t : Tree s) (r : Rooted s) (top : A) (F : (�
     },
   )
 
-  down-agree : (h k : ℕ → A) → Down s top F h → Down s top F k → (n : ℕ) → Alike s h k n
+  down-agree : (h k : ℕ → A) → Down s top F h → Down s top F k → (n : ℕ) → AlikeBelow s h k n
   down-agree h k i j zero m q l = absurd (omega arith)
   down-agree h k i j (suc n) m q l =
       root-or-son r m q
@@ -81,14 +81,14 @@ unfolding held
 held-eq s z h k p zero e = e
 held-eq s z h k p (suc n) e = rw (held-eq s z h k p n e)
 
-abbrev rangeAt : Sheet → (ℕ → Bool → Span) → (ℕ → Span) → ℕ → ℕ → Span
-rangeAt s z R p g = meet (z g false) (pull (kindOf s p) (held s z R p g) (later s z p (s .size - g) false))
+abbrev sonRange : Sheet → (ℕ → Bool → Span) → (ℕ → Span) → ℕ → ℕ → Span
+sonRange s z R p g = meet (z g false) (pull (joinKind s p) (held s z R p g) (later s z p (s .size - g) false))
 
 module _ {s : Sheet} (t : Tree s) (r : Rooted s) (z : ℕ → Bool → Span) where
-  range-local : (h k : ℕ → Span) (p g : ℕ) → Son s p g → Alike s h k g → rangeAt s z h p g ≡ rangeAt s z k p g
+  range-local : (h k : ℕ → Span) (p g : ℕ) → Son s p g → AlikeBelow s h k g → sonRange s z h p g ≡ sonRange s z k p g
   range-local h k p g q j = rw (held-eq s z h k p g (j p (son-parent t q) (omega (arith, t .before g (q .group)))))
 
   pub ranged-exists : (R : ℕ → Span) × Ranged s z R
   ranged-exists =
-      let w = down-exists t r (z 1 false) (rangeAt s z) range-local in
+      let w = down-exists t r (z 1 false) (sonRange s z) range-local in
       (w .0, record { root = w .1 .root; son = w .1 .son })

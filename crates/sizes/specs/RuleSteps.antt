@@ -13,7 +13,7 @@ use Rattle.meaning.specs.Sheet.{Sheet, Son}
 use Rattle.meaning.specs.Sons.{isSon, only, sons, sonCount}
 use Rattle.sizes.specs.Balanced.{RuleAt}
 use Rattle.sizes.specs.Span.{Kind, lap, add, eq, Makes}
-use Rattle.sizes.specs.Fold.{kindOf, shut}
+use Rattle.sizes.specs.Fold.{joinKind, shut}
 use Rattle.sizes.specs.JoinedLaws.{bit-of, makes-first}
 use Rattle.laws.specs.Cases.{split, below-suc, true-not-false}
 use Rattle.laws.specs.SumLaws.{sum-eq, sum-suc, sum-first, sum-term}
@@ -26,14 +26,14 @@ More false q U y x = U x
 
 unfoldable pub Upto : Sheet → ℕ → (ℕ → ℕ) → ℕ → ℕ → Type 0
 Upto s p f zero x = shut s p ≡ true → x ≡ 0
-Upto s p f (suc k) x = More (isSon s p (s .size - k)) (kindOf s p) (Upto s p f k) (f (s .size - k)) x
+Upto s p f (suc k) x = More (isSon s p (s .size - k)) (joinKind s p) (Upto s p f k) (f (s .size - k)) x
 
 pub upto-none : (s : Sheet) (p : ℕ) (f : ℕ → ℕ) (x : ℕ) → Upto s p f 0 x ↔ (shut s p ≡ true → x ≡ 0)
 unfolding Upto
 upto-none s p f x = (λ h. h, λ h. h)
 
 pub upto-son : (s : Sheet) (p : ℕ) (f : ℕ → ℕ) (k x : ℕ) → isSon s p (s .size - k) ≡ true
-    → Upto s p f (suc k) x ↔ ((t : ℕ) × Upto s p f k t × Makes (kindOf s p) t (f (s .size - k)) x)
+    → Upto s p f (suc k) x ↔ ((t : ℕ) × Upto s p f k t × Makes (joinKind s p) t (f (s .size - k)) x)
 unfolding Upto
 upto-son s p f k x e = rw e (λ h. h, λ h. h)
 
@@ -135,20 +135,20 @@ total-son eq s p f k x e = (
 )
 
 -- step by step and at once are the same
-upto-total : (s : Sheet) (p : ℕ) (f : ℕ → ℕ) (k x : ℕ) → Upto s p f k x ↔ Total (kindOf s p) s p f k x
+upto-total : (s : Sheet) (p : ℕ) (f : ℕ → ℕ) (k x : ℕ) → Upto s p f k x ↔ Total (joinKind s p) s p f k x
 upto-total s p f zero x =
     let u = upto-none s p f x in
-    let t = total-none (kindOf s p) s p f x in
+    let t = total-none (joinKind s p) s p f x in
     (λ h. t .1 (u .0 h), λ h. u .1 (t .0 h))
 upto-total s p f (suc k) x =
     split (isSon s p (s .size - k))
     (λ e. let u = upto-son s p f k x e in
-    let t = total-son (kindOf s p) s p f k x e in (
+    let t = total-son (joinKind s p) s p f k x e in (
       λ h. let w = u .0 h in t .1 (w .0, upto-total s p f k (w .0) .0 (w .1), w .2),
       λ h. let w = t .0 h in u .1 (w .0, upto-total s p f k (w .0) .1 (w .1), w .2),
     ))
     (λ e. let u = upto-skip s p f k x e in
-    let t = total-skip (kindOf s p) s p f k x e in
+    let t = total-skip (joinKind s p) s p f k x e in
     (λ h. t .1 (upto-total s p f k x .0 (u .0 h)), λ h. u .1 (upto-total s p f k x .1 (t .0 h))))
 
 -- the last `size` groups are all of them
@@ -191,16 +191,16 @@ same-shut (suc (suc n)) x t d c e =
     (λ h b. omega (arith, h .0 b), λ h. (λ b. omega (arith, rw (h b) at e), λ b. omega arith))
 
 -- kind and start of each mode
-pub kind-same : (s : Sheet) (p : ℕ) → s .same p ≡ true → kindOf s p ≡ eq
-unfolding kindOf
+pub kind-same : (s : Sheet) (p : ℕ) → s .same p ≡ true → joinKind s p ≡ eq
+unfolding joinKind
 kind-same s p e = rw e
 
-pub kind-disjoint : (s : Sheet) (p : ℕ) → s .same p ≡ false → s .disjoint p ≡ true → kindOf s p ≡ add
-unfolding kindOf
+pub kind-disjoint : (s : Sheet) (p : ℕ) → s .same p ≡ false → s .disjoint p ≡ true → joinKind s p ≡ add
+unfolding joinKind
 kind-disjoint s p e d = rw (e, d)
 
-pub kind-free : (s : Sheet) (p : ℕ) → s .same p ≡ false → s .disjoint p ≡ false → kindOf s p ≡ lap
-unfolding kindOf
+pub kind-free : (s : Sheet) (p : ℕ) → s .same p ≡ false → s .disjoint p ≡ false → joinKind s p ≡ lap
+unfolding joinKind
 kind-free s p e d = rw (e, d)
 
 pub shut-same : (s : Sheet) (p : ℕ) → s .same p ≡ true
@@ -213,7 +213,7 @@ unfolding shut
 shut-cover s p e = rw e
 
 -- the rule at p, for each kind of joining
-rule-total : (s : Sheet) (p : ℕ) (f : ℕ → ℕ) → RuleAt s p f ↔ Total (kindOf s p) s p f (s .size) (f p)
+rule-total : (s : Sheet) (p : ℕ) (f : ℕ → ℕ) → RuleAt s p f ↔ Total (joinKind s p) s p f (s .size) (f p)
 rule-total s p f =
     let whole = sum-last-all s p f in
     let same = same-shut (sonCount s p) (f p) (sons s p f) (s .disjoint p) (s .cover p) in
@@ -272,9 +272,9 @@ rule-eq s p f h w e r =
 -- the bits of a member: the total before a son is a bit too
 pub upto-bit : (s : Sheet) (p : ℕ) (M : ℕ → Bool) (k : ℕ) (c : Bool) → isSon s p (s .size - k) ≡ true
     → Upto s p (λ g. bit (M g)) (suc k) (bit c)
-    → (b : Bool) × Upto s p (λ g. bit (M g)) k (bit b) × Makes (kindOf s p) (bit b) (bit (M (s .size - k))) (bit c)
+    → (b : Bool) × Upto s p (λ g. bit (M g)) k (bit b) × Makes (joinKind s p) (bit b) (bit (M (s .size - k))) (bit c)
 upto-bit s p M k c e u =
     let f : ℕ → ℕ = λ g. bit (M g) in
     let w = upto-son s p f k (bit c) e .0 u in
-    let b = bit-of (w .0) c (makes-first (kindOf s p) (w .0) (f (s .size - k)) (bit c) (w .2)) in
+    let b = bit-of (w .0) c (makes-first (joinKind s p) (w .0) (f (s .size - k)) (bit c) (w .2)) in
     (b .0, rw (b .1) (w .1), rw (b .1) (w .2))

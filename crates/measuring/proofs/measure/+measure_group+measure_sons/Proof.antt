@@ -10,7 +10,7 @@ use mathlib.Core.Path.{_≡_, refl, _∙_}
 use Rattle.measuring.specs.Held.{pairOf}
 use Rattle.reading.specs.SheetIn.{sheetIn, size-in}
 use Rattle.measuring.specs.Tables.{spansIn}
-use Rattle.measuring.specs.DoneLaws.{AtSon, put-alike, done-put, finished, at-last, at-next, at-end, room-sum, room-son}
+use Rattle.measuring.specs.DoneLaws.{AtSon, put-alike, done-put, finished, at-last, at-next, all-joined, room-sum, room-son}
 use borrow.Fn.Kinds.{In}
 use borrow.Fn.PlainCycle.{Measures, is, falls, and}
 use Rattle.measuring.proofs.measure.measure_group.Reads as measure-group
@@ -251,7 +251,7 @@ module _ (t : ℕ) where
   measure-sons-returns c =
       let l = c .before .before in
       let s = l .before .before .before .before .before .before .before .before .before in
-      at-end (s .pre .1 .0) (s .pre .1 .1 .1) (l .loop .inv .2) (c .if1 .left)
+      all-joined (s .pre .1 .0) (s .pre .1 .1 .1) (l .loop .inv .2) (c .if1 .left)
 
 pub +measure-group+measure-sons-spec : {M : Type 1} → statement M
 +measure-group+measure-sons-spec =

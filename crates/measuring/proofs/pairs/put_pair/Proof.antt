@@ -3,7 +3,7 @@ use native.Mathlib.Omega.{arith}
 use lib.ListN.{length-set}
 use mathlib.Core.Path.{refl}
 use Rattle.measuring.specs.Held.{pairOf}
-use Rattle.measuring.specs.Pairs.{stored-put}
+use Rattle.measuring.specs.Pairs.{pair-put}
 use borrow.Author.Needs.{needs}
 use Rattle.measuring.proofs.pairs.put_pair.Statement.{statement}
 use Rattle.measuring.proofs.pairs.put_pair.Tie as tie
@@ -56,7 +56,7 @@ same-length c = search needs
 returns : tie.Need-returns
 returns c =
     let a = c .before .args in
-    stored-put (a .t .now) (a .g .0) (a .p .out .least) (a .p .out .most) (a .p .inn .least) (a .p .inn .most) (pairOf (a .p))
+    pair-put (a .t .now) (a .g .0) (a .p .out .least) (a .p .out .most) (a .p .inn .least) (a .p .inn .most) (pairOf (a .p))
     (omega arith) (omega arith) refl refl
 
 pub put-pair-spec : {M : Type 1} → statement M

@@ -1,7 +1,7 @@
 -- `hull` meets its contract.
 use native.Mathlib.Omega.{arith}
 use Rattle.sizes.specs.Span as sizes
-use Rattle.measuring.specs.HeldLaws.{none-of, some-of, hull-of}
+use Rattle.measuring.specs.HeldLaws.{none-of, some-of, hull-ends}
 use borrow.Author.Needs.{needs}
 use Rattle.measuring.proofs.spans.hull.Statement.{statement}
 use Rattle.measuring.proofs.spans.hull.Tie as tie
@@ -24,7 +24,7 @@ returns-3 : tie.Need-returns-3
 returns-3 c =
     let e = c .before .before in
     rw (c .before .smaller .ensures, c .larger .ensures)
-    (hull-of _ _ _ _ (omega arith) (omega arith) (e .before .before .if1 .left) (e .if2 .left))
+    (hull-ends _ _ _ _ (omega arith) (omega arith) (e .before .before .if1 .left) (e .if2 .left))
 
 pub hull-spec : {M : Type 1} → statement M
 hull-spec = tie.close (tie.spec returns returns-2 smaller-requires larger-requires returns-3)

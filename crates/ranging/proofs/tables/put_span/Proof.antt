@@ -1,7 +1,7 @@
 -- `put_span` meets its contract: two stores.
 use native.Mathlib.Omega.{arith}
 use lib.ListN.{length-set}
-use Rattle.ranging.specs.Tables.{stored-put}
+use Rattle.ranging.specs.Tables.{span-put}
 use borrow.Author.Needs.{needs}
 use Rattle.ranging.proofs.tables.put_span.Statement.{statement}
 use Rattle.ranging.proofs.tables.put_span.Tie as tie
@@ -34,7 +34,7 @@ same-length : tie.Need-same-length
 same-length c = search needs
 
 returns : tie.Need-returns
-returns c = stored-put _ _ _ _ (omega arith) (omega arith)
+returns c = span-put _ _ _ _ (omega arith) (omega arith)
 
 pub put-span-spec : {M : Type 1} → statement M
 put-span-spec =

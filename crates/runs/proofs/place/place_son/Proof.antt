@@ -10,8 +10,8 @@ use Rattle.runs.proofs.place.place_son.Tie as tie
 parent-group-requires : tie.Need-parent-group-requires
 parent-group-requires c κs = search needs
 
-start-of-requires : tie.Need-start-of-requires
-start-of-requires c κs = search needs
+son-start-requires : tie.Need-son-start-requires
+son-start-requires c κs = search needs
 
 cast-i : tie.Need-cast-i
 cast-i c = search needs
@@ -71,16 +71,16 @@ returns c =
     let t = s .pre .0 .grown in
     let long = size-in (s .args .groups .now) (s .args .size) in
     placed-by (s .args .firsts .now) (s .args .ends .now) (c6 .parent-group .result .0) (s .args .g .0)
-    (c .before .before .before .start-of .result)
+    (c .before .before .before .son-start .result)
     (t .tree) (t .rooted) (s .pre .0 .balanced) (s .pre .0 .top) (omega arith) (omega arith) (c6 .parent-group .ensures .0)
-    (s .pre .1 .1) (c .before .before .before .start-of .ensures)
+    (s .pre .1 .1) (c .before .before .before .son-start .ensures)
 
 pub place-son-spec : {M : Type 1} → statement M
 place-son-spec =
     tie.close
     (tie.spec
     parent-group-requires
-    start-of-requires
+    son-start-requires
     cast-i
     cast-j
     sub-firsts

@@ -1,8 +1,8 @@
--- `start_of` meets its contract.
+-- `son_start` meets its contract.
 use Rattle.runs.specs.Placed.{start-room, start-is}
 use borrow.Author.Needs.{needs}
-use Rattle.runs.proofs.place.start_of.Statement.{statement}
-use Rattle.runs.proofs.place.start_of.Tie as tie
+use Rattle.runs.proofs.place.son_start.Statement.{statement}
+use Rattle.runs.proofs.place.son_start.Tie as tie
 
 cast-i : tie.Need-cast-i
 cast-i c = search needs
@@ -63,8 +63,8 @@ returns c =
     start-is (w .grown) (w .balanced) (w .top) (s .args .p .0) (s .args .g .0) (s .pre .1 .0 .3) (s .pre .1 .1) _
     (rw (← c5 .mode-of .ensures) (c .start-under .ensures))
 
-pub start-of-spec : {M : Type 1} → statement M
-start-of-spec =
+pub son-start-spec : {M : Type 1} → statement M
+son-start-spec =
     tie.close
     (tie.spec
     cast-i
