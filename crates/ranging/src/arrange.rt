@@ -78,28 +78,6 @@ fn put_size(sizes: &mut [u32], left: &mut [u32], p: GroupNo, g: GroupNo, n: u32)
     left[j - 1] = minus(left[j - 1], n);
 }
 
-fn size_son(
-    groups: &[u16],
-    size: u16,
-    spans: &[u32],
-    after: &[u32],
-    sizes: &mut [u32],
-    left: &mut [u32],
-    g: GroupNo,
-)
-    requires { ⌜ Arrangeable (now groups) size (now spans) (now after) ⌝ }
-    requires { ⌜ (size ≤ length (now sizes)) × (size ≤ length (now left)) ⌝ }
-    requires { ⌜ (2 ≤ g .0) × (g .0 ≤ size) ⌝ }
-    ensures { λ _. ⌜ ((first f : ℕ → ℕ)
-        → Arranged (sheetIn (now (groups .entry)) size) (leastIn (now (spans .entry))) (greatestIn (now (spans .entry))) first f
-        → SizedTo (sheetIn (now (groups .entry)) size) f (numberIn (now (sizes .entry))) (numberIn (now (left .entry))) (g .0 - 1)
-        → SizedTo (sheetIn (now (groups .entry)) size) f (numberIn (now (sizes .exit))) (numberIn (now (left .exit))) (g .0)) ⌝ }
-{
-    let p = parent_group(groups, size, g);
-    let n = size_of(groups, spans, after, sizes, left, p, g);
-    put_size(sizes, left, p, g, n);
-}
-
 // the sizes of all groups
 fn size_groups(
     groups: &[u16],
@@ -121,7 +99,10 @@ fn size_groups(
     let mut i: u16 = 1;
     while i < size {
         i += 1;
-        size_son(groups, size, spans, after, sizes, left, GroupNo(i));
+        let g = GroupNo(i);
+        let p = parent_group(groups, size, g);
+        let n = size_of(groups, spans, after, sizes, left, p, g);
+        put_size(sizes, left, p, g, n);
     }
 }
 

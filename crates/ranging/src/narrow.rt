@@ -50,35 +50,8 @@ fn put_turn(ranges: &mut [u32], rest: &mut [u32], g: GroupNo, p: GroupNo, range:
     put_span(rest, p, left);
 }
 
-// Takes group g off the sons of its parent that are not yet taken.
-fn narrow_son(
-    groups: &[u16],
-    size: u16,
-    spans: &[u32],
-    after: &[u32],
-    ranges: &mut [u32],
-    rest: &mut [u32],
-    g: GroupNo,
-)
-    requires { ⌜ Tabled (now groups) size × Lent size (now spans) (now after) ⌝ }
-    requires { ⌜ (spanFields * size ≤ length (now ranges)) × (spanFields * size ≤ length (now rest)) ⌝ }
-    requires { ⌜ (2 ≤ g .0) × (g .0 ≤ size) ⌝ }
-    ensures { λ _. ⌜ ((z : ℕ → Bool → sizes.Span)
-        → Measures (sheetIn (now (groups .entry)) size) z (now (spans .entry)) (now (after .entry))
-        → Narrowed (sheetIn (now (groups .entry)) size) z (spanIn (now (ranges .entry))) (spanIn (now (rest .entry))) (g .0 - 1)
-        → Narrowed (sheetIn (now (groups .entry)) size) z (spanIn (now (ranges .exit))) (spanIn (now (rest .exit))) (g .0)) ⌝ }
-{
-    let p = parent_group(groups, size, g);
-    let kind = kind_of(mode_of(groups, p));
-    let own = out_at(spans, g);
-    let others = out_at(after, g);
-    let whole = span_at(rest, p);
-    let range = meet(own, pull(kind, whole, others));
-    let left = meet(others, pull(kind, whole, own));
-    put_turn(ranges, rest, g, p, range, left);
-}
-
-// The ranges of all groups, from the intervals that measuring left in `spans` and `after`.
+// The ranges of all groups, from the intervals that measuring left in `spans` and `after`: each turn takes one group off the
+// sons of its parent that are not yet taken.
 pub fn narrow(
     groups: &[u16],
     size: u16,
@@ -99,6 +72,14 @@ pub fn narrow(
     let mut i: u16 = 1;
     while i < size {
         i += 1;
-        narrow_son(groups, size, spans, after, ranges, rest, GroupNo(i));
+        let g = GroupNo(i);
+        let p = parent_group(groups, size, g);
+        let kind = kind_of(mode_of(groups, p));
+        let own = out_at(spans, g);
+        let others = out_at(after, g);
+        let whole = span_at(rest, p);
+        let range = meet(own, pull(kind, whole, others));
+        let left = meet(others, pull(kind, whole, own));
+        put_turn(ranges, rest, g, p, range, left);
     }
 }

@@ -8,14 +8,14 @@ use Rattle.meaning.specs.Arranged.{Arranged}
 use Rattle.reading.specs.SheetIn.{sheetIn, size-in}
 use Rattle.runs.specs.Told.{numberIn}
 use Rattle.ranging.specs.Tables.{leastIn, greatestIn}
-use Rattle.ranging.specs.Sized.{SizedTo, sized-root}
+use Rattle.ranging.specs.Sized.{SizedTo, sized-root, size-step}
 use borrow.Author.Needs.{needs}
 use Rattle.ranging.proofs.arrange.size_groups.Statement.{statement}
 use Rattle.ranging.proofs.arrange.size_groups.Tie as tie
 
 abbrev Inv-loop : tie.InvT-loop
 Inv-loop groups size spans after sizes₀ left₀ i₀ sizes left i =
-    (1 ≤ i) × (i ≤ size) × (length sizes ≡ length sizes₀) × (length left ≡ length left₀)
+    (1 ≤ i) × (i ≤ size) × (length sizes ≡ length sizes₀) × (length left ≡ length left₀) × (size ≤ length sizes) × (size ≤ length left)
     × ((first f : ℕ → ℕ) → Arranged (sheetIn groups size) (leastIn spans) (greatestIn spans) first f
     → SizedTo (sheetIn groups size) f (numberIn sizes) (numberIn left) i)
 
@@ -40,6 +40,8 @@ loop-holds c =
       search needs,
       refl,
       refl,
+      simp length-set (omega arith),
+      simp length-set (omega arith),
       λ first f a. sized-root (k .tree) (k .rooted .one)
           (getD-set-same (s .args .sizes .now) 0 _ 0 (omega arith) ∙ (root ∙ sym (a .rootSize)))
           (getD-set-same (s .args .left .now) 0 _ 0 (omega arith) ∙ (root ∙ sym (a .rootSize))),
@@ -48,27 +50,35 @@ loop-holds c =
 add-i : tie.Need-add-i Inv-loop μ-loop
 add-i c = search needs
 
-size-son-requires : tie.Need-size-son-requires Inv-loop μ-loop
-size-son-requires c κs =
-    let i = c .before .before .before .loop .inv in
-    let s = c .before .before .before .before .before .before .before .before .before .before in
-    let x : length (c .before .before .before .loop .sizes) ≡ length (s .args .sizes .now) = i .2 ∙ simp length-set in
-    let y : length (c .before .before .before .loop .left) ≡ length (s .args .left .now) = i .3 ∙ simp length-set in
-    (s .pre .0, (search needs, search needs))
+parent-group-requires : tie.Need-parent-group-requires Inv-loop μ-loop
+parent-group-requires c κs = search needs
+
+size-of-requires : tie.Need-size-of-requires Inv-loop μ-loop
+size-of-requires c κs = search needs
+
+put-size-requires : tie.Need-put-size-requires Inv-loop μ-loop
+put-size-requires c κs = search needs
 
 loop-less : tie.Need-loop-less Inv-loop μ-loop
 loop-less c = search needs
 
 loop-again : tie.Need-loop-again Inv-loop μ-loop
 loop-again c =
-    let turn = c .before .before .before .before in
-    let l = turn .before .before .before .before .loop in
+    let put = c .before .before .before .before in
+    let found = put .before .before .before in
+    let up = found .before .before .before in
+    let at = up .before .before in
+    let l = at .loop in
+    let s = at .before .before .before .before .before .before .before in
     let e : l .i + 1 - 1 ≡ l .i = omega arith in (
       search needs,
       search needs,
       search needs,
       search needs,
-      λ first f a. turn .size-son .ensures first f a (rw e (l .inv .4 first f a)),
+      search needs,
+      search needs,
+      λ first f a. size-step (s .pre .0) _ _ _ (up .parent-group .ensures .0) _ refl (found .size-of .ensures)
+          (put .put-size .ensures) first f a (rw e (l .inv .6 first f a)),
     )
 
 same-length : tie.Need-same-length Inv-loop μ-loop
@@ -81,7 +91,7 @@ returns : tie.Need-returns Inv-loop μ-loop
 returns c =
     let l = c .before .loop in
     let s = c .before .before .before .before .before .before .before .before in
-    λ first f a g q. l .inv .4 first f a .found g q (omega (arith, q .last, size-in (s .args .groups .now) (s .args .size)))
+    λ first f a g q. l .inv .6 first f a .found g q (omega (arith, q .last, size-in (s .args .groups .now) (s .args .size)))
 
 pub size-groups-spec : {M : Type 1} → statement M
 size-groups-spec =
@@ -94,7 +104,9 @@ size-groups-spec =
     slice-write-left
     loop-holds
     add-i
-    size-son-requires
+    parent-group-requires
+    size-of-requires
+    put-size-requires
     loop-less
     loop-again
     same-length
