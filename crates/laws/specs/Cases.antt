@@ -16,9 +16,6 @@ pub and-true : (a b : Bool) → (a && b) ≡ true → (a ≡ true) × (b ≡ tru
 and-true true b h = (refl, h)
 and-true false b h = absurd (false≢true h)
 
-pub and-of : (a b : Bool) → a ≡ true → b ≡ true → (a && b) ≡ true
-and-of a b h k = rw (h, k)
-
 -- cases on two numbers
 pub compare-le {ℓ} : {C : Type ℓ} (a b : ℕ) → (a ≤ b → C) → (b < a → C) → C
 compare-le a b y n = by-cases (decLe a b) y (λ h. n (omega arith))

@@ -13,7 +13,7 @@ use Rattle.reading.specs.Tables.{groupIn}
 use Rattle.reading.specs.SheetIn.{sheetIn, Tabled}
 use Rattle.sizes.specs.Span.{Span, none, meet, Kind, pull}
 use Rattle.sizes.specs.Fold.{joinKind, later, Measured}
-use Rattle.sizes.specs.Ranged.{free, held, Ranged}
+use Rattle.sizes.specs.Ranged.{free, held, sonRange, Ranged}
 use Rattle.sizes.specs.RangedExists.{held-eq}
 use Rattle.sizes.specs.RangeExact.{held-son, held-skip, possible-sets}
 use Rattle.laws.specs.Cases.{compare-le, compare-eq}
@@ -33,13 +33,12 @@ pub record Measures (s : Sheet) (z : ℕ → Bool → Span) (spans after : List 
 -- the groups up to i have their ranges R, and T is what the sons after i must make up
 pub record Narrowed (s : Sheet) (z : ℕ → Bool → Span) (R T : ℕ → Span) (i : ℕ) : Type 0 where
   pub root : R 1 ≡ z 1 false
-  pub son : (p g : ℕ) → Son s p g → g ≤ i
-      → R g ≡ meet (z g false) (pull (joinKind s p) (held s z R p g) (later s z p (s .size - g) false))
+  pub son : (p g : ℕ) → Son s p g → g ≤ i → R g ≡ sonRange s z (held s z R p g) p g
   pub rest : (p : ℕ) → Group s p → p ≤ i → T p ≡ held s z R p (suc i)
 
 -- one more group, g, a son of p: what changes in the two tables
 pub record Narrowing (s : Sheet) (z : ℕ → Bool → Span) (R T R' T' : ℕ → Span) (p g : ℕ) : Type 0 where
-  pub range : R' g ≡ meet (z g false) (pull (joinKind s p) (T p) (later s z p (s .size - g) false))
+  pub range : R' g ≡ sonRange s z (T p) p g
   pub ranges : (h : ℕ) → 1 ≤ h → (h ≡ g → ⊥) → R' h ≡ R h
   pub own : T' g ≡ R' g
   pub last : T' p ≡ meet (later s z p (s .size - g) false) (pull (joinKind s p) (T p) (z g false))

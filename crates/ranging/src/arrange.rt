@@ -20,7 +20,7 @@ ghost use Rattle.measuring.specs.Held.{topOf};
 ghost use Rattle.measuring.specs.Pairs.{pairFields};
 ghost use Rattle.runs.specs.Told.{numberIn};
 ghost use Rattle.ranging.specs.Tables.{leastIn, greatestIn};
-ghost use Rattle.ranging.specs.Sized.{sizeBy, Arrangeable, Sizing, SizedTo};
+ghost use Rattle.ranging.specs.Sized.{sizeBy, Arrangeable, Sizing};
 
 // The size of a son under a group of this mode with `whole` members, of which `rest` are left for it. Where 'same' with
 // 'disjoint' has two or more sons the group itself is empty, so no case of its own is needed.

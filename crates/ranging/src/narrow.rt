@@ -26,7 +26,7 @@ ghost use Rattle.measuring.specs.Held.{spanHeld};
 ghost use Rattle.measuring.specs.Pairs.{pairFields, pairIn};
 ghost use Rattle.measuring.specs.Done.{Lent};
 ghost use Rattle.ranging.specs.Tables.{spanFields, spanIn};
-ghost use Rattle.ranging.specs.Narrowed.{Measures, Turned, Narrowed};
+ghost use Rattle.ranging.specs.Narrowed.{Measures, Turned};
 
 // whether the root's interval, as measured, has a number: whether some sets fit
 pub fn possible(spans: &[u32]) -> bool

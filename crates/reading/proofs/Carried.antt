@@ -14,7 +14,8 @@ use Rattle.wire.specs.SheetFormat.{GroupRecord, NameRecord, headOf, groupOf, na
 use Rattle.wire.specs.Encoding.{encodeRecord, le16s, encodeClaim}
 use Rattle.wire.specs.Fields.{length-le16s}
 use Rattle.laws.specs.Cases.{split}
-use Rattle.wire.specs.Sorts.{length-u16s, claim-numbered, claim-cases, claim-count, claim-inside, claim-apart}
+use Rattle.wire.specs.Passing.{passed}
+use Rattle.wire.specs.Sorts.{length-u16s, claim-nonzero, claim-cases, claim-count, claim-inside, claim-apart}
 use Rattle.reading.specs.Tables.{length-tabulate, getD-tabulate}
 use Rattle.reading.specs.Meant.{meantNumber}
 use Rattle.reading.specs.ClaimHeld.{leftNames, rightNames, claimRecord}
@@ -30,7 +31,7 @@ use Rattle.reading.specs.declared.records.Record.the-variants as record-
 use Rattle.reading.specs.declared.records.Answer.{Answer}
 use Rattle.reading.specs.declared.records.Answer.the-variants as answer
 use Rattle.reading.proofs.records.Record.{the-type}
-use Rattle.reading.proofs.Fields.{length-at, passed}
+use Rattle.reading.proofs.Fields.{length-at}
 use Rattle.reading.proofs.Strings.{label-at, label-length}
 
 -- the record x was handed up: all tests passed, and it carries what stands there
@@ -152,7 +153,7 @@ lists-bytes s kind l = rw (length-lists kind (leftNames s l) (rightNames s l)) (
 claim-length : (names : ℕ) (b : List ℕ) → refusal (claimTests names [] b) ≡ 0 → length (encodeClaim (claimOf b)) ≡ u16At b 0 + 2
 unfolding encodeClaim
 claim-length names b e =
-    claim-cases names [] b (passed _ (claim-numbered names [] b) e)
+    claim-cases names [] b (passed _ (claim-nonzero names [] b) e)
     (λ k f. rw (claim-count b k) (unfold encodeRecord le16s le16 in omega arith))
     (λ k f. rw (claim-inside b k, length-lists 5 (leftOf b) (rightOf b)) (unfold leftOf rightOf in simp length-u16s (omega arith)))
     (λ k f. rw (claim-apart b k, length-lists 6 (leftOf b) (rightOf b)) (unfold leftOf rightOf in simp length-u16s (omega arith)))

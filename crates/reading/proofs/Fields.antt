@@ -9,10 +9,10 @@ use borrow.Author.Tests.{le-leb, eqb-true}
 use lib.ListN.{length, drop, length-drop}
 use lib.Dec.{leb, eqb}
 use Rattle.wire.specs.Fields.{u16-drop, u16s-drop}
-use Rattle.wire.specs.Passing.{Pass, Numbered, pass-of-refusal}
+use Rattle.wire.specs.Passing.{passed}
 use Rattle.laws.specs.Cases.{split, and-true}
-use Rattle.wire.specs.Sorts.{Framed, framed-true, framed-of, group-numbered, group-frame, name-numbered, name-frame}
-use Rattle.wire.specs.Sorts.{claim-numbered, claim-frame}
+use Rattle.wire.specs.Sorts.{Framed, framed-true, framed-of, group-nonzero, group-frame, name-nonzero, name-frame}
+use Rattle.wire.specs.Sorts.{claim-nonzero, claim-frame}
 use Rattle.wire.specs.Edition.{Edition, labelLimit}
 use Rattle.wire.specs.Bytes.{u16At}
 use Rattle.wire.specs.Record.{framed, Test, test, refusal}
@@ -92,13 +92,10 @@ sides-end m n len e =
     eqb-true (6 + 2 * (m + n)) len (and-true (leb 1 m && leb m 8 && leb 1 n && leb n 8) (eqb (6 + 2 * (m + n)) len) e .1)
 
 -- what a record that passed its tests shows
-pub passed : (ts : List Test) → Numbered 1 7 ts → refusal ts ≡ 0 → Pass ts
-passed ts n e = pass-of-refusal 1 7 ts n (omega arith) e
-
 pub group-whole : (s : List ℕ) (at : ℕ) (gs : List GroupRecord) → refusal (groupTests gs (drop at s)) ≡ 0 →
     (u16At s at ≡ 10) × (at + 12 ≤ length s)
 group-whole s at gs e =
-    let f = group-frame gs (drop at s) (passed _ (group-numbered gs (drop at s)) e) in
+    let f = group-frame gs (drop at s) (passed _ (group-nonzero gs (drop at s)) e) in
     let l = length-at s at in
     let d = length-drop at s in
     (omega arith, omega arith)
@@ -106,14 +103,14 @@ group-whole s at gs e =
 pub name-whole : (e : Edition) (s : List ℕ) (at groups : ℕ) (ns : List NameRecord) → refusal (nameTests e groups ns (drop at s)) ≡ 0 →
     WholeName s at × (u16At s at ≤ labelLimit e + 4)
 name-whole e s at groups ns w =
-    let f = name-frame e groups ns (drop at s) (passed _ (name-numbered e groups ns (drop at s)) w) in
+    let f = name-frame e groups ns (drop at s) (passed _ (name-nonzero e groups ns (drop at s)) w) in
     let l = length-at s at in
     let g = framed-whole s at (f .frame) in
     (record { least = omega arith; room = omega arith }, omega arith)
 
 pub claim-whole : (s : List ℕ) (at names : ℕ) (cs : List ClaimRecord) → refusal (claimTests names cs (drop at s)) ≡ 0 →
     (2 ≤ u16At s at) × (at + 2 + u16At s at ≤ length s)
-claim-whole s at names cs e = framed-whole s at (claim-frame names cs (drop at s) (passed _ (claim-numbered names cs (drop at s)) e))
+claim-whole s at names cs e = framed-whole s at (claim-frame names cs (drop at s) (passed _ (claim-nonzero names cs (drop at s)) e))
 
 -- a name's tests, its label's use set apart
 abbrev six : Bool → Bool → Bool → Bool → Bool → Bool → List Test

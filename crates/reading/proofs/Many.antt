@@ -12,7 +12,8 @@ use lib.ListN.{length, getD, drop, set, length-set}
 use lib.Seq.{drop-drop, sets, getD-set-same, getD-set-other}
 use Rattle.wire.specs.Bytes.{u16At}
 use Rattle.wire.specs.Edition.{Edition}
-use Rattle.wire.specs.Record.{after, Test, refusal, Reading, read, refused, onward}
+use Rattle.wire.specs.Record.{after, Test, refusal, Reading, onward}
+pub use Rattle.wire.specs.Passing.{never-read}
 use Rattle.wire.specs.SheetFormat.{GroupRecord, NameRecord, Records, groupOf, groupTests, nameOf}
 use Rattle.wire.specs.SheetFormat.{nameTests, used, claimOf, claimTests, readMany}
 use Rattle.wire.specs.Encoding.{encodeClaim}
@@ -30,10 +31,6 @@ use Rattle.reading.specs.declared.records.Record.{Record}
 use Rattle.reading.specs.declared.records.Record.the-variants as record-of
 use Rattle.reading.proofs.Fields.{length-at, group-whole, name-apart}
 use Rattle.reading.proofs.Carried.{Handed, group-same, name-same, claim-same, claim-bytes}
-
--- a refusal is no value
-pub never-read : {A C : Type 0} {n r : ℕ} {a : A} → refused n r ≡ read a → C
-never-read e = let z : _≡_ {A = ℕ} 0 1 = cc in absurd (omega arith)
 
 -- i of the records are the list xs, and reading what is left from the place `at` on is reading the whole
 pub record Left {A : Type 0} (tests : List A → List ℕ → List Test) (value : List ℕ → A) (s : List ℕ) (from count first i at : ℕ)

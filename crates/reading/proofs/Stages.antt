@@ -11,7 +11,8 @@ use Rattle.wire.specs.Bytes.{u16At}
 use Rattle.wire.specs.Record.{after, refusal, Reading, read, refused, onward}
 use Rattle.wire.specs.SheetFormat.{HeadRecord, GroupRecord, NameRecord, ClaimRecord, Records, groupOf, groupTests, nameOf}
 use Rattle.wire.specs.SheetFormat.{closing, readClaims, readNames, readGroups, headOf, headTests, readSheet}
-use Rattle.wire.specs.Sorts.{HeadRight, head-numbered, head-right}
+use Rattle.wire.specs.Passing.{passed}
+use Rattle.wire.specs.Sorts.{HeadRight, head-nonzero, head-right}
 use Rattle.meaning.specs.OfRecords.{nameGroup}
 use Rattle.reading.specs.ClaimTable.{claimsIn}
 use Rattle.reading.specs.Answers.{headRecord, head}
@@ -23,7 +24,6 @@ use Rattle.reading.specs.declared.load.Loaded.{Loaded}
 use Rattle.reading.specs.declared.records.Head.{Head}
 use Rattle.reading.specs.declared.records.Record.{Record}
 use Rattle.reading.specs.declared.records.Record.the-variants as record-of
-use Rattle.reading.proofs.Fields.{passed}
 use Rattle.reading.proofs.Carried.{Handed, head-same}
 use Rattle.reading.proofs.Many.{never-read}
 
@@ -91,7 +91,7 @@ head-refused s n e h = rw (e, ne-eqb n 0 h)
 
 module _ {s : List ℕ} {x : Record} {h : Head} (w : Handed headTests (λ b. head (headOf b)) s 0 x) (e : x ≡ record-of.Head h) where
   right : HeadRight s
-  right = head-right s (passed _ (head-numbered s) (w .pass))
+  right = head-right s (passed _ (head-nonzero s) (w .pass))
 
   pub head-limits : (12 ≤ length s) × HeadLimits (headRecord h)
   unfolding headOf

@@ -12,16 +12,16 @@ use Rattle.wire.specs.Bytes.{u16At}
 use Rattle.wire.specs.Record.{kindOf, refusal}
 use Rattle.wire.specs.SheetFormat.{u16s, allWithin, leftOf, rightOf, claimTests}
 use Rattle.laws.specs.Cases.{and-true}
-use Rattle.wire.specs.Passing.{Pass}
+use Rattle.wire.specs.Passing.{Pass, passed}
 use Rattle.wire.specs.Facts.{within-at}
-use Rattle.wire.specs.Sorts.{SidesFrame, claim-numbered, claim-frame, claim-cases, claim-count, claim-inside, claim-apart}
+use Rattle.wire.specs.Sorts.{SidesFrame, claim-nonzero, claim-frame, claim-cases, claim-count, claim-inside, claim-apart}
 use Rattle.reading.specs.ClaimHeld.{ListsHeld}
 use Rattle.reading.specs.Answers.{recordAs, ClaimTaken, ClaimAnswer}
 use Rattle.reading.specs.declared.claim.Claim.{Claim}
 use Rattle.reading.specs.declared.claim.Claim.the-variants as claim-of
 use Rattle.reading.specs.declared.records.Record.the-variants as record-of
 use Rattle.reading.specs.declared.records.Answer.the-variants as answer
-use Rattle.reading.proofs.Fields.{field-at, fields-at, read-at, passed}
+use Rattle.reading.proofs.Fields.{field-at, fields-at, read-at}
 use Rattle.reading.proofs.Carried.{answer-refused, answer-record}
 
 -- numbers that are all from 1 to `names`
@@ -41,7 +41,7 @@ all-within s names i (suc n) e (suc j) l =
 
 pub claim-room : (s : List ℕ) (at names : ℕ) → refusal (claimTests names [] (drop at s)) ≡ 0 → at + 10 ≤ length s
 claim-room s at names e =
-    let p = passed _ (claim-numbered names [] (drop at s)) e in
+    let p = passed _ (claim-nonzero names [] (drop at s)) e in
     let w = claim-frame names [] (drop at s) p in
     claim-cases names [] (drop at s) p (λ k f. omega (arith, length-drop at s)) (λ k f. omega (arith, length-drop at s))
     (λ k f. omega (arith, length-drop at s))
@@ -54,7 +54,7 @@ count-taken s at name lo hi k a b c =
     let kind : kindOf (drop at s) ≡ 4 = field-at s at 2 ∙ k in
     record {
       says = rw (claim-count (drop at s) kind, kind, read-at s at 4 name a, read-at s at 6 lo b, read-at s at 8 hi c);
-      held = λ names p. claim-cases names [] (drop at s) (passed _ (claim-numbered names [] (drop at s)) p)
+      held = λ names p. claim-cases names [] (drop at s) (passed _ (claim-nonzero names [] (drop at s)) p)
           (λ four f. rw (read-at s at 4 name a) at (within-at names (u16At (drop at s) 4 ∷ []) (f .name) 0 0 (omega arith)))
           (λ five f. absurd (omega arith)) (λ six f. absurd (omega arith));
     }
@@ -88,7 +88,7 @@ module _ (s : List ℕ) (at m n : ℕ) (a : m ≡ u16At s (at + 4)) (b : n ≡ u
   lists-held : (u16At s (at + 2) ≡ 4 → ⊥) → (names : ℕ) → refusal (claimTests names [] (drop at s)) ≡ 0 →
       ListsHeld s names (record { m = m; n = n; at = at + 8 })
   lists-held k names e =
-      let p = passed _ (claim-numbered names [] (drop at s)) e in
+      let p = passed _ (claim-nonzero names [] (drop at s)) e in
       claim-cases names [] (drop at s) p (λ four f. absurd (k (sym (field-at s at 2) ∙ four)))
       (λ five f. sides-held names p f) (λ six f. sides-held names p f)
 

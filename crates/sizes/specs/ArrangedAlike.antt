@@ -20,19 +20,19 @@ module _ {s : Sheet} (t : Tree s) {first size first' size' L L' : ℕ → ℕ} {
       let all = sons-eq s p L L' (λ j o. c j (o .group)) in
       rw (b p (son-parent t k), sums, lower, all, c g (k .group), d g (k .group))
 
-  ended-eq : (p n : ℕ) → Group s p → n ≤ suc (s .size) → ended s first size p n ≡ ended s first' size' p n
+  ended-alike : (p n : ℕ) → Group s p → n ≤ suc (s .size) → ended s first size p n ≡ ended s first' size' p n
   unfolding ended
-  ended-eq p zero q l = a p q
-  ended-eq p (suc n) q l =
+  ended-alike p zero q l = a p q
+  ended-alike p (suc n) q l =
       split (isSon s p n)
       (λ e. let o = son-of s p n (omega arith) e in rw (e, a n (o .group), b n (o .group)))
-      (λ e. rw e (ended-eq p n q (omega arith)))
+      (λ e. rw e (ended-alike p n q (omega arith)))
 
   firstOf-eq : (p g : ℕ) → Son s p g → firstOf s first size p g ≡ firstOf s first' size' p g
   unfolding firstOf
   firstOf-eq p g k =
       let q = son-parent t k in
-      rw (a p q, b p q, b g (k .group), ended-eq p g q (omega (arith, k .group .last)))
+      rw (a p q, b p q, b g (k .group), ended-alike p g q (omega (arith, k .group .last)))
 
   pub arranged-alike : Rooted s → Arranged s L U first size → Arranged s L' U' first' size'
   arranged-alike r w = record {

@@ -100,8 +100,8 @@ module _ (s : Sheet) (L : ℕ → ℕ) (U : ℕ → Top) (size : ℕ → ℕ) (p
       )
 
   -- Under 'disjoint' with 'cover': the sons before n leave room for the least of the others, and have no less than f gives.
-  abbrev Shared : ℕ → Type 0
-  Shared n =
+  abbrev SharedTo : ℕ → Type 0
+  SharedTo n =
       (sum (only s p size) n + sons s p L ≤ size p + sum (only s p L) n) × (sum (only s p f) n ≤ sum (only s p size) n)
 
   module _ (m : s .same p ≡ false) (c : s .cover p ≡ true) (d : s .disjoint p ≡ true) where
@@ -110,7 +110,7 @@ module _ (s : Sheet) (L : ℕ → ℕ) (U : ℕ → Top) (size : ℕ → ℕ) (p
     shared-is g k = rw (m, c, d) at (given g k)
 
     -- between what is left and the smaller of that and f, and not below the least
-    shared-size : (g : ℕ) → Son s p g → Shared g
+    shared-size : (g : ℕ) → Son s p g → SharedTo g
         → (sum (only s p size) g + size g + sons s p L ≤ size p + sum (only s p L) g + L g)
         × (sum (only s p f) g + f g ≤ sum (only s p size) g + size g) × (L g ≤ size g)
     unfolding leftFor sons
@@ -129,18 +129,18 @@ module _ (s : Sheet) (L : ℕ → ℕ) (U : ℕ → Top) (size : ℕ → ℕ) (p
         (omega arith) in
         (omega arith, omega (arith, r .apart d), omega arith)
 
-    shared : (n : ℕ) → n ≤ suc (s .size) → Shared n
+    shared-to : (n : ℕ) → n ≤ suc (s .size) → SharedTo n
     unfolding sum
-    shared zero l = (omega (arith, r .apart d, sons-le s p L f (λ g k. within g k .0)), le-refl 0)
-    shared (suc n) l =
+    shared-to zero l = (omega (arith, r .apart d, sons-le s p L f (λ g k. within g k .0)), le-refl 0)
+    shared-to (suc n) l =
         split (isSon s p n)
-        (λ o. let w = shared-size n (son-of s p n (omega arith) o) (shared n (omega arith)) in rw o (omega arith))
-        (λ o. rw o (omega (arith, shared n (omega arith))))
+        (λ o. let w = shared-size n (son-of s p n (omega arith) o) (shared-to n (omega arith)) in rw o (omega arith))
+        (λ o. rw o (omega (arith, shared-to n (omega arith))))
 
     shared-kept : SizesKept
     unfolding sons leftFor
     shared-kept =
-        let w = shared (suc (s .size)) (le-refl _) in (
+        let w = shared-to (suc (s .size)) (le-refl _) in (
           record {
             inside = λ g k. omega (arith, shared-is g k, cap-most (U g) (leftFor s L size p g));
             equal = λ g k o. absurd (true-not-false _ o m);
@@ -148,7 +148,7 @@ module _ (s : Sheet) (L : ℕ → ℕ) (U : ℕ → Top) (size : ℕ → ℕ) (p
             covered = λ o. omega (arith, r .covered c);
           },
           λ g k. (
-            shared-size g k (shared g (omega arith)) .2,
+            shared-size g k (shared-to g (omega arith)) .2,
             rw (shared-is g k) (cap-at (U g) (leftFor s L size p g)),
           ),
         )

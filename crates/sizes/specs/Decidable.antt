@@ -46,28 +46,28 @@ hasNone : Span → Bool
 hasNone none = true
 hasNone (span l u) = false
 
-lowest : Span → ℕ
-lowest none = 0
-lowest (span l u) = l
+leastOf : Span → ℕ
+leastOf none = 0
+leastOf (span l u) = l
 
-lowest-or-none : (a : Span) → Proper a
-    → ((hasNone a ≡ false) × In (lowest a) a) ⊎ ((hasNone a ≡ true) × ((n : ℕ) → In n a → ⊥))
-unfolding hasNone lowest
-lowest-or-none none p = inr (refl, λ n i. i)
-lowest-or-none (span l u) p = inl (refl, proper-least l u p)
+least-or-none : (a : Span) → Proper a
+    → ((hasNone a ≡ false) × In (leastOf a) a) ⊎ ((hasNone a ≡ true) × ((n : ℕ) → In n a → ⊥))
+unfolding hasNone leastOf
+least-or-none none p = inr (refl, λ n i. i)
+least-or-none (span l u) p = inl (refl, proper-least l u p)
 
 -- the first state whose span has a number, in if neither has one
 stateOf : (Bool → Span) → Bool
 stateOf a = hasNone (a false)
 
 state-or-none : (a : Bool → Span) → ((c : Bool) → Proper (a c))
-    → In (lowest (a (stateOf a))) (a (stateOf a)) ⊎ ((c : Bool) (n : ℕ) → In n (a c) → ⊥)
+    → In (leastOf (a (stateOf a))) (a (stateOf a)) ⊎ ((c : Bool) (n : ℕ) → In n (a c) → ⊥)
 unfolding stateOf
 state-or-none a p =
     ⊎-elim
     (λ w. inl (rw (w .0) (w .1)))
-    (λ w. ⊎-elim (λ v. inl (rw (w .0) (v .1))) (λ v. inr (both (w .1) (v .1))) (lowest-or-none (a true) (p true)))
-    (lowest-or-none (a false) (p false))
+    (λ w. ⊎-elim (λ v. inl (rw (w .0) (v .1))) (λ v. inr (both (w .1) (v .1))) (least-or-none (a true) (p true)))
+    (least-or-none (a false) (p false))
   where
     both : ((n : ℕ) → In n (a false) → ⊥) → ((n : ℕ) → In n (a true) → ⊥) → (c : Bool) (n : ℕ) → In n (a c) → ⊥
     both x y false = x
@@ -80,10 +80,10 @@ choice-dec {s} may t =
     let m = spans-measured s may t in
     ⊎-elim
     (λ w. no (λ v. w .2 .1 (v .1 (w .0)) (v .0 (w .0)) (sound s may z t m (v .0) (v .1) (v .2) (w .0) (w .2 .0))))
-    (λ w. let v = had s may z t m (λ g. lowest (z g (stateOf (z g)))) (λ g. stateOf (z g)) (λ g q e. w g (omega arith) q) in
+    (λ w. let v = had s may z t m (λ g. leastOf (z g (stateOf (z g)))) (λ g. stateOf (z g)) (λ g q e. w g (omega arith) q) in
     yes (v .0, v .1, v .2))
     (one-or-all {P = λ g. Group s g × ((c : Bool) (n : ℕ) → In n (z g c) → ⊥)}
-    {Q = λ g. Group s g → In (lowest (z g (stateOf (z g)))) (z g (stateOf (z g)))} (suc (s .size))
+    {Q = λ g. Group s g → In (leastOf (z g (stateOf (z g)))) (z g (stateOf (z g)))} (suc (s .size))
     (λ g l. compare-le 1 g
     (λ i. let q : Group s g = omega arith in
     ⊎-elim (λ x. inr (λ o. x)) (λ x. inl (q, x)) (state-or-none (z g) (span-proper s may z t m g q)))

@@ -86,9 +86,9 @@ module _ (s : Sheet) (t : Tree s) (o : s .parent 0 ≡ 0) (g : ℕ) (k : Group s
   unfolding partAt
   part-root = rw (eq-eqb g g refl)
 
-  son-parent : (r : Sheet) (p h : ℕ) → s .parent h ≡ r .parent h → isSon s p h ≡ isSon r p h
+  isSon-eq : (r : Sheet) (p h : ℕ) → s .parent h ≡ r .parent h → isSon s p h ≡ isSon r p h
   unfolding isSon
-  son-parent r p h e = rw e
+  isSon-eq r p h e = rw e
 
   not-son : (r : Sheet) (p h : ℕ) → r .parent h < p → isSon r p h ≡ false
   unfolding isSon
@@ -106,7 +106,7 @@ module _ (s : Sheet) (t : Tree s) (o : s .parent 0 ≡ 0) (g : ℕ) (k : Group s
             (λ e. let c : s .parent h < p = omega (arith, t .before h b, part-after (s .size) p (j .last) i) in
             let d : partAt s g .parent h < p = rw (eq-eqb h g e) (j .first) in
             not-son s p h c ∙ sym (not-son (partAt s g) p h d))
-            (λ e. son-parent (partAt s g) p h (sym (part-parent h e)));
+            (λ e. isSon-eq (partAt s g) p h (sym (part-parent h e)));
         lo = rw i;
         hi = rw i;
         disjoint = rw i;

@@ -60,8 +60,8 @@ upto-before : (s : Sheet) (p : ℕ) (f : ℕ → ℕ) (n x : ℕ) → n < s .siz
     → Upto s p f (suc (s .size - suc n)) x
 upto-before s p f n x l u = let e : s .size - n ≡ suc (s .size - suc n) = omega arith in subst (λ k. Upto s p f k x) e u
 
-last-is : (s : Sheet) (g : ℕ) → g ≤ s .size → s .size - (s .size - g) ≡ g
-last-is s g l = omega arith
+back-again : (s : Sheet) (g : ℕ) → g ≤ s .size → s .size - (s .size - g) ≡ g
+back-again s g l = omega arith
 
 -- some sizes give g the number k
 abbrev pub Had : Sheet → ℕ → ℕ → Type 0
@@ -75,9 +75,9 @@ pub record Extent (s : Sheet) (g l : ℕ) (u : Top) : Type 0 where
   pub endless : u ≡ inf → (k : ℕ) → l ≤ k → Had s g k
 
 -- a span that has a number has ends, and one with ends has a number
-in-ends : (k : ℕ) (a : Span) → In k a → (l : ℕ) × (u : Top) × (a ≡ span l u)
-in-ends k none i = absurd i
-in-ends k (span l u) i = (l, u, refl)
+in-has-ends : (k : ℕ) (a : Span) → In k a → (l : ℕ) × (u : Top) × (a ≡ span l u)
+in-has-ends k none i = absurd i
+in-has-ends k (span l u) i = (l, u, refl)
 
 some-in : (a : Span) → Proper a → (a ≡ none → ⊥) → (k : ℕ) × In k a
 some-in none h n = absurd (n refl)
@@ -124,7 +124,7 @@ module _ {s : Sheet} {z : ℕ → Bool → Span} (t : Tree s) (r : Rooted s) (m 
 
   -- where sizes exist, the spans of the fold have ends
   pub span-has-ends : (f : ℕ → ℕ) → Sizes s f → (g : ℕ) → Group s g → (l : ℕ) × (u : Top) × (z g false ≡ span l u)
-  span-has-ends f w g q = in-ends (f g) (z g false) (sizes-in f w g q)
+  span-has-ends f w g q = in-has-ends (f g) (z g false) (sizes-in f w g q)
 
 module _ {s : Sheet} {z : ℕ → Bool → Span} {R : ℕ → Span} (t : Tree s) (r : Rooted s) (m : Measured s free z)
     (h : Ranged s z R) where
@@ -138,7 +138,7 @@ module _ {s : Sheet} {z : ℕ → Bool → Span} {R : ℕ → Span} (t : Tree s)
       let v = held-of f w p q i n (omega arith) in
       let k = s .size - suc n in
       let u = upto-before s p f n (v .0) l (v .1) in
-      let o : s .size - k ≡ suc n = last-is s (suc n) l in
+      let o : s .size - k ≡ suc n = back-again s (suc n) l in
       split (isSon s p (suc n))
       (λ e. let a = upto-son s p f k (v .0) (rw o e) .0 u in
       let b : Son s p (suc n) = son-of s p (suc n) l e in (
@@ -159,7 +159,7 @@ module _ {s : Sheet} {z : ℕ → Bool → Span} {R : ℕ → Span} (t : Tree s)
   son-in-range f w p (suc n) k i =
       let v = held-of f w p (son-parent t k) i n (omega arith) in
       let j = s .size - suc n in
-      let o : s .size - j ≡ suc n = last-is s (suc n) (k .group .last) in
+      let o : s .size - j ≡ suc n = back-again s (suc n) (k .group .last) in
       let u = upto-before s p f n (v .0) (k .group .last) (v .1) in
       let a = upto-son s p f j (v .0) (rw o (son-is k)) .0 u in
       rw (h .son p (suc n) k)
@@ -196,7 +196,7 @@ module _ {s : Sheet} {z : ℕ → Bool → Span} {R : ℕ → Span} (t : Tree s)
   taken-put : (p n x y a : ℕ) (f : ℕ → ℕ) (M : ℕ → Bool) → Son s p n → Makes (joinKind s p) x y a → In y (z n false)
       → Taken s z p (s .size - n) x false f M → Taken s z p (suc (s .size - n)) a false (put n y f) (put n false M)
   taken-put p n x y a f M k w i v =
-      let o = last-is s n (k .group .last) in
+      let o = back-again s n (k .group .last) in
       subst (λ j. Taken s z p (suc (s .size - n)) a false (put j y f) (put j false M)) o
       (taken-more s z p (s .size - n) a false false false f M x y (rw o (son-is k)) (makes-zero (joinKind s p)) w (rw o i) v)
 
@@ -208,7 +208,7 @@ module _ {s : Sheet} {z : ℕ → Bool → Span} {R : ℕ → Span} (t : Tree s)
       (x, f, M, rw (held-none s z R p) at i, subst (λ k. Taken s z p k x false f M) c v, e, o)
   held-in p g y q (suc n) l b x f M i v e o =
       let c : suc (s .size - suc n) ≡ s .size - n = omega arith in
-      let d = last-is s (suc n) (omega arith) in
+      let d = back-again s (suc n) (omega arith) in
       split (isSon s p (suc n))
       (λ a. let k : Son s p (suc n) = son-of s p (suc n) (omega arith) a in
       let u = pull-in (joinKind s p) (held s z R p (suc n)) (z (suc n) false) x
@@ -290,7 +290,7 @@ module _ {s : Sheet} {z : ℕ → Bool → Span} {R : ℕ → Span} (t : Tree s)
   -- where sizes exist, the ends of a range are the least and the greatest number
   pub range-ends : (f : ℕ → ℕ) → Sizes s f → (g : ℕ) → Group s g → (l : ℕ) × (u : Top) × (R g ≡ span l u) × Extent s g l u
   range-ends f w g q =
-      let e = in-ends (f g) (R g) (range-sound f w g q) in
+      let e = in-has-ends (f g) (R g) (range-sound f w g q) in
       let l = e .0 in
       let u = e .1 in
       let had : (k : ℕ) → In k (span l u) → Had s g k = λ k i. range-had g k q (rw (e .2) i) in

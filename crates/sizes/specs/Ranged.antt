@@ -18,7 +18,10 @@ held s z R p zero = R p
 held s z R p (suc n) =
     cond (isSon s p n) (meet (later s z p (s .size - n) false) (pull (joinKind s p) (held s z R p n) (z n false))) (held s z R p n)
 
+-- the range of the son g of p, where the sons from g on must make up t
+abbrev pub sonRange : Sheet → (ℕ → Bool → Span) → Span → ℕ → ℕ → Span
+sonRange s z t p g = meet (z g false) (pull (joinKind s p) t (later s z p (s .size - g) false))
+
 pub record Ranged (s : Sheet) (z : ℕ → Bool → Span) (R : ℕ → Span) : Type 0 where
   pub root : R 1 ≡ z 1 false
-  pub son : (p g : ℕ) → Son s p g →
-      R g ≡ meet (z g false) (pull (joinKind s p) (held s z R p g) (later s z p (s .size - g) false))
+  pub son : (p g : ℕ) → Son s p g → R g ≡ sonRange s z (held s z R p g) p g

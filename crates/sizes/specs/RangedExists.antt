@@ -8,9 +8,8 @@ use borrow.Author.Tests.{ne-eqb}
 use lib.Dec.{eqb}
 use Rattle.meaning.specs.Sheet.{Sheet, Group, Son}
 use Rattle.meaning.specs.Tree.{Tree, Rooted}
-use Rattle.sizes.specs.Span.{Span, meet, pull}
-use Rattle.sizes.specs.Fold.{joinKind, later}
-use Rattle.sizes.specs.Ranged.{held, Ranged}
+use Rattle.sizes.specs.Span.{Span}
+use Rattle.sizes.specs.Ranged.{held, sonRange, Ranged}
 use Rattle.laws.specs.Cases.{compare-eq}
 use Rattle.meaning.proofs.SonLaws.{son-parent}
 
@@ -81,14 +80,12 @@ unfolding held
 held-eq s z h k p zero e = e
 held-eq s z h k p (suc n) e = rw (held-eq s z h k p n e)
 
-abbrev sonRange : Sheet → (ℕ → Bool → Span) → (ℕ → Span) → ℕ → ℕ → Span
-sonRange s z R p g = meet (z g false) (pull (joinKind s p) (held s z R p g) (later s z p (s .size - g) false))
-
 module _ {s : Sheet} (t : Tree s) (r : Rooted s) (z : ℕ → Bool → Span) where
-  range-local : (h k : ℕ → Span) (p g : ℕ) → Son s p g → AlikeBelow s h k g → sonRange s z h p g ≡ sonRange s z k p g
+  range-local : (h k : ℕ → Span) (p g : ℕ) → Son s p g → AlikeBelow s h k g
+      → sonRange s z (held s z h p g) p g ≡ sonRange s z (held s z k p g) p g
   range-local h k p g q j = rw (held-eq s z h k p g (j p (son-parent t q) (omega (arith, t .before g (q .group)))))
 
   pub ranged-exists : (R : ℕ → Span) × Ranged s z R
   ranged-exists =
-      let w = down-exists t r (z 1 false) (sonRange s z) range-local in
+      let w = down-exists t r (z 1 false) (λ R p g. sonRange s z (held s z R p g) p g) range-local in
       (w .0, record { root = w .1 .root; son = w .1 .son })

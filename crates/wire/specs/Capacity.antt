@@ -7,10 +7,6 @@ use Rattle.wire.specs.Edition.{Edition, groupLimit, labelLimit}
 abbrev pub groupCapacity : ℕ
 groupCapacity = 128
 
--- the number that is one past the last record of the longest sheet
-abbrev pub recordLimit : ℕ
-recordLimit = 2 + groupCapacity + nameLimit + claimLimit
-
 -- bytes of the records of a sheet, length field and kind among them: kind 1 (head), 2 (group), 4 to 6 (claim, the most)
 abbrev pub headBytes : ℕ
 headBytes = 12

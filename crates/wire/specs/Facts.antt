@@ -10,22 +10,21 @@ use lib.Seq.{getD-drop}
 use lib.Dec.{leb, ltb, eqb}
 use borrow.Author.Tests.{leb-true, ltb-true, eqb-true}
 use Rattle.wire.specs.Limits.{noEnd}
-use Rattle.wire.specs.Capacity.{groupCapacity, recordLimit, groupBytes, claimBytes}
+use Rattle.wire.specs.Capacity.{groupCapacity, groupBytes, claimBytes}
 use Rattle.wire.specs.Edition.{Edition, editionOf}
 use Rattle.wire.specs.Capacity.{nameBytes, sheetLimit}
 use Rattle.wire.specs.EditionFacts.{groups-within}
 use Rattle.wire.specs.Bytes.{u16At}
-use Rattle.wire.specs.Record.{lengthOf, after, test, read, refused}
+use Rattle.wire.specs.Record.{lengthOf, after, test, read}
 use Rattle.wire.specs.SheetFormat.{headTests, groupTests, nameTests, claimTests, headOf, groupOf, nameOf, claimOf}
 use Rattle.wire.specs.SheetFormat.{HeadRecord, GroupRecord, NameRecord, ClaimRecord, count, Records}
 use Rattle.wire.specs.SheetFormat.{parentAllowed, allWithin, closing, readClaims, readNames, readGroups, readSheet}
-use Rattle.wire.specs.Encoding.{Bytes, GroupRight, NameRight, ClaimRight, GroupEnd, ClaimEnd, Right, SheetWithin}
+use Rattle.wire.specs.Encoding.{Bytes, GroupRight, NameRight, GroupEnd, ClaimEnd, Right, SheetWithin}
 use Rattle.laws.specs.Cases.{split, and-true}
-use Rattle.wire.specs.Passing.{Pass, Numbered, onward-read, Refuses, onward-refuses}
+use Rattle.wire.specs.Passing.{Pass, Nonzero, onward-read}
 use Rattle.wire.specs.Many.{Reads, reads-same, empty-of-length, each-at, each-read, kept-read, reads-length, many-read}
-use Rattle.wire.specs.Many.{many-refuses}
-use Rattle.wire.specs.Sorts.{HeadRight, head-numbered, head-right, group-numbered, group-frame, group-right, name-numbered}
-use Rattle.wire.specs.Sorts.{name-frame, name-right, claim-numbered, claim-cases, claim-right, claim-count}
+use Rattle.wire.specs.Sorts.{HeadRight, head-nonzero, head-right, group-nonzero, group-frame, group-right, name-nonzero}
+use Rattle.wire.specs.Sorts.{name-frame, name-right, claim-nonzero, claim-cases, claim-right, claim-count}
 use Rattle.wire.specs.Sorts.{claim-inside, claim-apart}
 
 -- The bytes b are a head, groups, names and claims that pass their tests, and nothing else; they carry d.
@@ -41,8 +40,8 @@ pub record SheetRead (b : List ℕ) (d : Records) : Type 0 where
   pub names : Reads (nameTests (d .edition) (length (d .groups))) nameOf [] afterGroups (d .names) afterNames
   pub claims : Reads (claimTests (length (d .names))) claimOf [] afterNames (d .claims) []
 
-closing-numbered : (c : List ℕ) → Numbered 1 7 (test 7 (eqb (length c) 0) ∷ [])
-closing-numbered c = omega arith
+closing-nonzero : (c : List ℕ) → Nonzero (test 7 (eqb (length c) 0) ∷ [])
+closing-nonzero c = omega arith
 
 claims-read : (h : HeadRecord) (gs : List GroupRecord) (r : ℕ) (ns : List NameRecord) (b : List ℕ) (d : Records)
     → readClaims h gs r ns b ≡ read d
@@ -50,9 +49,9 @@ claims-read : (h : HeadRecord) (gs : List GroupRecord) (r : ℕ) (ns : List Name
     × Reads (claimTests (h .names)) claimOf [] b (d .claims) []
 unfolding readClaims closing
 claims-read h gs r ns b d e =
-    let c = many-read (claimTests (h .names)) claimOf (closing (h .edition) gs ns) 7 (claim-numbered (h .names)) (h .claims) r []
+    let c = many-read (claimTests (h .names)) claimOf (closing (h .edition) gs ns) (claim-nonzero (h .names)) (h .claims) r []
     b d e in
-    let l = onward-read 1 7 (test 7 (eqb (length (c .1)) 0) ∷ []) (closing-numbered (c .1)) (omega arith) _ _ d (c .4) in
+    let l = onward-read (test 7 (eqb (length (c .1)) 0) ∷ []) (closing-nonzero (c .1)) _ _ d (c .4) in
     let same : record { edition = h .edition; groups = gs; names = ns; claims = c .0 } ≡ d = cc (l .1) in
     rw (← same) (refl, refl, refl, c .2, reads-same refl (empty-of-length (c .1) (eqb-true _ _ (l .0 .0))) (c .3))
 
@@ -62,7 +61,7 @@ names-read : (h : HeadRecord) (r : ℕ) (gs : List GroupRecord) (b : List ℕ) (
     × Reads (claimTests (h .names)) claimOf [] c (d .claims) []
 unfolding readNames
 names-read h r gs b d e =
-    let n = many-read (nameTests (h .edition) (h .groups)) nameOf (readClaims h gs) 7 (name-numbered (h .edition) (h .groups))
+    let n = many-read (nameTests (h .edition) (h .groups)) nameOf (readClaims h gs) (name-nonzero (h .edition) (h .groups))
     (h .names) r [] b d e in
     let l = claims-read h gs _ (n .0) (n .1) d (n .4) in
     (n .1, l .0, l .1, ap length (l .2) ∙ n .2, l .3, reads-same (sym (l .2)) refl (n .3), l .4)
@@ -70,8 +69,8 @@ names-read h r gs b d e =
 pub sheet-read : (b : List ℕ) (d : Records) → readSheet b ≡ read d → SheetRead b d
 unfolding readSheet readGroups headOf
 sheet-read b d e =
-    let h = onward-read 1 7 (headTests b) (head-numbered b) (omega arith) 1 (readGroups (headOf b) (after b)) d e in
-    let g = many-read groupTests groupOf (readNames (headOf b)) 7 group-numbered (u16At b 6) 2 [] (after b) d (h .1) in
+    let h = onward-read (headTests b) (head-nonzero b) 1 (readGroups (headOf b) (after b)) d e in
+    let g = many-read groupTests groupOf (readNames (headOf b)) group-nonzero (u16At b 6) 2 [] (after b) d (h .1) in
     let l = names-read (headOf b) _ (g .0) (g .1) d (g .4) in
     let count : length (d .groups) ≡ u16At b 6 = ap length (l .2) ∙ g .2 in
     record {
@@ -134,10 +133,6 @@ module _ {d : Records} (R : Right d) (i : ℕ) where
   pub name-at : (z : NameRecord) → i < length (d .names)
       → NameRight (d .edition) (length (d .groups)) (take i (d .names)) (getD (d .names) i z)
   name-at z l = each-at (R .names) i z l
-
-  pub claim-at : (z : ClaimRecord) → i < length (d .claims)
-      → ClaimRight (length (d .names)) (take i (d .claims)) (getD (d .claims) i z)
-  claim-at z l = each-at (R .claims) i z l
 
 pub root-parent : {d : Records} → Right d → (z : GroupRecord) → getD (d .groups) 0 z .parent ≡ 0
 root-parent R z = omega (arith, parent-at R 0 z (R .someGroup))
@@ -214,30 +209,3 @@ readable-length b d e =
       mul-le-mul-left (nameBytes (d .edition)) (right .nameCount),
       length-drop (lengthOf b + 2) b,
     )
-
--- a refusal of a sheet is from 1 to 7, its record number at most one past the last record
-refuses-closing : (e : Edition) (gs : List GroupRecord) (ns : List NameRecord) (r : ℕ) (cs : List ClaimRecord) (b : List ℕ)
-    → 1 ≤ r → r ≤ recordLimit → Refuses 1 7 recordLimit (closing e gs ns r cs b)
-unfolding closing
-refuses-closing e gs ns r cs b h k =
-    onward-refuses 1 7 recordLimit (test 7 (eqb (length b) 0) ∷ []) (closing-numbered b) (omega arith) r _ h k (λ p. tt)
-
-refuses-sheet : (b : List ℕ) → Refuses 1 7 recordLimit (readSheet b)
-unfolding readSheet readGroups readNames readClaims headOf
-refuses-sheet b =
-    onward-refuses 1 7 recordLimit (headTests b) (head-numbered b) (omega arith) 1 _ (omega arith) (omega arith)
-    (λ p.
-    let h = head-right b p in
-    let e = editionOf (u16At b 4) in
-    let few : u16At b 6 ≤ groupCapacity = omega (arith, groups-within e) in
-    many-refuses groupTests groupOf _ 7 recordLimit group-numbered (u16At b 6) 2 [] (after b) (omega arith) (omega arith)
-    (λ gs c.
-    many-refuses (nameTests e (u16At b 6)) nameOf _ 7 recordLimit (name-numbered e (u16At b 6)) (u16At b 8) (2 + u16At b 6) [] c
-    (omega arith) (omega arith)
-    (λ ns f.
-    many-refuses (claimTests (u16At b 8)) claimOf _ 7 recordLimit (claim-numbered (u16At b 8)) (u16At b 10)
-    (2 + u16At b 6 + u16At b 8) [] f (omega arith) (omega arith)
-    (λ cs k. refuses-closing e gs ns _ cs k (omega arith) (omega arith)))))
-
-pub sheet-refusal : (b : List ℕ) (n r : ℕ) → readSheet b ≡ refused n r → (1 ≤ n) × (n ≤ 7) × (1 ≤ r) × (r ≤ recordLimit)
-sheet-refusal b n r e = rw e at (refuses-sheet b)

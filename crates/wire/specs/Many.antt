@@ -9,7 +9,7 @@ use lib.ListN.{length, take, getD, length-append, length-drop}
 use Rattle.wire.specs.Record.{lengthOf, after, Test, Reading, read}
 use Rattle.wire.specs.SheetFormat.{readMany}
 use Rattle.wire.specs.Encoding.{Each, none, more, encodeAll}
-use Rattle.wire.specs.Passing.{Pass, Numbered, onward-passed, onward-read, Refuses, onward-refuses}
+use Rattle.wire.specs.Passing.{Pass, Nonzero, onward-passed, onward-read}
 
 -- Behind xs the bytes b begin with records that pass their tests, of the values ys, and go on with the bytes c.
 pub data Reads {A : Type 0} (tests : List A → List ℕ → List Test) (value : List ℕ → A) :
@@ -81,28 +81,16 @@ module _ {A : Type 0} {tests : List A → List ℕ → List Test} {value : List 
 
 module _ {A R : Type 0} (tests : List A → List ℕ → List Test) (value : List ℕ → A) (rest : ℕ → List A → List ℕ → Reading R) where
   -- reading that came to an end read as many records as were asked for, each of which passed
-  pub many-read : (hi : ℕ) → ((xs : List A) (b : List ℕ) → Numbered 1 hi (tests xs b))
+  pub many-read : ((xs : List A) (b : List ℕ) → Nonzero (tests xs b))
       → (n r : ℕ) (xs : List A) (b : List ℕ) (d : R) → readMany tests value rest n r xs b ≡ read d
       → (ys : List A) × (c : List ℕ) × (length ys ≡ n) × Reads tests value xs b ys c × (rest (r + n) (xs ++ ys) c ≡ read d)
   unfolding readMany
-  many-read hi w zero r xs b d e = ([], b, refl, stop, rw (add-zero, append-nil) e)
-  many-read hi w (suc n) r xs b d e =
-      let s = onward-read 1 hi (tests xs b) (w xs b) (omega arith) r _ d e in
-      let m = many-read hi w n (r + 1) (xs ++ (value b ∷ [])) (after b) d (s .1) in
+  many-read w zero r xs b d e = ([], b, refl, stop, rw (add-zero, append-nil) e)
+  many-read w (suc n) r xs b d e =
+      let s = onward-read (tests xs b) (w xs b) r _ d e in
+      let m = many-read w n (r + 1) (xs ++ (value b ∷ [])) (after b) d (s .1) in
       let same : r + 1 + n ≡ r + suc n = omega arith in
       (value b ∷ m .0, m .1, ap suc (m .2), go (s .0) (m .3), rw (append-assoc, same) at (m .4))
-
-  -- refusals on the way have the tests' numbers and the records' numbers
-  pub many-refuses : (hi top : ℕ) → ((xs : List A) (b : List ℕ) → Numbered 1 hi (tests xs b))
-      → (n r : ℕ) (xs : List A) (b : List ℕ) → 1 ≤ r → r + n ≤ top
-      → ((ys : List A) (c : List ℕ) → Refuses 1 hi top (rest (r + n) ys c))
-      → Refuses 1 hi top (readMany tests value rest n r xs b)
-  unfolding readMany
-  many-refuses hi top w zero r xs b h k last = rw (← add-zero r) (last xs b)
-  many-refuses hi top w (suc n) r xs b h k last =
-      let same : r + suc n ≡ r + 1 + n = omega arith in
-      onward-refuses 1 hi top (tests xs b) (w xs b) (omega arith) r _ h (omega arith)
-      (λ p. many-refuses hi top w n (r + 1) _ (after b) (omega arith) (omega arith) (rw same at last))
 
   -- what was encoded is read, each record and then the rest, where each record that is right is read with what follows it
   pub many-encoded : (encode : A → List ℕ) (P : List A → A → Type 0)

@@ -4,7 +4,7 @@ use mathlib.Core.Path.{_≡_, refl, sym, ap, _∙_}
 use mathlib.Core.Bool.{true, _&&_}
 use mathlib.Core.List.{List, [], _∷_, _++_, append-assoc, append-nil}
 use native.Mathlib.Omega.{arith}
-use lib.ListN.{length, take, drop, length-append, length-take, length-drop, take-append-drop}
+use lib.ListN.{length, take, drop, length-take, length-drop, take-append-drop}
 use lib.Seq.{drop-drop, take-at, drop-at}
 use lib.Dec.{leb, eqb}
 use borrow.Author.Tests.{leb-true, ltb-true, eqb-true, le-leb, lt-ltb, eq-eqb, ne-eqb}
@@ -12,18 +12,18 @@ use Rattle.wire.specs.Limits.{rowLimit, noEnd}
 use Rattle.wire.specs.Edition.{Edition, membershipBytes, rowKind, rowBytes}
 use Rattle.wire.specs.EditionFacts.{groups-within, row-kind-fits}
 use Rattle.wire.specs.Bytes.{u16At, u32At, le16, le32}
-use Rattle.wire.specs.Record.{lengthOf, kindOf, after, test, read, refused}
+use Rattle.wire.specs.Record.{lengthOf, kindOf, after, test, read}
 use Rattle.wire.specs.RegisterFormat.{Row, rowOf, lastMember, rowTests, readRows, readRegister}
 use Rattle.wire.specs.Encoding.{Bytes, Each, none, more, RowRight, RowFits, RowsWithin}
 use Rattle.wire.specs.Encoding.{encodeRecord, encodeAll, encodeRow, encodeRegister}
 use Rattle.laws.specs.Cases.{split, and-true}
-use Rattle.wire.specs.Passing.{Pass, Numbered, onward-passed, onward-read, Refuses, onward-refuses}
+use Rattle.wire.specs.Passing.{Pass, Nonzero, onward-passed, onward-read}
 use Rattle.wire.specs.Many.{Reads, stop, go, reads-same, empty-of-length, each-both, each-read, encode-reads}
 use Rattle.wire.specs.Fields.{u32-le32, length-le32, drop-le32, encode-read, length-encoded, kind-encoded, length-record}
 use Rattle.wire.specs.Facts.{bytes-drop, bytes-after}
 
-last-numbered : (b : List ℕ) → Numbered 10 13 (test 10 (eqb (length b) 0) ∷ [])
-last-numbered b = omega arith
+last-nonzero : (b : List ℕ) → Nonzero (test 10 (eqb (length b) 0) ∷ [])
+last-nonzero b = omega arith
 
 -- the frame of a row
 record RowFrame (e : Edition) (b : List ℕ) : Type 0 where
@@ -44,9 +44,9 @@ pub record RowsRead (e : Edition) (groups : ℕ) (b : List ℕ) (rs : List Row) 
   pub right : Each (RowRight e groups) [] rs
 
 module _ (e : Edition) (groups : ℕ) where
-  row-numbered : (rs : List Row) (b : List ℕ) → Numbered 10 13 (rowTests e groups rs b)
+  row-nonzero : (rs : List Row) (b : List ℕ) → Nonzero (rowTests e groups rs b)
   unfolding rowTests
-  row-numbered rs b = omega arith
+  row-nonzero rs b = omega arith
 
   -- a row that passes: its frame, what it has, and its bytes
   row-frame : (rs : List Row) (b : List ℕ) → Pass (rowTests e groups rs b) → RowFrame e b
@@ -146,12 +146,12 @@ module _ (e : Edition) (groups : ℕ) where
       → RowsFrom left rs b qs
   unfolding readRows
   rows-read zero rs b qs x =
-      let s = onward-read 10 13 (test 10 (eqb (length b) 0) ∷ []) (last-numbered b) (omega arith) _ _ qs x in
+      let s = onward-read (test 10 (eqb (length b) 0) ∷ []) (last-nonzero b) _ _ qs x in
       rows-end zero rs b qs (s .1) (eqb-true _ _ (s .0 .0))
   rows-read (suc left) rs b qs x =
       split (eqb (length b) 0) (λ t. rows-end (suc left) rs b qs (rw t at x) (eqb-true _ _ t))
       (λ t.
-      let s = onward-read 10 13 (rowTests e groups rs b) (row-numbered rs b) (omega arith) _ _ qs (rw t at x) in
+      let s = onward-read (rowTests e groups rs b) (row-nonzero rs b) _ _ qs (rw t at x) in
       rows-more left rs b qs (s .0)
       (rows-read left (rs ++ (rowOf e b ∷ [])) (after b) qs (rw (after-row rs b (s .0)) at (s .1))))
 
@@ -195,23 +195,3 @@ module _ (e : Edition) (groups : ℕ) where
         sym (append-nil (encodeAll (encodeRow e) rs)) ∙ encode-reads (encodeRow e) Bytes bytes-after row-encoded k (s .rows),
         record { rowCount = s .rowCount; right = s .right; fits = each-read Bytes bytes-after row-fits k (s .rows) },
       )
-
-  -- a refusal of a register is from 10 to 13, its row from 1 to 2,049
-  refuses-rows : (left : ℕ) (rs : List Row) (b : List ℕ) → length rs + left ≤ rowLimit
-      → Refuses 10 13 (rowLimit + 1) (readRows e groups left rs b)
-  unfolding readRows
-  refuses-rows zero rs b h =
-      onward-refuses 10 13 (rowLimit + 1) (test 10 (eqb (length b) 0) ∷ []) (last-numbered b) (omega arith) _ _ (omega arith)
-      (omega arith) (λ p. tt)
-  refuses-rows (suc left) rs b h =
-      split (eqb (length b) 0) (λ t. rw t tt)
-      (λ t.
-      rw t
-      (onward-refuses 10 13 (rowLimit + 1) (rowTests e groups rs b) (row-numbered rs b) (omega arith) _ _ (omega arith)
-      (omega arith)
-      (λ p. refuses-rows left (rs ++ (rowOf e b ∷ [])) (drop (rowBytes e) b) (omega (arith, length-append rs (rowOf e b ∷ []))))))
-
-  pub register-refusal : (b : List ℕ) (n r : ℕ) → readRegister e groups b ≡ refused n r
-      → (10 ≤ n) × (n ≤ 13) × (1 ≤ r) × (r ≤ rowLimit + 1)
-  unfolding readRegister
-  register-refusal b n r x = rw x at (refuses-rows rowLimit [] b (omega arith))

@@ -1,5 +1,5 @@
--- What holds of the rows of a readable register: members are from 1 on and rise from row to row.
-use Prim.Native.Nat.{ℕ, zero, suc, _≤_, _<_}
+-- What holds of the rows of a readable register: members rise from row to row.
+use Prim.Native.Nat.{ℕ, zero, suc, _<_}
 use mathlib.Core.Path.{_≡_, refl}
 use mathlib.Core.List.{List, [], _∷_, _++_}
 use native.Mathlib.Omega.{arith}
@@ -21,9 +21,6 @@ last-member-behind (q ∷ (p ∷ rs)) r = last-member-behind (p ∷ rs) r
 module _ {e : Edition} {groups : ℕ} {rs : List Row} (right : Each (RowRight e groups) [] rs) (z : Row) where
   pub row-at : (i : ℕ) → i < length rs → RowRight e groups (take i rs) (getD rs i z)
   row-at i l = each-at right i z l
-
-  pub member-first : (i : ℕ) → i < length rs → 1 ≤ getD rs i z .member
-  member-first i l = omega (arith, row-at i l .rises)
 
   member-next : (i : ℕ) → suc i < length rs → getD rs i z .member < getD rs (suc i) z .member
   member-next i l =

@@ -16,7 +16,7 @@ use Rattle.wire.specs.SheetFormat.{GroupRecord, NameRecord, ClaimRecord,
 use Rattle.wire.specs.SheetFormat.{claimFields, claimNames}
 use Rattle.wire.specs.Encoding.{GroupRight, NameRight, SideRight, ClaimRight}
 use Rattle.laws.specs.Cases.{split, and-true}
-use Rattle.wire.specs.Passing.{Pass, Numbered}
+use Rattle.wire.specs.Passing.{Pass, Nonzero}
 
 -- the bytes that a record's frame promises are there
 pub record Framed (b : List ℕ) : Type 0 where
@@ -46,9 +46,9 @@ pub record HeadRight (b : List ℕ) : Type 0 where
   pub names : u16At b 8 ≤ nameLimit
   pub claims : u16At b 10 ≤ claimLimit
 
-pub head-numbered : (b : List ℕ) → Numbered 1 7 (headTests b)
+pub head-nonzero : (b : List ℕ) → Nonzero (headTests b)
 unfolding headTests
-head-numbered b = omega arith
+head-nonzero b = omega arith
 
 pub head-right : (b : List ℕ) → Pass (headTests b) → HeadRight b
 unfolding headTests
@@ -71,9 +71,9 @@ head-right b p =
     }
 
 -- a group
-pub group-numbered : (gs : List GroupRecord) (b : List ℕ) → Numbered 1 7 (groupTests gs b)
+pub group-nonzero : (gs : List GroupRecord) (b : List ℕ) → Nonzero (groupTests gs b)
 unfolding groupTests
-group-numbered gs b = omega arith
+group-nonzero gs b = omega arith
 
 pub record GroupFrame (b : List ℕ) : Type 0 where
   pub frame : Framed b
@@ -91,9 +91,9 @@ group-right gs b p =
     record { parent = p .1 .1 .1 .1 .0; lo = leb-true _ _ (s .0); mode = leb-true _ _ (s .1) }
 
 -- a name
-pub name-numbered : (e : Edition) (groups : ℕ) (ns : List NameRecord) (b : List ℕ) → Numbered 1 7 (nameTests e groups ns b)
+pub name-nonzero : (e : Edition) (groups : ℕ) (ns : List NameRecord) (b : List ℕ) → Nonzero (nameTests e groups ns b)
 unfolding nameTests
-name-numbered e groups ns b = omega arith
+name-nonzero e groups ns b = omega arith
 
 pub record NameFrame (e : Edition) (b : List ℕ) : Type 0 where
   pub frame : Framed b
@@ -131,9 +131,9 @@ name-right e groups ns b p =
     }
 
 -- a claim: its kind, its length, and for kinds 5 and 6 the two sides
-pub claim-numbered : (names : ℕ) (cs : List ClaimRecord) (b : List ℕ) → Numbered 1 7 (claimTests names cs b)
+pub claim-nonzero : (names : ℕ) (cs : List ClaimRecord) (b : List ℕ) → Nonzero (claimTests names cs b)
 unfolding claimTests
-claim-numbered names cs b = omega arith
+claim-nonzero names cs b = omega arith
 
 pub length-u16s : (b : List ℕ) (i n : ℕ) → length (u16s b i n) ≡ n
 unfolding u16s

@@ -1,5 +1,5 @@
 -- `add_has` meets its contract.
-use mathlib.Core.Bool.{true, false, false≢true}
+use mathlib.Core.Bool.{false≢true}
 use native.Mathlib.Omega.{arith}
 use borrow.Author.Tests.{leb-true, le-leb}
 use Rattle.sizes.specs.Span.{add}

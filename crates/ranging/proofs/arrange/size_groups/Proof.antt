@@ -71,10 +71,10 @@ loop-again c =
     let l = at .loop in
     let s = at .before .before .before .before .before .before .before in
     let e : l .i + 1 - 1 ≡ l .i = omega arith in (
+      omega arith,
       search needs,
-      search needs,
-      search needs,
-      search needs,
+      put .put-size .kept .0 ∙ l .inv .2,
+      put .put-size .kept .1 .0 ∙ l .inv .3,
       search needs,
       search needs,
       λ first f a. size-step (s .pre .0) _ _ _ (up .parent-group .ensures .0) _ refl (found .size-of .ensures)

@@ -1,10 +1,19 @@
 -- `start_under` meets its contract.
+use Prim.Native.Nat.{ℕ, _+_, _-_, _/_, _%_, min}
+use mathlib.Core.Path.{_≡_}
 use native.Mathlib.Omega.{arith}
 use borrow.Author.Tests.{eq-eqb, ne-eqb}
+use Rattle.meaning.specs.OfRecords.{disjointMode, coverMode, sameMode}
 use Rattle.runs.specs.Placed.{startBy}
 use borrow.Author.Needs.{needs}
 use Rattle.runs.proofs.place.start_under.Statement.{statement}
 use Rattle.runs.proofs.place.start_under.Tie as tie
+
+-- under 'cover' alone
+covered : (m a w z y r : ℕ) → (m / 4 % 2 ≡ 1 → ⊥) → (m % 2 ≡ 1 → ⊥) → m / 2 % 2 ≡ 1 → r ≡ min w (a + z - y)
+    → r ≡ startBy (sameMode m) (disjointMode m) (coverMode m) a w z y
+unfolding startBy
+covered m a w z y r e d c h = rw (ne-eqb _ _ e, ne-eqb _ _ d, eq-eqb _ _ c) h
 
 returns : tie.Need-returns
 unfolding startBy
@@ -27,24 +36,12 @@ sub-result : tie.Need-sub-result
 sub-result c = search needs
 
 returns-3 : tie.Need-returns-3
-unfolding startBy
 returns-3 c =
-    rw (
-      ne-eqb _ _ (c .before .before .before .if1 .left),
-      ne-eqb _ _ (c .before .before .if2 .left),
-      eq-eqb _ _
-          (c .before .if3 .taken),
-    ) (omega arith)
+    covered _ _ _ _ _ _ (c .before .before .before .if1 .left) (c .before .before .if2 .left) (c .before .if3 .taken) (omega arith)
 
 returns-4 : tie.Need-returns-4
-unfolding startBy
 returns-4 c =
-    rw (
-      ne-eqb _ _ (c .before .before .before .if1 .left),
-      ne-eqb _ _ (c .before .before .if2 .left),
-      eq-eqb _ _
-          (c .before .if3 .taken),
-    ) (omega arith)
+    covered _ _ _ _ _ _ (c .before .before .before .if1 .left) (c .before .before .if2 .left) (c .before .if3 .taken) (omega arith)
 
 returns-5 : tie.Need-returns-5
 unfolding startBy
