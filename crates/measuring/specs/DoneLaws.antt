@@ -11,11 +11,10 @@ use Rattle.wire.specs.Limits.{noEnd}
 use Rattle.meaning.specs.Sheet.{Sheet, Group, Son}
 use Rattle.meaning.specs.Tree.{Tree, Rooted}
 use Rattle.meaning.specs.OfRecords.{endOf, disjointMode, coverMode, sameMode}
-use Rattle.meaning.specs.Sons.{sonCount}
 use Rattle.reading.specs.Tables.{groupFields, groupIn}
 use Rattle.reading.specs.SheetIn.{sheetIn, Tabled, size-in, few-groups, lo-in, hi-in, disjoint-in, cover-in, same-in}
 use Rattle.sizes.specs.Span.{Span, Kind, meet}
-use Rattle.sizes.specs.Fold.{kindOf, shut, start, joined, later, own, Measured}
+use Rattle.sizes.specs.Fold.{kindOf, sonCount, shut, start, joined, later, own, Measured}
 use Rattle.sizes.specs.Bounds.{topWeight, Small, span-small, later-small}
 use Rattle.sizes.specs.MeasuredLaws.{spans-measured}
 use Rattle.laws.specs.Cases.{compare-eq, compare-le, true-not-false}
