@@ -11,10 +11,10 @@ use lib.ListN.{length, getD, set, length-set}
 use lib.Seq.{getD-set-same, getD-set-other}
 use Rattle.wire.specs.Limits.{noEnd}
 use Rattle.laws.specs.Sum.{sum, bit}
-use Rattle.meaning.specs.Sheet.{Sheet, Group, Son, Top, fin}
+use Rattle.meaning.specs.Sheet.{Sheet, Group, Son, Top, fin, endOf}
 use Rattle.meaning.specs.Tree.{Tree}
 use Rattle.meaning.specs.Claim.{counted}
-use Rattle.meaning.specs.OfRecords.{endOf, disjointMode, coverMode, sameMode}
+use Rattle.reading.specs.Modes.{disjointMode, coverMode, sameMode}
 use Rattle.meaning.specs.Sons.{only}
 use Rattle.meaning.specs.Shown.{above}
 use Rattle.sizes.specs.Balanced.{isSon, sons, Balanced, Choice}
@@ -192,7 +192,7 @@ rooted-bound s l h t = record {
 }
 
 -- the smaller of an upper end and a number that is one
-end-smaller : (h k : ℕ) → k < noEnd → endOf (min h k) ≡ smaller (endOf h) (fin k)
+end-smaller : (h k : ℕ) → k < noEnd → endOf noEnd (min h k) ≡ smaller (endOf noEnd h) (fin k)
 unfolding endOf
 end-smaller h k l =
     let n : min h k ≡ noEnd → ⊥ = λ e. omega arith in
@@ -207,7 +207,7 @@ module _ (t : List ℕ) (n g : ℕ) (a : 1 ≤ g) (b : g ≤ n) (l : 4 * n ≤ l
   -- a bound of g stored (lo is field 1 of its record, hi field 2): the sheet with other bounds
   stored : (j x : ℕ) (L : ℕ → ℕ) (H : ℕ → Top) → 1 ≤ j → j ≤ 2
       → ((h : ℕ) → Group (sheetIn t n) h → getD (set t (4 * (g - 1) + j) x) (4 * (h - 1) + 1) 0 ≡ L h)
-      → ((h : ℕ) → Group (sheetIn t n) h → endOf (getD (set t (4 * (g - 1) + j) x) (4 * (h - 1) + 2) 0) ≡ H h)
+      → ((h : ℕ) → Group (sheetIn t n) h → endOf noEnd (getD (set t (4 * (g - 1) + j) x) (4 * (h - 1) + 2) 0) ≡ H h)
       → Same (sheetIn (set t (4 * (g - 1) + j) x) n) (rebound (sheetIn t n) L H)
   stored j x L H low high lo hi =
       let u : List ℕ = set t (4 * (g - 1) + j) x in
@@ -238,10 +238,10 @@ module _ (t : List ℕ) (n g : ℕ) (a : 1 ≤ g) (b : g ≤ n) (l : 4 * n ≤ l
       (λ h q. getD-set-other t i (4 * (h - 1) + 1) x 0 (λ e. omega arith) ∙ sym (lo-in t n h q))
       (λ h q. compare-eq h g
       (λ e. rw (e, eq-eqb g g refl)
-      (ap endOf (getD-set-same t i x 0 (omega arith)) ∙ end-smaller (getD t i 0) k o
+      (ap (endOf noEnd) (getD-set-same t i x 0 (omega arith)) ∙ end-smaller (getD t i 0) k o
       ∙ ap (λ z. smaller z (fin k)) (sym (hi-in t n g here))))
       (λ m. rw (ne-eqb h g m)
-      (ap endOf (getD-set-other t i (4 * (h - 1) + 2) x 0 (λ e. m (omega (arith, q .first)))) ∙ sym (hi-in t n h q))))
+      (ap (endOf noEnd) (getD-set-other t i (4 * (h - 1) + 2) x 0 (λ e. m (omega (arith, q .first)))) ∙ sym (hi-in t n h q))))
 
   pub same-lo : (k : ℕ)
       → Same (sheetIn (set t (4 * (g - 1) + 1) (max (getD t (4 * (g - 1) + 1) 0) k)) n) (narrowLo (sheetIn t n) g k)
@@ -253,7 +253,7 @@ module _ (t : List ℕ) (n g : ℕ) (a : 1 ≤ g) (b : g ≤ n) (l : 4 * n ≤ l
       (λ e. rw (e, eq-eqb g g refl) (getD-set-same t i x 0 (omega arith) ∙ ap (λ z. max z k) (sym (lo-in t n g here))))
       (λ m. rw (ne-eqb h g m)
       (getD-set-other t i (4 * (h - 1) + 1) x 0 (λ e. m (omega (arith, q .first))) ∙ sym (lo-in t n h q))))
-      (λ h q. ap endOf (getD-set-other t i (4 * (h - 1) + 2) x 0 (λ e. omega arith)) ∙ sym (hi-in t n h q))
+      (λ h q. ap (endOf noEnd) (getD-set-other t i (4 * (h - 1) + 2) x 0 (λ e. omega arith)) ∙ sym (hi-in t n h q))
 
   -- what the narrowed table says of the sheet
   pub few-sized : (k : ℕ) → k < noEnd → {sizes marks : List ℕ} {x : Bool}
@@ -300,7 +300,7 @@ sized-never h = witnessed-no (λ y. h (y .0) (y .2))
 -- more than hi: at least hi + 1, where hi is an upper end
 pub sized-over : {s : Sheet} {sizes marks : List ℕ} {x : Bool} (g h : ℕ) → (h ≡ noEnd → ⊥)
     → Sized s (Many g (h + 1)) sizes marks x
-    → Sized s (Over g (endOf h)) sizes marks x
+    → Sized s (Over g (endOf noEnd h)) sizes marks x
 unfolding endOf
 sized-over g h n z =
     witnessed-as
@@ -308,7 +308,7 @@ sized-over g h n z =
     (λ y. (y .0, y .1, let q = rw (ne-eqb h noEnd n) at (y .2) in omega arith))
     z
 
-pub over-never : {s : Sheet} {sizes marks : List ℕ} (g h : ℕ) → h ≡ noEnd → Sized s (Over g (endOf h)) sizes marks false
+pub over-never : {s : Sheet} {sizes marks : List ℕ} (g h : ℕ) → h ≡ noEnd → Sized s (Over g (endOf noEnd h)) sizes marks false
 unfolding endOf
 over-never g h e = sized-never (λ f p. rw e at p)
 

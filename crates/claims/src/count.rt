@@ -10,9 +10,8 @@ use reading::tables::set_lo;
 ghost use mathlib.Core.Path.{_≡_};
 ghost use Prim.Native.Nat.{_≤_, _<_, min, max};
 ghost use Rattle.wire.specs.Limits.{noEnd};
-ghost use Rattle.meaning.specs.Sheet.{Top};
+ghost use Rattle.meaning.specs.Sheet.{Top, endOf};
 ghost use Rattle.meaning.specs.Claim.{counted};
-ghost use Rattle.meaning.specs.OfRecords.{endOf};
 ghost use Rattle.reading.specs.Meant.{meantNumber, Numbered};
 ghost use Rattle.reading.specs.SheetIn.{sheetIn};
 ghost use Rattle.choosing.specs.Chosen.{Asking};
@@ -109,7 +108,7 @@ fn over(
     marks: &mut [u8],
 ) -> bool
     requires { ⌜ Asking (now groups) size (now sizes) (now marks) × (1 ≤ g .0) × (g .0 ≤ size) ⌝ }
-    ensures { λ r. ⌜ Sized (sheetIn (now (groups .entry)) size) (Over (g .0) (endOf hi)) (now (sizes .exit)) (now
+    ensures { λ r. ⌜ Sized (sheetIn (now (groups .entry)) size) (Over (g .0) (endOf noEnd hi)) (now (sizes .exit)) (now
         (marks .exit)) r ⌝ }
     ensures { λ _. ⌜ now (groups .exit) ≡ now (groups .entry) ⌝ }
 {
@@ -130,7 +129,7 @@ fn judge_group(
     marks: &mut [u8],
 ) -> bool
     requires { ⌜ Asking (now groups) size (now sizes) (now marks) × (1 ≤ g .0) × (g .0 ≤ size) ⌝ }
-    ensures { λ r. ⌜ Judged (sheetIn (now (groups .entry)) size) (counted (g .0) lo (endOf hi)) (now (sizes .exit)) (now
+    ensures { λ r. ⌜ Judged (sheetIn (now (groups .entry)) size) (counted (g .0) lo (endOf noEnd hi)) (now (sizes .exit)) (now
         (marks .exit)) r ⌝ }
     ensures { λ _. ⌜ now (groups .exit) ≡ now (groups .entry) ⌝ }
 {
@@ -163,7 +162,7 @@ pub fn judge_count(
     marks: &mut [u8],
 ) -> bool
     requires { ⌜ Asking (now groups) size (now sizes) (now marks) × Numbered m × (meantNumber m ≤ size) ⌝ }
-    ensures { λ r. ⌜ Judged (sheetIn (now (groups .entry)) size) (counted (meantNumber m) lo (endOf hi)) (now (sizes .exit)) (now
+    ensures { λ r. ⌜ Judged (sheetIn (now (groups .entry)) size) (counted (meantNumber m) lo (endOf noEnd hi)) (now (sizes .exit)) (now
         (marks .exit)) r ⌝ }
     ensures { λ _. ⌜ now (groups .exit) ≡ now (groups .entry) ⌝ }
 {

@@ -10,7 +10,7 @@ use Rattle.wire.specs.Limits.{rangeBytes}
 use Rattle.wire.specs.Record.{read}
 use Rattle.wire.specs.SheetFormat.{Records, readSheet}
 use Rattle.wire.specs.Facts.{read-right, right-few}
-use Rattle.meaning.specs.Sheet.{Sheet, Group}
+use Rattle.meaning.specs.Sheet.{Sheet, Group, endOf}
 use Rattle.meaning.specs.Tree.{Tree, Rooted}
 use Rattle.meaning.specs.Fits.{Possible}
 use Rattle.meaning.specs.Arranged.{Arranged}
@@ -34,7 +34,7 @@ use Rattle.ranging.specs.Said.{measures-done, measured-free, range-said, bounds
 use Rattle.claims.specs.Flags.{freeTable, free-flag}
 use Rattle.replies.specs.Wrote.{Wrote}
 use Rattle.replies.specs.Written.{RangeAt, RangesPut}
-use Rattle.group_sheet.specs.RangesReply.{rangeAt, runFirst, runCount, greatestOf}
+use Rattle.group_sheet.specs.RangesReply.{rangeAt, runFirst, runCount}
 use Rattle.group_sheet.specs.RangesGiven.{RangesReady, RangesWritten}
 
 -- the groups of a readable sheet, as the table holds them
@@ -80,7 +80,7 @@ pub ranges-placed : {t spans after before out : List ℕ} {n : ℕ} (ranges firs
     → ((z : ℕ → Bool → Span) → Measures (sheetIn t n) z spans after → Ranged (sheetIn t n) z (spanIn ranges))
     → Arranged (sheetIn t n) (leastIn spans) (greatestIn spans) (numberIn firsts) (numberIn sizes)
     → Wrote before 0 (rangeBytes * n) out → RangesPut out n ranges firsts sizes → RangesWritten t n before out
-unfolding greatestOf topOf
+unfolding endOf topOf
 ranges-placed {t} {spans} {after} {before} {out} {n} ranges firsts sizes p h a w put =
     let k = p .measured in
     let T = p .measured .tabled in

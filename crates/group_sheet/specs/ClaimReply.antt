@@ -8,7 +8,7 @@ use lib.ListN.{length}
 use lib.Dec.{eqb}
 use Rattle.wire.specs.Limits.{verdictBytes, shownBytes}
 use Rattle.wire.specs.Bytes.{u16At, u32At}
-use Rattle.wire.specs.SheetFormat.{Records, readSheet}
+use Rattle.wire.specs.SheetFormat.{Records}
 use Rattle.meaning.specs.Sheet.{Sheet, Group}
 use Rattle.meaning.specs.Sets.{Sets}
 use Rattle.meaning.specs.Fits.{Fits}
@@ -18,11 +18,7 @@ use Rattle.meaning.specs.Shown.{shown, above}
 use Rattle.claims.specs.Verdict.{verdictNumber}
 use Rattle.claims.specs.declared.verdict.Verdict.{Verdict}
 use Rattle.claims.specs.declared.verdict.Verdict.the-variants.{Holds, Denied}
-use Rattle.group_sheet.specs.Reply.{Call, Refused, OnceRead, OncePossible, OnceRoom}
-
--- bytes of a denial that shows sets of n groups
-abbrev pub denialBytes : ℕ → ℕ
-denialBytes n = verdictBytes + shownBytes * n
+use Rattle.group_sheet.specs.Reply.{Call, Refused, OncePossible, OnceRoom}
 
 -- where the record of group g stands
 abbrev pub shownAt : ℕ → ℕ
@@ -70,14 +66,11 @@ pub record OnceNumbered (k n : ℕ) (c : Call) (P : Type 0) : Type 0 where
 -- the claim holds where no finite sets fit and break it, and is denied where some do
 pub record VerdictOn (s : Sheet) (k : Claim) (c : Call) : Type 0 where
   pub holds : (Breakable s k → ⊥) → OnceRoom verdictBytes c (VerdictIn Holds)
-  pub denied : Breakable s k → OnceRoom (denialBytes (s .size)) c (DenialIn s k)
+  pub denied : Breakable s k → OnceRoom (verdictBytes + shownBytes * s .size) c (DenialIn s k)
 
--- the reply under a sheet
-abbrev pub VerdictUnder : Records → ℕ → Call → Type 0
-VerdictUnder d k c =
+-- what the operation promises on claim number k of a sheet
+abbrev pub ClaimVerdict : ℕ → Records → Call → Type 0
+ClaimVerdict k d c =
     OncePossible (sheetOf (d .groups)) c
     (OnceNumbered k (length (d .claims)) c
     (VerdictOn (sheetOf (d .groups)) (claimAt d k) c))
-
-abbrev pub ClaimVerdict : List ℕ → ℕ → Call → Type 0
-ClaimVerdict sheet k c = OnceRead (readSheet sheet) c (λ d. VerdictUnder d k c)

@@ -1,19 +1,16 @@
 -- The operation `sheet_ranges`, written down: document 01, "Ranges", "The arrangement", "Replies", refusals 1 to 8 and 14.
 use Prim.Native.Nat.{ℕ, _+_, _-_, _*_, _≤_}
 use mathlib.Core.Path.{_≡_}
-use mathlib.Core.Bool.{false, cond}
+use mathlib.Core.Bool.{false}
 use mathlib.Core.List.{List}
 use mathlib.Core.Logic.{_↔_}
-use lib.Dec.{eqb}
 use Rattle.wire.specs.Limits.{rangeBytes, noGreatest}
 use Rattle.wire.specs.Bytes.{u16At, u32At}
-use Rattle.wire.specs.SheetFormat.{readSheet}
-use Rattle.meaning.specs.Sheet.{Sheet, Group, Top, fin, inf, AtMost}
+use Rattle.meaning.specs.Sheet.{Sheet, Group, AtMost, endOf}
 use Rattle.meaning.specs.Fits.{Fits, Attains}
-use Rattle.meaning.specs.OfRecords.{sheetOf}
 use Rattle.meaning.specs.Arranged.{ArrangedBottomUp}
 use Rattle.meaning.specs.Shown.{shown, above}
-use Rattle.group_sheet.specs.Reply.{Call, OnceRead, OncePossible, OnceRoom}
+use Rattle.group_sheet.specs.Reply.{Call, OncePossible, OnceRoom}
 
 -- where the record of group g stands
 abbrev pub rangeAt : ℕ → ℕ
@@ -32,24 +29,18 @@ runFirst out g = u32At out (rangeAt g + 12)
 abbrev pub runCount : List ℕ → ℕ → ℕ
 runCount out g = u32At out (rangeAt g + 16)
 
--- "4,294,967,295 stands for no greatest"
-unfoldable pub greatestOf : ℕ → Top
-greatestOf n = cond (eqb n noGreatest) inf (fin n)
-
 -- the reply to a sheet that some sets fit, read off the buffer at exit
 pub record RangesIn (s : Sheet) (out : List ℕ) : Type 0 where
   pub frame : (g : ℕ) → Group s g → (u16At out (rangeAt g) ≡ rangeBytes - 2) × (u16At out (rangeAt g + 2) ≡ 17)
-  -- k lies in the g-th range exactly when some finite sets fit and give group g k members
+  -- k lies in the g-th range exactly when some finite sets fit and give group g k members ("4,294,967,295 stands for no
+  -- greatest")
   pub range : (g : ℕ) → Group s g → (k : ℕ) →
-      ((rangeLeast out g ≤ k) × AtMost k (greatestOf (rangeGreatest out g))) ↔ Attains s g k
+      ((rangeLeast out g ≤ k) × AtMost k (endOf noGreatest (rangeGreatest out g))) ↔ Attains s g k
   -- the arrangement is the one that document 01 fixes, from the bottom-up bounds L and U
   pub arranged : ArrangedBottomUp s (runFirst out) (runCount out)
   -- and its sets fit (which follows from the line before)
   pub fits : Fits s (shown (runFirst out) (runCount out) (λ g. false) (above (s .size) (runFirst out) (runCount out)))
 
--- the reply under a sheet
-abbrev pub RangesUnder : Sheet → Call → Type 0
-RangesUnder s c = OncePossible s c (OnceRoom (rangeBytes * s .size) c (RangesIn s))
-
-abbrev pub Ranges : List ℕ → Call → Type 0
-Ranges sheet c = OnceRead (readSheet sheet) c (λ d. RangesUnder (sheetOf (d .groups)) c)
+-- what the operation promises under a sheet
+abbrev pub Ranges : Sheet → Call → Type 0
+Ranges s c = OncePossible s c (OnceRoom (rangeBytes * s .size) c (RangesIn s))

@@ -6,7 +6,7 @@ use mathlib.Core.List.{List}
 use lib.ListN.{length}
 use Rattle.wire.specs.Limits.{answerBytes}
 use Rattle.wire.specs.Bytes.{u16At}
-use Rattle.wire.specs.SheetFormat.{Records, readSheet}
+use Rattle.wire.specs.SheetFormat.{Records}
 use Rattle.wire.specs.RegisterFormat.{Row, readRegister}
 use Rattle.meaning.specs.Sheet.{Sheet}
 use Rattle.meaning.specs.Rule.{Answered}
@@ -19,11 +19,8 @@ pub record AnswerIn (s : Sheet) (rows : List Row) (out : List ℕ) : Type 0 wher
   pub kind : u16At out 2 ≡ 20
   pub answer : Answered s (listedSets rows) (u16At out 4) (u16At out 6)
 
--- the reply under a sheet
-abbrev pub RegisterUnder : Records → List ℕ → Call → Type 0
-RegisterUnder d register c =
+-- what the operation promises on a register under a sheet
+abbrev pub Register : List ℕ → Records → Call → Type 0
+Register register d c =
     OnceRead (readRegister (d .edition) (length (d .groups)) register) c (λ rows.
     OnceRoom answerBytes c (AnswerIn (sheetOf (d .groups)) rows))
-
-abbrev pub Register : List ℕ → List ℕ → Call → Type 0
-Register sheet register c = OnceRead (readSheet sheet) c (λ d. RegisterUnder d register c)

@@ -1,10 +1,12 @@
 -- What a call leaves, refused or replied to, and the refusals that operations share, each in its place: document 01,
--- "Replies" and "Turned back, in checking order". An operation's contract puts these together in 01's order.
+-- "Replies" and "Turned back, in checking order". An operation's contract is `OnceSheet` with its own part, which puts the
+-- others together in 01's order.
 use Prim.Native.Nat.{ℕ, _+_, _*_, _≤_, _<_}
 use mathlib.Core.Path.{_≡_}
 use mathlib.Core.List.{List}
 use lib.ListN.{length, drop}
 use Rattle.wire.specs.Record.{Reading, read, refused}
+use Rattle.wire.specs.SheetFormat.{Records, readSheet}
 use Rattle.meaning.specs.Sheet.{Sheet}
 use Rattle.meaning.specs.Fits.{Possible}
 
@@ -36,6 +38,10 @@ pub record Replied (n : ℕ) (c : Call) : Type 0 where
 pub record OnceRead {A : Type 0} (x : Reading A) (c : Call) (P : A → Type 0) : Type 0 where
   pub turned : (n k : ℕ) → x ≡ refused n k → Refused n k c
   pub passed : (d : A) → x ≡ read d → P d
+
+-- an operation on a sheet: 1 to 7, and what the operation itself promises under the sheet's records
+abbrev pub OnceSheet : List ℕ → (Records → Call → Type 0) → Call → Type 0
+OnceSheet sheet P c = OnceRead (readSheet sheet) c (λ d. P d c)
 
 -- 8: no finite sets fit
 pub record OncePossible (s : Sheet) (c : Call) (P : Type 0) : Type 0 where

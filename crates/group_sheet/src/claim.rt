@@ -21,7 +21,7 @@ use replies::put_verdict;
 ghost use Rattle.reading.specs.ClaimHeld.{claimRecord};
 ghost use Rattle.reading.specs.SheetIn.{sheetIn, Tabled};
 ghost use Rattle.claims.specs.Named.{Askable, claimMeant};
-ghost use Rattle.group_sheet.specs.Reply.{call};
+ghost use Rattle.group_sheet.specs.Reply.{call, OnceSheet};
 ghost use Rattle.group_sheet.specs.ClaimReply.{VerdictOn, ClaimVerdict};
 
 // The verdict on a claim, with sets where it is denied, into a buffer with room for this verdict.
@@ -73,7 +73,7 @@ fn give_verdict(
 
 #[no_mangle]
 pub extern "C" fn sheet_claim(sheet: &[u8], claim: u32, reply: &mut [u8]) -> u64
-    ensures { λ r. ⌜ ClaimVerdict (now (sheet .entry)) claim (call (now (reply .entry)) r (now (reply .exit))) ⌝ }
+    ensures { λ r. ⌜ OnceSheet (now (sheet .entry)) (ClaimVerdict claim) (call (now (reply .entry)) r (now (reply .exit))) ⌝ }
 {
     let mut groups = [0u16; GROUP_TABLE];
     let mut names = [0u16; NAME_TABLE];

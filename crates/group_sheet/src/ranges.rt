@@ -15,9 +15,10 @@ use reading::tables::NAME_TABLE;
 use reading::tables::PLACE_TABLE;
 use replies::RANGE_BYTES;
 use replies::put_ranges;
+ghost use Rattle.meaning.specs.OfRecords.{sheetOf};
 ghost use Rattle.reading.specs.SheetIn.{sheetIn, Tabled};
-ghost use Rattle.group_sheet.specs.Reply.{call};
-ghost use Rattle.group_sheet.specs.RangesReply.{RangesUnder, Ranges};
+ghost use Rattle.group_sheet.specs.Reply.{call, OnceSheet};
+ghost use Rattle.group_sheet.specs.RangesReply.{Ranges};
 ghost use Rattle.group_sheet.specs.RangesGiven.{RangesReady, RangesWritten};
 
 // the ranges and the arrangement of a possible sheet, into a buffer with room for them
@@ -46,7 +47,7 @@ fn put(groups: &[u16], size: u16, spans: &[u32], after: &[u32], reply: &mut [u8]
 // the reply under a sheet whose groups are in the table
 fn answer(groups: &[u16], size: u16, reply: &mut [u8]) -> u64
     requires { ⌜ Tabled (now groups) size ⌝ }
-    ensures { λ r. ⌜ RangesUnder (sheetIn (now (groups .entry)) size) (call (now (reply .entry)) r (now (reply .exit))) ⌝ }
+    ensures { λ r. ⌜ Ranges (sheetIn (now (groups .entry)) size) (call (now (reply .entry)) r (now (reply .exit))) ⌝ }
 {
     let mut spans = [0u32; PAIR_TABLE];
     let mut after = [0u32; PAIR_TABLE];
@@ -63,7 +64,7 @@ fn answer(groups: &[u16], size: u16, reply: &mut [u8]) -> u64
 
 #[no_mangle]
 pub extern "C" fn sheet_ranges(sheet: &[u8], reply: &mut [u8]) -> u64
-    ensures { λ r. ⌜ Ranges (now (sheet .entry)) (call (now (reply .entry)) r (now (reply .exit))) ⌝ }
+    ensures { λ r. ⌜ OnceSheet (now (sheet .entry)) (λ d. Ranges (sheetOf (d .groups))) (call (now (reply .entry)) r (now (reply .exit))) ⌝ }
 {
     let mut groups = [0u16; GROUP_TABLE];
     let mut names = [0u16; NAME_TABLE];

@@ -13,7 +13,7 @@ use replies::ANSWER_BYTES;
 use replies::put_answer;
 ghost use Rattle.wire.specs.Limits.{answerBytes};
 ghost use Rattle.replies.specs.Written.{AnswerAt};
-ghost use Rattle.group_sheet.specs.Reply.{call, OnceRoom};
+ghost use Rattle.group_sheet.specs.Reply.{call, OnceSheet, OnceRoom};
 ghost use Rattle.group_sheet.specs.RegisterReply.{Register};
 
 // The answer, into a buffer with room for it.
@@ -29,7 +29,7 @@ fn give_answer(reply: &mut [u8], group: u16, rule: u16) -> u64
 
 #[no_mangle]
 pub extern "C" fn sheet_register(sheet: &[u8], register: &[u8], reply: &mut [u8]) -> u64
-    ensures { λ r. ⌜ Register (now (sheet .entry)) (now (register .entry)) (call (now (reply .entry)) r (now (reply .exit))) ⌝ }
+    ensures { λ r. ⌜ OnceSheet (now (sheet .entry)) (Register (now (register .entry))) (call (now (reply .entry)) r (now (reply .exit))) ⌝ }
 {
     let mut groups = [0u16; GROUP_TABLE];
     let mut names = [0u16; NAME_TABLE];

@@ -19,7 +19,7 @@ use Rattle.wire.specs.Record.{lengthOf, after, test, read}
 use Rattle.wire.specs.SheetFormat.{headTests, groupTests, nameTests, claimTests, headOf, groupOf, nameOf, claimOf}
 use Rattle.wire.specs.SheetFormat.{HeadRecord, GroupRecord, NameRecord, ClaimRecord, count, Records}
 use Rattle.wire.specs.SheetFormat.{parentAllowed, allWithin, closing, readClaims, readNames, readGroups, readSheet}
-use Rattle.wire.specs.Encoding.{Bytes, GroupRight, NameRight, GroupEnd, ClaimEnd, Right, SheetWithin}
+use Rattle.wire.specs.Encoding.{Bytes, GroupRight, NameRight, ClaimEnd, Right, SheetWithin}
 use Rattle.laws.specs.Cases.{split, and-true}
 use Rattle.wire.specs.Passing.{Pass, Nonzero, onward-read}
 use Rattle.wire.specs.Many.{Reads, reads-same, empty-of-length, each-at, each-read, kept-read, reads-length, many-read}
@@ -159,7 +159,7 @@ pub bytes-after : (b : List ℕ) → Bytes b → Bytes (after b)
 unfolding after
 bytes-after b k = bytes-drop (lengthOf b + 2) b k
 
-group-end : (gs : List GroupRecord) (b : List ℕ) → Bytes b → Pass (groupTests gs b) → GroupEnd gs (groupOf b)
+group-end : (gs : List GroupRecord) (b : List ℕ) → Bytes b → Pass (groupTests gs b) → groupOf b .hi ≤ noEnd
 unfolding groupOf
 group-end gs b k p = u16-most b k 8
 

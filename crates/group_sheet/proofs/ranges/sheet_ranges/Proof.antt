@@ -5,7 +5,7 @@ use borrow.Author.Needs.{needs}
 use Rattle.meaning.specs.OfRecords.{sheetOf}
 use Rattle.reading.specs.SheetIn.{sheetIn}
 use Rattle.reading.specs.Loaded.{loaded-sheet, loaded-held, loaded-refused}
-use Rattle.group_sheet.specs.RangesReply.{RangesUnder}
+use Rattle.group_sheet.specs.RangesReply.{Ranges}
 use Rattle.group_sheet.proofs.ReplyLaws.{read-not-refused, as-read, turned-back}
 use Rattle.group_sheet.proofs.RangesLaws.{tabled}
 use Rattle.group_sheet.proofs.ranges.sheet_ranges.Statement.{statement}
@@ -64,7 +64,7 @@ returns-2 c =
     let e = loaded-sheet (c .before .before .before .before .before .before .before .before .before .before .before .before .before .load-sheet .ensures) _ (c .before .before .before .before .before .before .head .given .1) in
     record {
       turned = λ n k f. absurd (read-not-refused e f);
-      passed = as-read (λ d. RangesUnder (sheetOf (d .groups)) _) e (c .before .before .answer .ensures);
+      passed = as-read (λ d. Ranges (sheetOf (d .groups)) _) e (c .before .before .answer .ensures);
     }
 
 pub sheet-ranges-spec : {M : Type 1} → statement M

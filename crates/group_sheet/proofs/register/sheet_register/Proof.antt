@@ -6,7 +6,7 @@ use Rattle.reading.specs.Tables.{length-groupsIn}
 use Rattle.reading.specs.SheetIn.{sheetIn}
 use Rattle.reading.specs.Loaded.{loaded-sheet, loaded-held, loaded-refused}
 use Rattle.registers.specs.Checked.{checkGives}
-use Rattle.group_sheet.specs.RegisterReply.{RegisterUnder}
+use Rattle.group_sheet.specs.RegisterReply.{Register}
 use Rattle.group_sheet.proofs.ReplyLaws.{read-not-refused, as-read, turned-back}
 use Rattle.group_sheet.proofs.RegisterLaws.{checkable, rows-under, rows-turned, rows-passed, rows-answered}
 use borrow.Author.Needs.{needs}
@@ -83,7 +83,7 @@ returns-2 c =
     let g = ap checkGives (c .before .before .n2 .given .1) in
     record {
       turned = λ n k f. absurd (read-not-refused e f);
-      passed = as-read (λ d. RegisterUnder d _ _) e (rows-under _ (length-groupsIn _ _) (record {
+      passed = as-read (λ d. Register _ d _) e (rows-under _ (length-groupsIn _ _) (record {
         turned = λ n k f. turned-back g (c .pack2 .ensures) n k (w .refusal n k f);
         passed = λ rows f. absurd (rows-turned w g rows f);
       }));
@@ -100,7 +100,7 @@ returns-3 c =
     let g = ap checkGives (c .before .before .before .before .before .group .given .1) in
     record {
       turned = λ n k f. absurd (read-not-refused e f);
-      passed = as-read (λ d. RegisterUnder d _ _) e (rows-under _ (length-groupsIn _ _) (record {
+      passed = as-read (λ d. Register _ d _) e (rows-under _ (length-groupsIn _ _) (record {
         turned = λ n k f. absurd (rows-passed w g n k f);
         passed = rows-answered w _ _ g (c .before .before .give-answer .ensures);
       }));
@@ -117,7 +117,7 @@ returns-4 c =
     let g = ap checkGives (c .before .before .before .before .enum-told .given .1) in
     record {
       turned = λ n k f. absurd (read-not-refused e f);
-      passed = as-read (λ d. RegisterUnder d _ _) e (rows-under _ (length-groupsIn _ _) (record {
+      passed = as-read (λ d. Register _ d _) e (rows-under _ (length-groupsIn _ _) (record {
         turned = λ n k f. absurd (rows-passed w g n k f);
         passed = rows-answered w _ _ g (c .before .before .give-answer2 .ensures);
       }));
