@@ -10,7 +10,7 @@ use Rattle.wire.specs.Limits.{rangeBytes}
 use Rattle.wire.specs.Record.{read}
 use Rattle.wire.specs.SheetFormat.{Records, readSheet}
 use Rattle.wire.specs.Facts.{read-right, right-few}
-use Rattle.meaning.specs.Sheet.{Sheet, Group, endOf}
+use Rattle.meaning.specs.Sheet.{Sheet, Group}
 use Rattle.meaning.specs.Tree.{Tree, Rooted}
 use Rattle.meaning.specs.Fits.{Possible}
 use Rattle.meaning.specs.Arranged.{Arranged}
@@ -22,7 +22,6 @@ use Rattle.sizes.specs.ArrangedAlike.{arranged-eq}
 use Rattle.sizes.specs.MeasuredLaws.{spans-measured}
 use Rattle.reading.specs.Tables.{groupFields, groupsIn, length-groupsIn}
 use Rattle.reading.specs.SheetIn.{sheetIn, Tabled, size-in, few-groups}
-use Rattle.measuring.specs.Held.{topOf}
 use Rattle.measuring.specs.Pairs.{pairIn}
 use Rattle.measuring.specs.Tables.{mayIn, spansIn}
 use Rattle.measuring.specs.Done.{Lent, AllDone}
@@ -80,7 +79,6 @@ pub ranges-placed : {t spans after before out : List ℕ} {n : ℕ} (ranges firs
     → ((z : ℕ → Bool → Span) → Measures (sheetIn t n) z spans after → Ranged (sheetIn t n) z (spanIn ranges))
     → Arranged (sheetIn t n) (leastIn spans) (greatestIn spans) (numberIn firsts) (numberIn sizes)
     → Wrote before 0 (rangeBytes * n) out → RangesPut out n ranges firsts sizes → RangesWritten t n before out
-unfolding endOf topOf
 ranges-placed {t} {spans} {after} {before} {out} {n} ranges firsts sizes p h a w put =
     let k = p .measured in
     let T = p .measured .tabled in

@@ -4,7 +4,7 @@ use mathlib.Core.Path.{_≡_}
 use mathlib.Core.Bool.{Bool, true, false, cond}
 use lib.Dec.{leb, eqb}
 use Rattle.wire.specs.Limits.{noGreatest}
-use Rattle.meaning.specs.Sheet.{Top, fin, inf}
+use Rattle.meaning.specs.Sheet.{Top, endOf}
 use Rattle.reading.specs.Modes.{disjointMode, coverMode, sameMode}
 use Rattle.reading.specs.SheetIn.{sizeLimit}
 use Rattle.sizes.specs.Span.{Span, none, span, Kind, lap, add, eq}
@@ -15,8 +15,8 @@ use Rattle.measuring.specs.declared.spans.Kind.{Kind as KindCode}
 use Rattle.measuring.specs.declared.spans.Kind.the-variants.{Lap, Add, Eq}
 
 -- an upper end as tables and replies have it
-unfoldable pub topOf : ℕ → Top
-topOf m = cond (eqb m noGreatest) inf (fin m)
+abbrev pub topOf : ℕ → Top
+topOf m = endOf noGreatest m
 
 -- the numbers from l to m, none where l is above m
 unfoldable pub spanOf : ℕ → ℕ → Span

@@ -25,13 +25,17 @@ pub some-of : {l m : ℕ} → l ≤ m → spanOf l m ≡ span l (topOf m)
 unfolding spanOf
 some-of {l} {m} h = rw (le-leb l m h)
 
-pub top-end : topOf noGreatest ≡ inf
-unfolding topOf
-top-end = refl
+-- upper ends, in records and in tables
+pub end-fin : {n h : ℕ} → (h ≡ n → ⊥) → endOf n h ≡ fin h
+unfolding endOf
+end-fin {n} {h} e = rw (ne-eqb h n e)
 
 pub top-fin : {m : ℕ} → (m ≡ noGreatest → ⊥) → topOf m ≡ fin m
-unfolding topOf
-top-fin {m} h = rw (ne-eqb m noGreatest h)
+top-fin h = end-fin h
+
+pub top-end : topOf noGreatest ≡ inf
+unfolding endOf
+top-end = refl
 
 -- the smaller and the larger of two upper ends
 pub top-min : {a b : ℕ} → a ≤ noGreatest → b ≤ noGreatest → topOf (min a b) ≡ smaller (topOf a) (topOf b)
@@ -133,11 +137,6 @@ join-none-right eq (span l u) b e = rw e
 pub both : (f h : Bool → Span) → f false ≡ h false → f true ≡ h true → AlikeBoth f h
 both f h a b false = a
 both f h a b true = b
-
--- a bound of a record as an upper end
-pub end-fin : {h : ℕ} → (h ≡ noEnd → ⊥) → endOf noEnd h ≡ fin h
-unfolding endOf
-end-fin {h} n = rw (ne-eqb h noEnd n)
 
 pub endless-of : (l : ℕ) → l ≤ noGreatest → spanOf l noGreatest ≡ span l inf
 endless-of l h = rw (some-of h, top-end)

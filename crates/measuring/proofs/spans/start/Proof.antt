@@ -1,7 +1,8 @@
 -- `start` meets its contract.
 use mathlib.Core.Path.{refl}
+use Rattle.meaning.specs.Sheet.{endOf}
 use Rattle.sizes.specs.Fold as fold
-use Rattle.measuring.specs.Held.{spanOf, topOf}
+use Rattle.measuring.specs.Held.{spanOf}
 use Rattle.measuring.specs.HeldLaws.{both}
 use borrow.Author.Needs.{needs}
 use Rattle.measuring.proofs.spans.start.Statement.{statement}
@@ -11,11 +12,11 @@ nothing-requires : tie.Need-nothing-requires
 nothing-requires c κs = search needs
 
 returns : tie.Need-returns
-unfolding fold.start spanOf topOf
+unfolding fold.start spanOf endOf
 returns c = rw (c .before .if1 .taken) (both _ _ refl (c .nothing .ensures))
 
 returns-2 : tie.Need-returns-2
-unfolding fold.start spanOf topOf
+unfolding fold.start spanOf endOf
 returns-2 c = rw (c .if1 .left) (both _ _ refl refl)
 
 pub start-spec : {M : Type 1} → statement M
