@@ -23,10 +23,10 @@ use Rattle.sizes.specs.ArrangedOnce.{ends-once}
 use Rattle.sizes.specs.Readable.{readable-possible-or-not, readable-breakable-or-not, readable-arrangement-once}
 use Rattle.registers.specs.Settled.{answered-once}
 use Rattle.claims.specs.declared.verdict.Verdict.{Verdict}
-use Rattle.group_sheet.specs.Reply.{call, packed, Replied, OnceSheet}
-use Rattle.group_sheet.specs.RangesReply.{rangeAt, rangeLeast, rangeGreatest, runFirst, runCount, RangesIn, Ranges}
-use Rattle.group_sheet.specs.RegisterReply.{AnswerIn, Register}
-use Rattle.group_sheet.specs.ClaimReply.{shownAt, VerdictIn, DenialIn, ClaimVerdict}
+use Rattle.replies.specs.Reply.{call, packed, Replied, OnceSheet}
+use Rattle.range_reply.specs.RangesReply.{rangeAt, rangeLeast, rangeGreatest, runFirst, runCount, RangesIn, Ranges}
+use Rattle.register_reply.specs.RegisterReply.{AnswerIn, Register}
+use Rattle.claim_reply.specs.ClaimReply.{shownAt, VerdictIn, DenialIn, ClaimVerdict}
 use Rattle.group_sheet.proofs.Alike.{Alike, alike-then, alike-many, u16-alike, u32-alike}
 use Rattle.group_sheet.proofs.Exits.{once-read, once-possible, once-numbered, once-room, replied-alike}
 
@@ -93,7 +93,8 @@ answer-alike {s} {rows} x y v w =
 -- Two exits of `sheet_register` that meet its contract for the same sheet, register and buffer at entry are the same: the
 -- number returned and every byte.
 pub register-settled : (sheet register : List ℕ) {before after after' : List ℕ} {r r' : ℕ}
-    → OnceSheet sheet (Register register) (call before r after) → OnceSheet sheet (Register register) (call before r' after')
+    → OnceSheet sheet (λ d. Register register (d .edition) (sheetOf (d .groups))) (call before r after)
+    → OnceSheet sheet (λ d. Register register (d .edition) (sheetOf (d .groups))) (call before r' after')
     → Bytes after → Bytes after' → (r ≡ r') × (after ≡ after')
 register-settled sheet register v w x y =
     once-read (λ z. z) (readSheet sheet) v w

@@ -3,7 +3,7 @@
 use Prim.Native.Nat.{ℕ, _+_, _-_, _≤_, _<_}
 use mathlib.Core.Path.{_≡_}
 use mathlib.Core.Bool.{true, false}
-use mathlib.Core.List.{List, [], _∷_, _++_, flatMap}
+use mathlib.Core.List.{List·Memᴰ, List, [], _∷_, _++_, flatMap}
 use lib.ListN.{length, getD}
 use Rattle.wire.specs.Limits.{nameLimit, claimLimit, sideLimit, boundLimit, noEnd, modeLimit, rowLimit}
 use Rattle.wire.specs.Edition.{Edition, editionNumber, membershipBytes, groupLimit, labelLimit, rowKind}
@@ -75,12 +75,6 @@ ClaimRight names cs (count n lo hi) = (allWithin names (n ∷ []) ≡ true) × (
 ClaimRight names cs (inside l r) = SideRight names l × SideRight names r
 ClaimRight names cs (apart l r) = SideRight names l × SideRight names r
 
--- an upper end is a number up to 65,534, or 65,535 for none
-abbrev pub ClaimEnd : List ClaimRecord → ClaimRecord → Type 0
-ClaimEnd cs (count n lo hi) = hi ≤ noEnd
-ClaimEnd cs (inside l r) = Unit {0}
-ClaimEnd cs (apart l r) = Unit {0}
-
 -- what reading ensures of any list of numbers
 pub record Right (d : Records) : Type 0 where
   pub someGroup : 1 ≤ length (d .groups)
@@ -91,11 +85,11 @@ pub record Right (d : Records) : Type 0 where
   pub names : Each (NameRight (d .edition) (length (d .groups))) [] (d .names)
   pub claims : Each (ClaimRight (length (d .names))) [] (d .claims)
 
--- a sheet within the limits
+-- a sheet within the limits: upper ends are numbers up to 65,534, or 65,535 for none
 pub record SheetWithin (d : Records) : Type 0 where
   pub right : Right d
   pub groupEnds : Each (λ gs g. g .hi ≤ noEnd) [] (d .groups)
-  pub claimEnds : Each ClaimEnd [] (d .claims)
+  pub claimEnds : (n lo hi : ℕ) → List·Memᴰ (count n lo hi) (d .claims) → hi ≤ noEnd
 
 -- A row after the rows rs, under a sheet of edition e with `groups` groups; and rows within the limits, numbers that fit their
 -- fields among them.

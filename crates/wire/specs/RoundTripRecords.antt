@@ -19,7 +19,7 @@ use Rattle.wire.specs.Record.{lengthOf, kindOf, after, framed, Test}
 use Rattle.wire.specs.SheetFormat.{HeadRecord, GroupRecord, NameRecord, ClaimRecord, count, inside, apart, Records}
 use Rattle.wire.specs.SheetFormat.{headTests, groupTests, nameTests, claimTests, headOf, groupOf, nameOf, claimOf}
 use Rattle.wire.specs.SheetFormat.{u16s, leftOf, rightOf, allWithin, claimLength, claimFields, claimNames}
-use Rattle.wire.specs.Encoding.{Bytes, GroupRight, NameRight, SideRight, ClaimRight, ClaimEnd, Right}
+use Rattle.wire.specs.Encoding.{Bytes, GroupRight, NameRight, SideRight, ClaimRight, Right}
 use Rattle.wire.specs.Encoding.{encodeRecord, encodeHead, encodeGroup, encodeName, encodeClaim}
 use Rattle.laws.specs.Cases.{and-true}
 use Rattle.wire.specs.Passing.{Pass}
@@ -27,7 +27,7 @@ use Rattle.wire.specs.Sorts.{Framed, HeadRight, group-frame, name-frame,
 use Rattle.wire.specs.Sorts.{claim-cases, claim-frame, claim-count, claim-inside, claim-apart, length-u16s, label-length}
 use Rattle.wire.specs.Fields.{Fields, none, more, u16s-drop, u16s-le16s, length-le16, length-le16s, drop-le16, drop-le16s}
 use Rattle.wire.specs.Fields.{length-encoded, kind-encoded, body-encoded, after-encoded, framed-encoded, encode-read}
-use Rattle.wire.specs.Facts.{right-few, parent-right}
+use Rattle.wire.specs.Facts.{right-few, parent-right, ClaimEnd}
 
 -- A record whose body is fields of two bytes.
 pub record FieldsOf (b : List ℕ) (kind : ℕ) (xs c : List ℕ) : Type 0 where

@@ -11,11 +11,11 @@ use Rattle.wire.specs.Record.{test, read}
 use Rattle.wire.specs.SheetFormat.{Records, groupTests, groupOf}
 use Rattle.wire.specs.SheetFormat.{nameTests, nameOf, claimTests, claimOf}
 use Rattle.wire.specs.SheetFormat.{closing, readClaims, readNames, readGroups, readSheet}
-use Rattle.wire.specs.Encoding.{Bytes, GroupRight, NameRight, ClaimRight, ClaimEnd, SheetWithin}
+use Rattle.wire.specs.Encoding.{Bytes, GroupRight, NameRight, ClaimRight, SheetWithin}
 use Rattle.wire.specs.Encoding.{encodeGroup, encodeName, encodeClaim, encodeSheet}
 use Rattle.wire.specs.Passing.{onward-passed}
 use Rattle.wire.specs.Many.{each-both, each-short, encode-reads, kept-read, many-encoded}
-use Rattle.wire.specs.Facts.{sheet-read, right-few, read-within, bytes-after}
+use Rattle.wire.specs.Facts.{ClaimEnd, each-end, sheet-read, right-few, read-within, bytes-after}
 use Rattle.wire.specs.RoundTripRecords.{headFor, head-good, head-back, group-good, group-back, name-good, name-back}
 use Rattle.wire.specs.RoundTripRecords.{claim-good, claim-back}
 
@@ -27,7 +27,7 @@ module _ (d : Records) (w : SheetWithin d) where
       (many-encoded (claimTests (length (d .names))) claimOf (closing (d .edition) (d .groups) (d .names)) encodeClaim
       (λ cs x. ClaimRight (length (d .names)) cs x × ClaimEnd cs x)
       (λ cs x c p. claim-good (length (d .names)) (w .right .nameCount) cs x c (p .0) (p .1)) r
-      (each-both (w .right .claims) (w .claimEnds)) []
+      (each-both (w .right .claims) (each-end [] (d .claims) (w .claimEnds))) []
       ∙ onward-passed (test 7 true ∷ []) _ _ (refl, tt))
 
   read-names : (r : ℕ)

@@ -7,9 +7,9 @@ use borrow.Author.Tests.{not-true, not-false}
 use Rattle.reading.specs.SheetIn.{sheetIn}
 use Rattle.reading.specs.ClaimTable.{length-claimsIn}
 use Rattle.reading.specs.Loaded.{loaded-sheet, loaded-held, loaded-refused}
-use Rattle.group_sheet.specs.ClaimReply.{ClaimVerdict}
-use Rattle.group_sheet.proofs.ReplyLaws.{read-not-refused, as-read, turned-back}
-use Rattle.group_sheet.proofs.RangesLaws.{tabled}
+use Rattle.claim_reply.specs.ClaimReply.{ClaimVerdict}
+use Rattle.replies.proofs.ReplyLaws.{read-not-refused, as-read, turned-back}
+use Rattle.group_sheet.proofs.TabledLaws.{tabled}
 use Rattle.group_sheet.proofs.ClaimLaws.{verdict-on, claim-askable, claim-told}
 use borrow.Author.Needs.{needs}
 use Rattle.group_sheet.proofs.claim.sheet_claim.Statement.{statement}
