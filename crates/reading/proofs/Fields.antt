@@ -9,7 +9,7 @@ use borrow.Author.Tests.{le-leb, eqb-true}
 use lib.ListN.{length, drop, length-drop}
 use lib.Dec.{leb, eqb}
 use Rattle.wire.specs.Fields.{u16-drop, u16s-drop}
-use Rattle.wire.specs.Passing.{Pass, Numbered, pass-of-refusal}
+use Rattle.wire.specs.Passing.{Pass, NumbersWithin, pass-of-refusal}
 use Rattle.laws.specs.Cases.{split, and-true}
 use Rattle.wire.specs.Sorts.{Framed, framed-true, framed-of, group-numbered, group-frame, name-numbered, name-frame}
 use Rattle.wire.specs.Sorts.{claim-numbered, claim-frame}
@@ -92,7 +92,7 @@ sides-end m n len e =
     eqb-true (6 + 2 * (m + n)) len (and-true (leb 1 m && leb m 8 && leb 1 n && leb n 8) (eqb (6 + 2 * (m + n)) len) e .1)
 
 -- what a record that passed its tests shows
-pub passed : (ts : List Test) → Numbered 1 7 ts → refusal ts ≡ 0 → Pass ts
+pub passed : (ts : List Test) → NumbersWithin 1 7 ts → refusal ts ≡ 0 → Pass ts
 passed ts n e = pass-of-refusal 1 7 ts n (omega arith) e
 
 pub group-whole : (s : List ℕ) (at : ℕ) (gs : List GroupRecord) → refusal (groupTests gs (drop at s)) ≡ 0 →

@@ -22,7 +22,7 @@ use Rattle.wire.specs.SheetFormat.{HeadRecord, GroupRecord, NameRecord, 
 use Rattle.wire.specs.SheetFormat.{parentAllowed, allWithin, closing, readClaims, readNames, readGroups, readSheet}
 use Rattle.wire.specs.Encoding.{Bytes, Each, none, more, GroupRight, NameRight, ClaimRight, Right, SheetWithin}
 use Rattle.laws.specs.Cases.{split, and-true}
-use Rattle.wire.specs.Passing.{Pass, Numbered, onward-read, Refuses, onward-refuses}
+use Rattle.wire.specs.Passing.{Pass, NumbersWithin, onward-read, Refuses, onward-refuses}
 use Rattle.wire.specs.Many.{Reads, reads-same, empty-of-length, each-at, each-read, kept-read, reads-length, many-read}
 use Rattle.wire.specs.Many.{many-refuses}
 use Rattle.wire.specs.Sorts.{HeadRight, head-numbered, head-right, group-numbered, group-frame, group-right, name-numbered}
@@ -42,7 +42,7 @@ pub record SheetRead (b : List ℕ) (d : Records) : Type 0 where
   pub names : Reads (nameTests (d .edition) (length (d .groups))) nameOf [] afterGroups (d .names) afterNames
   pub claims : Reads (claimTests (length (d .names))) claimOf [] afterNames (d .claims) []
 
-closing-numbered : (c : List ℕ) → Numbered 1 7 (test 7 (eqb (length c) 0) ∷ [])
+closing-numbered : (c : List ℕ) → NumbersWithin 1 7 (test 7 (eqb (length c) 0) ∷ [])
 closing-numbered c = omega arith
 
 claims-read : (h : HeadRecord) (gs : List GroupRecord) (r : ℕ) (ns : List NameRecord) (b : List ℕ) (d : Records)

@@ -9,7 +9,7 @@ use lib.ListN.{length, take, getD, length-append, length-drop}
 use Rattle.wire.specs.Record.{lengthOf, after, Test, Reading, read}
 use Rattle.wire.specs.SheetFormat.{readMany}
 use Rattle.wire.specs.Encoding.{Each, none, more}
-use Rattle.wire.specs.Passing.{Pass, Numbered, onward-passed, onward-read, Refuses, onward-refuses}
+use Rattle.wire.specs.Passing.{Pass, NumbersWithin, onward-passed, onward-read, Refuses, onward-refuses}
 
 -- Behind xs the bytes b begin with records that pass their tests, of the values ys, and go on with the bytes c.
 pub data Reads {A : Type 0} (tests : List A → List ℕ → List Test) (value : List ℕ → A) :
@@ -81,7 +81,7 @@ module _ {A : Type 0} {tests : List A → List ℕ → List Test} {value : List 
 
 module _ {A R : Type 0} (tests : List A → List ℕ → List Test) (value : List ℕ → A) (rest : ℕ → List A → List ℕ → Reading R) where
   -- reading that came to an end read as many records as were asked for, each of which passed
-  pub many-read : (hi : ℕ) → ((xs : List A) (b : List ℕ) → Numbered 1 hi (tests xs b))
+  pub many-read : (hi : ℕ) → ((xs : List A) (b : List ℕ) → NumbersWithin 1 hi (tests xs b))
       → (n r : ℕ) (xs : List A) (b : List ℕ) (d : R) → readMany tests value rest n r xs b ≡ read d
       → (ys : List A) × (c : List ℕ) × (length ys ≡ n) × Reads tests value xs b ys c × (rest (r + n) (xs ++ ys) c ≡ read d)
   unfolding readMany
@@ -93,7 +93,7 @@ module _ {A R : Type 0} (tests : List A → List ℕ → List Test) (value : Lis
       (value b ∷ m .0, m .1, ap suc (m .2), go (s .0) (m .3), rw (append-assoc, same) at (m .4))
 
   -- refusals on the way have the tests' numbers and the records' numbers
-  pub many-refuses : (hi top : ℕ) → ((xs : List A) (b : List ℕ) → Numbered 1 hi (tests xs b))
+  pub many-refuses : (hi top : ℕ) → ((xs : List A) (b : List ℕ) → NumbersWithin 1 hi (tests xs b))
       → (n r : ℕ) (xs : List A) (b : List ℕ) → 1 ≤ r → r + n ≤ top
       → ((ys : List A) (c : List ℕ) → Refuses 1 hi top (rest (r + n) ys c))
       → Refuses 1 hi top (readMany tests value rest n r xs b)

@@ -15,9 +15,9 @@ Pass [] = Unit {0}
 Pass (test n ok ∷ ts) = (ok ≡ true) × Pass ts
 
 -- every test's number is from lo to hi
-abbrev pub Numbered : ℕ → ℕ → List Test → Type 0
-Numbered lo hi [] = Unit {0}
-Numbered lo hi (test n ok ∷ ts) = (lo ≤ n) × (n ≤ hi) × Numbered lo hi ts
+abbrev pub NumbersWithin : ℕ → ℕ → List Test → Type 0
+NumbersWithin lo hi [] = Unit {0}
+NumbersWithin lo hi (test n ok ∷ ts) = (lo ≤ n) × (n ≤ hi) × NumbersWithin lo hi ts
 
 -- a refusal is 0 exactly when every test passes, and a number of the tests otherwise
 pub refusal-zero : (ts : List Test) → Pass ts → refusal ts ≡ 0
@@ -25,13 +25,13 @@ unfolding refusal
 refusal-zero [] p = refl
 refusal-zero (test n ok ∷ ts) p = rw (p .0) (refusal-zero ts (p .1))
 
-pub pass-of-refusal : (lo hi : ℕ) (ts : List Test) → Numbered lo hi ts → 1 ≤ lo → refusal ts ≡ 0 → Pass ts
+pub pass-of-refusal : (lo hi : ℕ) (ts : List Test) → NumbersWithin lo hi ts → 1 ≤ lo → refusal ts ≡ 0 → Pass ts
 unfolding refusal
 pass-of-refusal lo hi [] w l e = tt
 pass-of-refusal lo hi (test n true ∷ ts) w l e = (refl, pass-of-refusal lo hi ts (w .2) l e)
 pass-of-refusal lo hi (test n false ∷ ts) w l e = absurd (omega arith)
 
-pub refusal-numbered : (lo hi : ℕ) (ts : List Test) → Numbered lo hi ts → (refusal ts ≡ 0 → ⊥)
+pub refusal-numbered : (lo hi : ℕ) (ts : List Test) → NumbersWithin lo hi ts → (refusal ts ≡ 0 → ⊥)
     → (lo ≤ refusal ts) × (refusal ts ≤ hi)
 unfolding refusal
 refusal-numbered lo hi [] w e = absurd (e refl)
@@ -47,7 +47,7 @@ never-read : {A : Type 0} {n r : ℕ} {a : A} → refused n r ≡ read a → ⊥
 never-read {n} e = let z : _≡_ {A = ℕ} 0 1 = cc in omega arith
 
 -- reading came to an end only past tests that passed
-pub onward-read : {A : Type 0} (lo hi : ℕ) (ts : List Test) → Numbered lo hi ts → 1 ≤ lo → (r : ℕ) (next : Reading A) (a : A)
+pub onward-read : {A : Type 0} (lo hi : ℕ) (ts : List Test) → NumbersWithin lo hi ts → 1 ≤ lo → (r : ℕ) (next : Reading A) (a : A)
     → onward (refusal ts) r next ≡ read a → Pass ts × (next ≡ read a)
 unfolding onward
 onward-read lo hi ts w l r next a e =
@@ -59,7 +59,7 @@ abbrev pub Refuses : {A : Type 0} → ℕ → ℕ → ℕ → Reading A → Type
 Refuses lo hi top (read a) = Unit {0}
 Refuses lo hi top (refused n r) = (lo ≤ n) × (n ≤ hi) × (1 ≤ r) × (r ≤ top)
 
-pub onward-refuses : {A : Type 0} (lo hi top : ℕ) (ts : List Test) → Numbered lo hi ts → 1 ≤ lo → (r : ℕ) (next : Reading A)
+pub onward-refuses : {A : Type 0} (lo hi top : ℕ) (ts : List Test) → NumbersWithin lo hi ts → 1 ≤ lo → (r : ℕ) (next : Reading A)
     → 1 ≤ r → r ≤ top → (Pass ts → Refuses lo hi top next) → Refuses lo hi top (onward (refusal ts) r next)
 unfolding onward
 onward-refuses lo hi top ts w l r next h k go =

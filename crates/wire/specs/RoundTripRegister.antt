@@ -17,12 +17,12 @@ use Rattle.wire.specs.RegisterFormat.{Row, rowOf, lastMember, rowTests, 
 use Rattle.wire.specs.Encoding.{Bytes, Each, none, more, RowRight, RowsWithin}
 use Rattle.wire.specs.Encoding.{encodeRecord, encodeRow, encodeRegister}
 use Rattle.laws.specs.Cases.{split, and-true}
-use Rattle.wire.specs.Passing.{Pass, Numbered, onward-passed, onward-read, Refuses, onward-refuses}
+use Rattle.wire.specs.Passing.{Pass, NumbersWithin, onward-passed, onward-read, Refuses, onward-refuses}
 use Rattle.wire.specs.Many.{Reads, stop, go, reads-same, empty-of-length, each-both, each-read, encode-reads}
 use Rattle.wire.specs.Fields.{u32-le32, length-le32, drop-le32, encode-read, length-encoded, kind-encoded, length-record}
 use Rattle.wire.specs.Facts.{bytes-drop, bytes-after}
 
-last-numbered : (b : List ℕ) → Numbered 10 13 (test 10 (eqb (length b) 0) ∷ [])
+last-numbered : (b : List ℕ) → NumbersWithin 10 13 (test 10 (eqb (length b) 0) ∷ [])
 last-numbered b = omega arith
 
 -- the frame of a row
@@ -44,7 +44,7 @@ pub record RowsRead (e : Edition) (groups : ℕ) (b : List ℕ) (rs : List Row) 
   pub right : Each (RowRight e groups) [] rs
 
 module _ (e : Edition) (groups : ℕ) where
-  row-numbered : (rs : List Row) (b : List ℕ) → Numbered 10 13 (rowTests e groups rs b)
+  row-numbered : (rs : List Row) (b : List ℕ) → NumbersWithin 10 13 (rowTests e groups rs b)
   unfolding rowTests
   row-numbered rs b = omega arith
 

@@ -16,7 +16,7 @@ use Rattle.wire.specs.SheetFormat.{GroupRecord, NameRecord, ClaimRecord,
 use Rattle.wire.specs.SheetFormat.{claimFields, claimNames}
 use Rattle.wire.specs.Encoding.{GroupRight, NameRight, SideRight, ClaimRight}
 use Rattle.laws.specs.Cases.{split, and-true}
-use Rattle.wire.specs.Passing.{Pass, Numbered}
+use Rattle.wire.specs.Passing.{Pass, NumbersWithin}
 
 -- the bytes that a record's frame promises are there
 pub record Framed (b : List ℕ) : Type 0 where
@@ -46,7 +46,7 @@ pub record HeadRight (b : List ℕ) : Type 0 where
   pub names : u16At b 8 ≤ nameLimit
   pub claims : u16At b 10 ≤ claimLimit
 
-pub head-numbered : (b : List ℕ) → Numbered 1 7 (headTests b)
+pub head-numbered : (b : List ℕ) → NumbersWithin 1 7 (headTests b)
 unfolding headTests
 head-numbered b = omega arith
 
@@ -71,7 +71,7 @@ head-right b p =
     }
 
 -- a group
-pub group-numbered : (gs : List GroupRecord) (b : List ℕ) → Numbered 1 7 (groupTests gs b)
+pub group-numbered : (gs : List GroupRecord) (b : List ℕ) → NumbersWithin 1 7 (groupTests gs b)
 unfolding groupTests
 group-numbered gs b = omega arith
 
@@ -91,7 +91,7 @@ group-right gs b p =
     record { parent = p .1 .1 .1 .1 .0; lo = leb-true _ _ (s .0); mode = leb-true _ _ (s .1) }
 
 -- a name
-pub name-numbered : (e : Edition) (groups : ℕ) (ns : List NameRecord) (b : List ℕ) → Numbered 1 7 (nameTests e groups ns b)
+pub name-numbered : (e : Edition) (groups : ℕ) (ns : List NameRecord) (b : List ℕ) → NumbersWithin 1 7 (nameTests e groups ns b)
 unfolding nameTests
 name-numbered e groups ns b = omega arith
 
@@ -112,16 +112,16 @@ name-frame e groups ns b p =
       most = leb-true _ _ (s .1);
     }
 
-pub label-length : (e : Edition) (b : List ℕ) → NameFrame e b → length (nameOf b .label) ≡ lengthOf b - 4
+pub length-label : (e : Edition) (b : List ℕ) → NameFrame e b → length (nameOf b .label) ≡ lengthOf b - 4
 unfolding nameOf
-label-length e b f = simp (length-take, length-drop) (omega arith)
+length-label e b f = simp (length-take, length-drop) (omega arith)
 
 pub name-right : (e : Edition) (groups : ℕ) (ns : List NameRecord) (b : List ℕ) → Pass (nameTests e groups ns b)
     → NameRight e groups ns (nameOf b)
 unfolding nameTests
 name-right e groups ns b p =
     let f = name-frame e groups ns b p in
-    let l = label-length e b f in
+    let l = length-label e b f in
     record {
       group = unfold nameOf in leb-true _ _ (p .1 .1 .1 .1 .0);
       first = omega arith;
@@ -131,7 +131,7 @@ name-right e groups ns b p =
     }
 
 -- a claim: its kind, its length, and for kinds 5 and 6 the two sides
-pub claim-numbered : (names : ℕ) (cs : List ClaimRecord) (b : List ℕ) → Numbered 1 7 (claimTests names cs b)
+pub claim-numbered : (names : ℕ) (cs : List ClaimRecord) (b : List ℕ) → NumbersWithin 1 7 (claimTests names cs b)
 unfolding claimTests
 claim-numbered names cs b = omega arith
 
