@@ -50,7 +50,7 @@ pub fn give_verdict(
                 return pack(14, 0); // no room to say that it holds
             }
             put_verdict(reply, verdict_number(v));
-            pack(0, 6)
+            pack(0, VERDICT_BYTES as u32)
         }
         Verdict::Denied => {
             let bytes = VERDICT_BYTES + SHOWN_BYTES * size as usize;
@@ -59,7 +59,7 @@ pub fn give_verdict(
             }
             put_verdict(reply, verdict_number(v));
             put_sets(reply, size, &firsts, &sizes, &marks);
-            pack(0, 6 + 14 * size as u32)
+            pack(0, bytes as u32)
         }
     }
 }

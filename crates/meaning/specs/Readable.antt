@@ -14,8 +14,8 @@ use Rattle.meaning.specs.Tree.{Tree, Rooted}
 use Rattle.meaning.specs.OfRecords.{groupAt, sheetOf, nameGroup}
 
 module _ {d : Records} (R : Right d) (g : ℕ) (G : Group (sheetOf (d .groups)) g) where
-  pub parent-below : groupAt (d .groups) g .parent < g
-  parent-below =
+  pub parent-before : groupAt (d .groups) g .parent < g
+  parent-before =
       let p : ParentRight (g - 1) (groupAt (d .groups) g .parent) = parent-at R (g - 1) _ (omega arith) in
       omega arith
 
@@ -39,7 +39,7 @@ pub hi-most : {d : Records} → SheetWithin d → (g : ℕ) → Group (sheetOf (
 hi-most w g G = end-at w (g - 1) _ (omega arith)
 
 pub tree-of-right : {d : Records} → Right d → Tree (sheetOf (d .groups))
-tree-of-right R = record { before = λ g G. parent-below R g G }
+tree-of-right R = record { before = λ g G. parent-before R g G }
 
 -- group 1 of a readable sheet is its one root
 pub rooted-of-right : {d : Records} → Right d → Rooted (sheetOf (d .groups))

@@ -53,5 +53,5 @@ pub fn give_ranges(groups: &[u16], size: u16, reply: &mut [u8]) -> u64
         return pack(14, 0);
     }
     put(groups, size, &spans, &after, reply);
-    pack(0, 20 * size as u32)
+    pack(0, bytes as u32)
 }

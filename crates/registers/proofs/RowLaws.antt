@@ -234,8 +234,8 @@ unfolding rowsBefore
 kept-none b t = record { groups = λ i g l. absurd (omega arith) }
 
 -- what is kept, by the reading
-pub kept-read : (qs rs : List Row) (t : List ℕ) → Kept qs t → read qs ≡ read rs → Kept rs t
-kept-read qs rs t k e = let same : qs ≡ rs = cc in rw same at k
+pub rows-kept : (qs rs : List Row) (t : List ℕ) → Kept qs t → read qs ≡ read rs → Kept rs t
+rows-kept qs rs t k e = let same : qs ≡ rs = cc in rw same at k
 
 pub kept-refused : (n k : ℕ) (rs : List Row) (t : List ℕ) → refused n k ≡ read rs → Kept rs t
 kept-refused n k rs t e = absurd (let z : _≡_ {A = ℕ} 0 1 = cc in omega arith)

@@ -138,5 +138,5 @@ pub fn give_answer(reply: &mut [u8], group: u16, rule: u16) -> u64
         return pack(14, 0);
     }
     put_answer(reply, group, rule);
-    pack(0, 8)
+    pack(0, ANSWER_BYTES as u32)
 }

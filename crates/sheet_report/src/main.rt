@@ -1,10 +1,26 @@
 // The program: a sheet from standard input, of which at most 8,192 bytes are taken, gives a line for each group and each
 // claim, or the line of its refusal.
 // Document 01, "Worked sheets", the printed case.
-ghost use mathlib.Core.Path.{_≡_};
-ghost use Prim.Native.Nat.{_<_};
 use libc::STDIN_FILENO;
 use libc::STDOUT_FILENO;
+use measuring::spans::ENDLESS;
+use reading::tables::CLAIMS;
+use reading::tables::GROUP_CAPACITY;
+use replies::RANGE_BYTES;
+use replies::SHOWN_BYTES;
+use replies::VERDICT_BYTES;
+use replies::pairs::PAIR;
+ghost use mathlib.Core.Path.{_≡_};
+ghost use Prim.Native.Nat.{_<_};
+ghost use Rattle.wire.specs.Capacity.{groupCapacity};
+
+// most bytes that are taken as a sheet
+const SHEET_BYTES: usize = 8192;
+
+// the longest replies: ranges, and a denial
+const RANGES_BYTES: usize = RANGE_BYTES * GROUP_CAPACITY;
+
+const DENIAL_BYTES: usize = VERDICT_BYTES + SHOWN_BYTES * GROUP_CAPACITY;
 
 // a four-byte field of a reply, 0 where it is cut
 fn field(reply: &[u8], at: usize) -> u64 {
@@ -41,7 +57,7 @@ fn after_space(n: u64) {
 
 // The greatest count, a hyphen where there is none.
 fn greatest(n: u64) {
-    if n == 4294967295 {
+    if n == ENDLESS as u64 {
         text(b" -");
         return;
     }
@@ -50,26 +66,27 @@ fn greatest(n: u64) {
 
 fn print_refusal(answer: u64) {
     text(b"refused");
-    after_space(answer / 4294967296);
-    after_space(answer % 4294967296);
+    after_space(answer / PAIR);
+    after_space(answer % PAIR);
     text(b"\n");
 }
 
 // The line of the group numbered i + 1.
 fn print_group(reply: &[u8], i: usize)
-    requires { ⌜ i < 128 ⌝ }
+    requires { ⌜ i < groupCapacity ⌝ }
 {
     number(i as u64 + 1);
-    after_space(field(reply, 20 * i + 4));
-    greatest(field(reply, 20 * i + 8));
-    after_space(field(reply, 20 * i + 12));
-    after_space(field(reply, 20 * i + 16));
+    let at = RANGE_BYTES * i;
+    after_space(field(reply, at + 4));
+    greatest(field(reply, at + 8));
+    after_space(field(reply, at + 12));
+    after_space(field(reply, at + 16));
     text(b"\n");
 }
 
 fn print_groups(reply: &[u8], size: u64) {
     let mut i: usize = 0;
-    while i < 128 {
+    while i < GROUP_CAPACITY {
         if size <= i as u64 {
             return;
         }
@@ -80,9 +97,9 @@ fn print_groups(reply: &[u8], size: u64) {
 
 // The line of one claim; answers whether there is such a claim.
 fn print_claim(sheet: &[u8], claim: u32) -> bool {
-    let mut reply = [0u8; 1798];
+    let mut reply = [0u8; DENIAL_BYTES];
     let answer = group_sheet::claim::sheet_claim(sheet, claim, &mut reply);
-    if answer / 4294967296 != 0 {
+    if answer / PAIR != 0 {
         return false;
     }
     text(b"claim");
@@ -97,7 +114,7 @@ fn print_claim(sheet: &[u8], claim: u32) -> bool {
 
 fn print_claims(sheet: &[u8]) {
     let mut k: u32 = 1;
-    while k <= 64 {
+    while k <= CLAIMS as u32 {
         if !print_claim(sheet, k) {
             return;
         }
@@ -106,18 +123,18 @@ fn print_claims(sheet: &[u8]) {
 }
 
 fn report(sheet: &[u8]) {
-    let mut reply = [0u8; 2560];
+    let mut reply = [0u8; RANGES_BYTES];
     let answer = group_sheet::ranges::sheet_ranges(sheet, &mut reply);
-    if answer / 4294967296 != 0 {
+    if answer / PAIR != 0 {
         print_refusal(answer);
         return;
     }
-    print_groups(&reply, answer % 4294967296 / 20);
+    print_groups(&reply, answer % PAIR / RANGE_BYTES as u64);
     print_claims(sheet);
 }
 
 fn main() {
-    let mut sheet = [0u8; 8192];
+    let mut sheet = [0u8; SHEET_BYTES];
     let n = io::read_full(STDIN_FILENO, &mut sheet);
     report(&sheet[..n]);
 }

@@ -24,7 +24,7 @@ use Rattle.wire.specs.Encoding.{encodeRecord, encodeHead, encodeGroup, e
 use Rattle.laws.specs.Cases.{and-true}
 use Rattle.wire.specs.Passing.{Pass}
 use Rattle.wire.specs.Sorts.{Framed, HeadRight, group-frame, name-frame, SidesFrame}
-use Rattle.wire.specs.Sorts.{claim-cases, claim-frame, claim-count, claim-inside, claim-apart, length-u16s, label-length}
+use Rattle.wire.specs.Sorts.{claim-cases, claim-frame, claim-count, claim-inside, claim-apart, length-u16s, length-label}
 use Rattle.wire.specs.Fields.{Fields, none, more, u16s-drop, u16s-le16s, length-le16, length-le16s, drop-le16, drop-le16s}
 use Rattle.wire.specs.Fields.{length-encoded, kind-encoded, body-encoded, after-encoded, framed-encoded, encode-read}
 use Rattle.wire.specs.Facts.{right-few, parent-right, ClaimEnd}
@@ -105,7 +105,7 @@ pub name-back : (e : Edition) (groups : ℕ) (ns : List NameRecord) (b : List �
 unfolding encodeName nameOf after
 name-back e groups ns b k p =
     let f = name-frame e groups ns b p in
-    let l = label-length e b f in
+    let l = length-label e b f in
     let same : lengthOf b + 2 ≡ 6 + (lengthOf b - 4) = omega arith in
     let tail : take (lengthOf b - 4) (drop 6 b) ++ drop (lengthOf b + 2) b ≡ drop 6 b =
     rw (same, ← drop-drop (lengthOf b - 4) 6 b) (take-append-drop (lengthOf b - 4) (drop 6 b)) in

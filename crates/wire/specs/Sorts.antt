@@ -112,16 +112,16 @@ name-frame e groups ns b p =
       most = leb-true _ _ (s .1);
     }
 
-pub label-length : (e : Edition) (b : List ℕ) → NameFrame e b → length (nameOf b .label) ≡ lengthOf b - 4
+pub length-label : (e : Edition) (b : List ℕ) → NameFrame e b → length (nameOf b .label) ≡ lengthOf b - 4
 unfolding nameOf
-label-length e b f = simp (length-take, length-drop) (omega arith)
+length-label e b f = simp (length-take, length-drop) (omega arith)
 
 pub name-right : (e : Edition) (groups : ℕ) (ns : List NameRecord) (b : List ℕ) → Pass (nameTests e groups ns b)
     → NameRight e groups ns (nameOf b)
 unfolding nameTests
 name-right e groups ns b p =
     let f = name-frame e groups ns b p in
-    let l = label-length e b f in
+    let l = length-label e b f in
     record {
       group = unfold nameOf in leb-true _ _ (p .1 .1 .1 .1 .0);
       first = omega arith;

@@ -60,6 +60,9 @@ verdict-number-requires c κs = search needs
 put-verdict-requires : tie.Need-put-verdict-requires
 put-verdict-requires c κs = search needs
 
+cast-pack : tie.Need-cast-pack
+cast-pack c = search needs
+
 pack-requires-2 : tie.Need-pack-requires-2
 pack-requires-2 c κs = search needs
 
@@ -111,11 +114,8 @@ slice-aggregate-put-sets-3 c = search needs
 put-sets-requires : tie.Need-put-sets-requires
 put-sets-requires c κs = search needs
 
-mul-pack : tie.Need-mul-pack
-mul-pack c = search needs
-
-add-pack : tie.Need-add-pack
-add-pack c = search needs
+cast-pack-2 : tie.Need-cast-pack-2
+cast-pack-2 c = search needs
 
 pack-requires-4 : tie.Need-pack-requires-4
 pack-requires-4 c κs = search needs
@@ -182,6 +182,7 @@ give-verdict-spec =
     returns
     verdict-number-requires
     put-verdict-requires
+    cast-pack
     pack-requires-2
     enum-told-2
     mul-bytes
@@ -195,8 +196,7 @@ give-verdict-spec =
     slice-aggregate-put-sets-2
     slice-aggregate-put-sets-3
     put-sets-requires
-    mul-pack
-    add-pack
+    cast-pack-2
     pack-requires-4
     same-length-3
     same-length-4

@@ -63,8 +63,8 @@ put-requires c κs =
       room = c .before .before .before .if2 .left;
     }
 
-mul-pack : tie.Need-mul-pack
-mul-pack c = search needs
+cast-pack : tie.Need-cast-pack
+cast-pack c = search needs
 
 pack-requires-3 : tie.Need-pack-requires-3
 pack-requires-3 c κs = search needs
@@ -100,7 +100,7 @@ give-ranges-spec =
     slice-aggregate-put
     slice-aggregate-put-2
     put-requires
-    mul-pack
+    cast-pack
     pack-requires-3
     same-length
     returns-3)

@@ -18,6 +18,9 @@ returns c = record {
 put-answer-requires : tie.Need-put-answer-requires
 put-answer-requires c κs = search needs
 
+cast-pack : tie.Need-cast-pack
+cast-pack c = search needs
+
 pack-requires-2 : tie.Need-pack-requires-2
 pack-requires-2 c κs = search needs
 
@@ -35,4 +38,4 @@ returns-2 c =
 pub give-answer-spec : {M : Type 1} → statement M
 give-answer-spec =
     tie.close
-    (tie.spec pack-requires returns put-answer-requires pack-requires-2 same-length returns-2)
+    (tie.spec pack-requires returns put-answer-requires cast-pack pack-requires-2 same-length returns-2)

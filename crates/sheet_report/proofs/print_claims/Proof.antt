@@ -1,13 +1,14 @@
-use Prim.Native.Nat.{_≤_, _-_}
+use Prim.Native.Nat.{_+_, _≤_, _-_}
 use borrow.Author.Needs.{needs}
+use Rattle.wire.specs.Limits.{claimLimit}
 use Rattle.sheet_report.proofs.print_claims.Statement.{statement}
 use Rattle.sheet_report.proofs.print_claims.Tie as tie
 
 abbrev Inv-loop : tie.InvT-loop
-Inv-loop sheet k₀ k = k ≤ 65
+Inv-loop sheet k₀ k = k ≤ claimLimit + 1
 
 abbrev μ-loop : tie.MeasureT-loop
-μ-loop sheet k₀ k = 65 - k
+μ-loop sheet k₀ k = claimLimit + 1 - k
 
 loop-holds : tie.Need-loop-holds Inv-loop μ-loop
 loop-holds c = search needs

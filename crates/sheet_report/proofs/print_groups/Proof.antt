@@ -1,13 +1,14 @@
 use Prim.Native.Nat.{_≤_, _-_}
 use borrow.Author.Needs.{needs}
+use Rattle.wire.specs.Capacity.{groupCapacity}
 use Rattle.sheet_report.proofs.print_groups.Statement.{statement}
 use Rattle.sheet_report.proofs.print_groups.Tie as tie
 
 abbrev Inv-loop : tie.InvT-loop
-Inv-loop reply size i₀ i = i ≤ 128
+Inv-loop reply size i₀ i = i ≤ groupCapacity
 
 abbrev μ-loop : tie.MeasureT-loop
-μ-loop reply size i₀ i = 128 - i
+μ-loop reply size i₀ i = groupCapacity - i
 
 loop-holds : tie.Need-loop-holds Inv-loop μ-loop
 loop-holds c = search needs

@@ -10,7 +10,7 @@ use Rattle.wire.specs.Limits.{rowLimit}
 use Rattle.wire.specs.RegisterFormat.{lastMember, readRegister}
 use Rattle.registers.specs.RowsRead.{rowsBefore, Kept}
 use Rattle.registers.proofs.RowLaws.{going, going-start, last-start, kept-none, going-end, going-refused, going-member}
-use Rattle.registers.proofs.RowLaws.{going-bits, going-on, last-on, kept-on, going-full, going-over, kept-read, kept-refused}
+use Rattle.registers.proofs.RowLaws.{going-bits, going-on, last-on, kept-on, going-full, going-over, rows-kept, kept-refused}
 use Rattle.registers.proofs.rows.read_rows.Statement.{statement}
 use Rattle.registers.proofs.rows.read_rows.Tie as tie
 
@@ -47,7 +47,7 @@ returns c =
     record {
       reading = sym (l .inv .1 .1 .1 .0 ∙ going-end _ _ _ (d .before .loop-test .taken)
           (rw (c .enum-told .given .1) at (d .row-of .ensures)));
-      kept = λ rs. kept-read _ rs _ (l .inv .1 .1 .1 .1);
+      kept = λ rs. rows-kept _ rs _ (l .inv .1 .1 .1 .1);
     }
 
 enum-known-n : tie.Need-enum-known-n Inv-loop μ-loop
@@ -178,7 +178,7 @@ returns-6 c =
     let full : l .row ≡ rowLimit = omega arith in
     record {
       reading = sym (l .inv .1 .1 .1 .0 ∙ (rw full (going-full _ _ (c .if3 .left))));
-      kept = λ rs. kept-read _ rs _ (rw full at (l .inv .1 .1 .1 .1));
+      kept = λ rs. rows-kept _ rs _ (rw full at (l .inv .1 .1 .1 .1));
     }
 
 pub read-rows-spec : {M : Type 1} → statement M
