@@ -3,7 +3,7 @@
 // Document 01, "Worked sheets", the printed case.
 use libc::STDIN_FILENO;
 use libc::STDOUT_FILENO;
-use measuring::spans::ENDLESS;
+use measuring::spans::NO_GREATEST;
 use reading::tables::CLAIMS;
 use reading::tables::GROUP_CAPACITY;
 use replies::RANGE_BYTES;
@@ -57,7 +57,7 @@ fn after_space(n: u64) {
 
 // The greatest count, a hyphen where there is none.
 fn greatest(n: u64) {
-    if n == ENDLESS as u64 {
+    if n == NO_GREATEST as u64 {
         text(b" -");
         return;
     }

@@ -13,6 +13,9 @@ abbrev μ-loop : tie.MeasureT-loop
 loop-holds : tie.Need-loop-holds Inv-loop μ-loop
 loop-holds c = search needs
 
+cast-loop : tie.Need-cast-loop Inv-loop μ-loop
+cast-loop c = search needs
+
 print-claim-requires : tie.Need-print-claim-requires Inv-loop μ-loop
 print-claim-requires c κs = search needs
 
@@ -38,6 +41,7 @@ print-claims-spec =
     Inv-loop
     μ-loop
     loop-holds
+    cast-loop
     print-claim-requires
     returns
     add-k
