@@ -30,7 +30,7 @@ use Rattle.sizes.specs.ClaimsCount.{rebound, narrowHi, narrowLo, narrowHi-sizes
 use Rattle.sizes.specs.ClaimsMath.{Above, breakable-size, breakable-empty, empty-breaks, shown-breaks-count}
 use Rattle.runs.specs.Told.{numberIn}
 use Rattle.reading.specs.SheetIn.{Tabled}
-use Rattle.reading.specs.SheetIn.{sheetIn, size-in, parent-in, lo-in, hi-in, disjoint-in, cover-in, same-in}
+use Rattle.reading.specs.SheetIn.{sheetIn, size-in, group-in, parent-in, lo-in, hi-in, disjoint-in, cover-in, same-in}
 use Rattle.choosing.specs.Divided.{markedIn}
 use Rattle.claims.specs.Witnessed.{Witnessed, witnessed-yes, witnessed-no, witnessed-as}
 use Rattle.claims.specs.Judged.{Fitting, Denial, Judged}
@@ -44,11 +44,11 @@ abbrev pub Between : ℕ → ℕ → Top → (ℕ → ℕ) → Type 0
 Between g lo hi f = (lo ≤ f g) × AtMost (f g) hi
 
 -- with fewer than lo members in g, and with more than the upper end
-abbrev pub Under : ℕ → ℕ → (ℕ → ℕ) → Type 0
-Under g lo f = f g < lo
+abbrev pub CountUnder : ℕ → ℕ → (ℕ → ℕ) → Type 0
+CountUnder g lo f = f g < lo
 
-abbrev pub Over : ℕ → Top → (ℕ → ℕ) → Type 0
-Over g hi f = Above (f g) hi
+abbrev pub CountOver : ℕ → Top → (ℕ → ℕ) → Type 0
+CountOver g hi f = Above (f g) hi
 
 -- the counts that numbers and marks in tables give
 abbrev pub counts : List ℕ → List ℕ → ℕ → ℕ
@@ -165,12 +165,16 @@ pub sized-narrow : {s u v : Sheet} {P Q : (ℕ → ℕ) → Type 0} {sizes marks
     → ((f : ℕ → ℕ) → Sizes s f → P f → Sizes v f) → Sized u Q sizes marks x → Sized s (λ f. P f × Q f) sizes marks x
 sized-narrow w n i o z =
     witnessed-as
-    (λ y. let f = y .0 in let c = i (f .may) _ _ (choice-same w (f .choice)) in (
+    (λ y. let f = y .0 .found in let c = i (y .0 .may) _ _ (choice-same w (f .choice)) in (
       record {
-        may = f .may;
-        choice = c .0;
-        top = f .top;
-        bits = λ g q. f .bits g (record { first = q .first; last = omega (arith, q .last, n) });
+        may = y .0 .may;
+        root = y .0 .root;
+        found = record {
+          choice = c .0;
+          top = f .top;
+          state = f .state;
+          bits = λ g q. f .bits g (record { first = q .first; last = omega (arith, q .last, n) });
+        };
       },
       (c .1, y .1),
     ))
@@ -198,8 +202,8 @@ end-smaller h k l =
     (λ o. rw (ne-eqb (min h k) noEnd n, ne-eqb h noEnd o))
 
 module _ (t : List ℕ) (n g : ℕ) (a : 1 ≤ g) (b : g ≤ n) (l : 4 * n ≤ length t) where
-  group-in : (u v : List ℕ) {h : ℕ} → Group (sheetIn u n) h → Group (sheetIn v n) h
-  group-in u v q = record { first = q .first; last = omega (arith, q .last, size-in u n, size-in v n) }
+  group-shared : (u v : List ℕ) {h : ℕ} → Group (sheetIn u n) h → Group (sheetIn v n) h
+  group-shared u v q = group-in v n (q .first) (omega (arith, q .last, size-in u n))
 
   -- a bound of g stored (lo is field 1 of its record, hi field 2): the sheet with other bounds
   stored : (j x : ℕ) (L : ℕ → ℕ) (H : ℕ → Top) → 1 ≤ j → j ≤ 2
@@ -208,7 +212,7 @@ module _ (t : List ℕ) (n g : ℕ) (a : 1 ≤ g) (b : g ≤ n) (l : 4 * n ≤ l
       → Same (sheetIn (set t (4 * (g - 1) + j) x) n) (rebound (sheetIn t n) L H)
   stored j x L H low high lo hi =
       let u : List ℕ = set t (4 * (g - 1) + j) x in
-      let back : (h : ℕ) → Group (sheetIn u n) h → Group (sheetIn t n) h = λ h q. group-in u t q in
+      let back : (h : ℕ) → Group (sheetIn u n) h → Group (sheetIn t n) h = λ h q. group-shared u t q in
       let mode : (h : ℕ) → getD u (4 * (h - 1) + 3) 0 ≡ getD t (4 * (h - 1) + 3) 0 =
       λ h. getD-set-other t (4 * (g - 1) + j) (4 * (h - 1) + 3) x 0 (λ e. omega arith) in
       record {
@@ -224,7 +228,7 @@ module _ (t : List ℕ) (n g : ℕ) (a : 1 ≤ g) (b : g ≤ n) (l : 4 * n ≤ l
       }
 
   here : Group (sheetIn t n) g
-  here = record { first = a; last = omega (arith, size-in t n) }
+  here = group-in t n a b
 
   pub same-hi : (k : ℕ) → k < noEnd
       → Same (sheetIn (set t (4 * (g - 1) + 2) (min (getD t (4 * (g - 1) + 2) 0) k)) n) (narrowHi (sheetIn t n) g k)
@@ -310,7 +314,7 @@ stored-back {u} t i j x y e o h k f d =
 
 -- fewer than lo: at most lo - 1, where lo is not 0
 pub sized-under : {s : Sheet} {sizes marks : List ℕ} {x : Bool} (g lo k : ℕ) → k + 1 ≡ lo → k < noEnd
-    → Sized s (Between g 0 (endOf k)) sizes marks x → Sized s (Under g lo) sizes marks x
+    → Sized s (Between g 0 (endOf k)) sizes marks x → Sized s (CountUnder g lo) sizes marks x
 unfolding endOf
 sized-under g lo k e l z =
     let n = ne-eqb k noEnd (λ i. omega arith) in
@@ -326,7 +330,7 @@ sized-never h = witnessed-no (λ y. h (y .0) (y .2))
 -- more than hi: at least hi + 1, where hi is an upper end
 pub sized-over : {s : Sheet} {sizes marks : List ℕ} {x : Bool} (g h : ℕ) → (h ≡ noEnd → ⊥)
     → Sized s (Between g (h + 1) (endOf noEnd)) sizes marks x
-    → Sized s (Over g (endOf h)) sizes marks x
+    → Sized s (CountOver g (endOf h)) sizes marks x
 unfolding endOf
 sized-over g h n z =
     witnessed-as
@@ -334,7 +338,7 @@ sized-over g h n z =
     (λ y. (y .0, y .1, (let q = rw (ne-eqb h noEnd n) at (y .2) in omega arith, tt)))
     z
 
-pub over-never : {s : Sheet} {sizes marks : List ℕ} (g h : ℕ) → h ≡ noEnd → Sized s (Over g (endOf h)) sizes marks false
+pub over-never : {s : Sheet} {sizes marks : List ℕ} (g h : ℕ) → h ≡ noEnd → Sized s (CountOver g (endOf h)) sizes marks false
 unfolding endOf
 over-never g h e = sized-never (λ f p. rw e at p)
 
@@ -352,18 +356,18 @@ empty-kept lo hi e = witnessed-no (λ w. let l = breakable-empty lo hi .0 w .1 i
 
 -- a count claim on a group: too few, then too many
 count-denied : {s : Sheet} {sizes marks : List ℕ} (g lo : ℕ) (hi : Top) → Tree s → Group s g → Fitting s sizes marks
-    → Under g lo (counts sizes marks) ⊎ Over g hi (counts sizes marks) → Denial s (counted g lo hi) sizes marks
+    → CountUnder g lo (counts sizes marks) ⊎ CountOver g hi (counts sizes marks) → Denial s (counted g lo hi) sizes marks
 count-denied {s} {sizes} g lo hi t q f w = record {
   fitting = f;
-  breaks = λ st h. shown-breaks-count t (f .choice) h _ g lo hi q (above-runs (s .size) st (numberIn sizes) g (q .last)) w;
+  breaks = λ st h. shown-breaks-count t (f .found .choice) h _ g lo hi q (above-runs (s .size) st (numberIn sizes) g (q .last)) w;
 }
 
 pub under-judged : {s : Sheet} {sizes marks : List ℕ} (g lo : ℕ) (hi : Top) → Tree s → Group s g
-    → Sized s (Under g lo) sizes marks true → Judged s (counted g lo hi) sizes marks true
+    → Sized s (CountUnder g lo) sizes marks true → Judged s (counted g lo hi) sizes marks true
 under-judged g lo hi t q z = let f = z .found refl in witnessed-yes (count-denied g lo hi t q (f .0) (inl (f .1)))
 
 pub over-judged : {s : Sheet} {sizes marks sizes' marks' : List ℕ} {x : Bool} (g lo : ℕ) (hi : Top) → Tree s → Group s g
-    → Sized s (Under g lo) sizes' marks' false → Sized s (Over g hi) sizes marks x → Judged s (counted g lo hi) sizes marks x
+    → Sized s (CountUnder g lo) sizes' marks' false → Sized s (CountOver g hi) sizes marks x → Judged s (counted g lo hi) sizes marks x
 over-judged {s} g lo hi t q y z = record {
   found = λ e. let f = z .found e in count-denied g lo hi t q (f .0) (inr (f .1));
   lacking = λ e w.

@@ -17,7 +17,7 @@ ghost use Rattle.meaning.specs.OfRecords.{endOf};
 ghost use Rattle.reading.specs.Meant.{meantNumber, Numbered};
 ghost use Rattle.reading.specs.SheetIn.{sheetIn};
 ghost use Rattle.choosing.specs.Chosen.{Asking};
-ghost use Rattle.claims.specs.Counts.{Sized, Any, Between, Under, Over};
+ghost use Rattle.claims.specs.Counts.{Sized, Any, Between, CountUnder, CountOver};
 ghost use Rattle.claims.specs.Judged.{Judged};
 
 // whether some sets fit: they have a place for a member of whom nothing is asked
@@ -64,7 +64,7 @@ fn under(
     marks: &mut [u8],
 ) -> bool
     requires { ⌜ Asking (now groups) size (now sizes) (now marks) × (1 ≤ g .0) × (g .0 ≤ size) ⌝ }
-    ensures { λ r. ⌜ Sized (sheetIn (now (groups .entry)) size) (Under (g .0) lo) (now (sizes .exit)) (now (marks .exit)) r ⌝ }
+    ensures { λ r. ⌜ Sized (sheetIn (now (groups .entry)) size) (CountUnder (g .0) lo) (now (sizes .exit)) (now (marks .exit)) r ⌝ }
     ensures { λ _. ⌜ now (groups .exit) ≡ now (groups .entry) ⌝ }
 {
     if lo == 0 {
@@ -83,7 +83,7 @@ fn over(
     marks: &mut [u8],
 ) -> bool
     requires { ⌜ Asking (now groups) size (now sizes) (now marks) × (1 ≤ g .0) × (g .0 ≤ size) ⌝ }
-    ensures { λ r. ⌜ Sized (sheetIn (now (groups .entry)) size) (Over (g .0) (endOf hi)) (now (sizes .exit)) (now
+    ensures { λ r. ⌜ Sized (sheetIn (now (groups .entry)) size) (CountOver (g .0) (endOf hi)) (now (sizes .exit)) (now
         (marks .exit)) r ⌝ }
     ensures { λ _. ⌜ now (groups .exit) ≡ now (groups .entry) ⌝ }
 {

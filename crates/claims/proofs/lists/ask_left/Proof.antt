@@ -8,7 +8,7 @@ use lib.ListN.{length, take}
 use Rattle.reading.specs.SheetIn.{sheetIn}
 use Rattle.claims.specs.Witnessed.{witnessed-no}
 use Rattle.claims.specs.Groups.{listed-group}
-use Rattle.claims.specs.Ways.{WayHad, right-none, right-more, right-found, inside-tried}
+use Rattle.claims.specs.Ways.{WayHad, right-way-none, right-way-more, right-way-found, inside-tried}
 use borrow.Author.Needs.{needs}
 use Rattle.claims.proofs.lists.ask_left.Statement.{statement}
 use Rattle.claims.proofs.lists.ask_left.Tie as tie
@@ -24,7 +24,7 @@ abbrev μ-loop : tie.MeasureT-loop
 loop-holds : tie.Need-loop-holds Inv-loop μ-loop
 loop-holds c =
     let s = c .before .before .before .before .before in
-    (omega arith, refl, refl, right-none (s .args .g .0 ∷ []) (s .args .right .now))
+    (omega arith, refl, refl, right-way-none (s .args .g .0 ∷ []) (s .args .right .now))
 
 group-at-requires : tie.Need-group-at-requires Inv-loop μ-loop
 group-at-requires c κs =
@@ -61,7 +61,7 @@ returns c =
     let at = c5 .before .before .before .before .before in
     let s = at .before .before .before .before .before .before in
     rw (at .before .if1 .taken)
-    (right-found (s .args .g .0 ∷ []) (s .args .right .now) (s .args .n) (at .loop .j) (omega arith) (s .pre .0 .1 .long)
+    (right-way-found (s .args .g .0 ∷ []) (s .args .right .now) (s .args .n) (at .loop .j) (omega arith) (s .pre .0 .1 .long)
     (rw h at (c5 .ask-both .ensures)) (c .if2 .taken))
 
 add-j : tie.Need-add-j Inv-loop μ-loop
@@ -80,7 +80,7 @@ loop-again c =
       omega arith,
       c5 .ask-both .kept .1 .1 .1 .1 .0 ∙ v .1,
       c5 .ask-both .kept .1 .1 .1 .1 .1 .0 ∙ v .2,
-      right-more (s .args .g .0 ∷ []) (s .args .right .now) (at .loop .j) (omega (arith, s .pre .0 .1 .long)) (v .3)
+      right-way-more (s .args .g .0 ∷ []) (s .args .right .now) (at .loop .j) (omega (arith, s .pre .0 .1 .long)) (v .3)
           (rw h at (c5 .ask-both .ensures)) (c .if2 .left),
     )
 
