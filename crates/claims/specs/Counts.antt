@@ -26,7 +26,7 @@ use Rattle.meaning.proofs.SonLaws.{son-of, son-is}
 use Rattle.sizes.specs.Runs.{above-runs}
 use Rattle.sizes.specs.Possible.{Sizes, nowhere, sizes-choice, possible}
 use Rattle.sizes.specs.ClaimsPlace.{isIn, placeIn, place}
-use Rattle.sizes.specs.ClaimsCount.{rebound, narrowHi, narrowLo, narrowHi-sizes, narrowLo-sizes, narrowHi-choice, narrowLo-choice}
+use Rattle.sizes.specs.ClaimsCount.{rebound, tree-rebound, narrowHi, narrowLo, narrowHi-sizes, narrowLo-sizes, narrowHi-choice, narrowLo-choice}
 use Rattle.sizes.specs.ClaimsMath.{Above, breakable-size, breakable-empty, empty-breaks, shown-breaks-count}
 use Rattle.runs.specs.Told.{numberIn}
 use Rattle.reading.specs.SheetIn.{Tabled}
@@ -181,10 +181,7 @@ sized-narrow w n i o z =
     (λ y. (y .0, sizes-same (same-turned w) (o (y .0) (y .1) (y .2 .0)), y .2 .1))
     z
 
--- bounds bear neither on the tree nor on its root
-tree-bound : (s : Sheet) (l : ℕ → ℕ) (h : ℕ → Top) → Tree s → Tree (rebound s l h)
-tree-bound s l h t = record { before = λ g q. t .before g (record { first = q .first; last = q .last }) }
-
+-- bounds do not bear on the root
 rooted-bound : (s : Sheet) (l : ℕ → ℕ) (h : ℕ → Top) → Rooted s → Rooted (rebound s l h)
 rooted-bound s l h t = record {
   one = record { first = t .one .first; last = t .one .last };
@@ -202,9 +199,6 @@ end-smaller h k l =
     (λ o. rw (ne-eqb (min h k) noEnd n, ne-eqb h noEnd o))
 
 module _ (t : List ℕ) (n g : ℕ) (a : 1 ≤ g) (b : g ≤ n) (l : 4 * n ≤ length t) where
-  group-shared : (u v : List ℕ) {h : ℕ} → Group (sheetIn u n) h → Group (sheetIn v n) h
-  group-shared u v q = group-in v n (q .first) (omega (arith, q .last, size-in u n))
-
   -- a bound of g stored (lo is field 1 of its record, hi field 2): the sheet with other bounds
   stored : (j x : ℕ) (L : ℕ → ℕ) (H : ℕ → Top) → 1 ≤ j → j ≤ 2
       → ((h : ℕ) → Group (sheetIn t n) h → getD (set t (4 * (g - 1) + j) x) (4 * (h - 1) + 1) 0 ≡ L h)
@@ -212,7 +206,8 @@ module _ (t : List ℕ) (n g : ℕ) (a : 1 ≤ g) (b : g ≤ n) (l : 4 * n ≤ l
       → Same (sheetIn (set t (4 * (g - 1) + j) x) n) (rebound (sheetIn t n) L H)
   stored j x L H low high lo hi =
       let u : List ℕ = set t (4 * (g - 1) + j) x in
-      let back : (h : ℕ) → Group (sheetIn u n) h → Group (sheetIn t n) h = λ h q. group-shared u t q in
+      let back : (h : ℕ) → Group (sheetIn u n) h → Group (sheetIn t n) h =
+      λ h q. group-in t n (q .first) (omega (arith, q .last, size-in u n)) in
       let mode : (h : ℕ) → getD u (4 * (h - 1) + 3) 0 ≡ getD t (4 * (h - 1) + 3) 0 =
       λ h. getD-set-other t (4 * (g - 1) + j) (4 * (h - 1) + 3) x 0 (λ e. omega arith) in
       record {
@@ -290,7 +285,7 @@ module _ (t : List ℕ) (n g : ℕ) (a : 1 ≤ g) (b : g ≤ n) (l : 4 * n ≤ l
         some = v .some;
         small = v .small;
         long = omega (arith, v .long, length-set t (4 * (g - 1) + j) x);
-        tree = tree-same w (tree-bound (sheetIn t n) L H (v .tree));
+        tree = tree-same w (tree-rebound (sheetIn t n) _ L _ H (v .tree));
         rooted = rooted-same w (rooted-bound (sheetIn t n) L H (v .rooted));
       })
 

@@ -125,12 +125,12 @@ module _ {s : Sheet} where
       let d : i ∷ j ∷ [] ≡ g ∷ h ∷ [] = cc in
       subst (λ l. PlaceHad s l []) d v
 
-  pub inside-tried : {g : ℕ} {r sizes marks : List ℕ} {x : Bool} → 1 ≤ g → PlaceJudged s (g ∷ []) r sizes marks x
-      → Tried s false (g ∷ []) r sizes marks x
-  inside-tried {g} {r} a w =
+  pub inside-tried : {g : ℕ} {r sizes marks : List ℕ} {b x : Bool} → b ≡ false → 1 ≤ g → PlaceJudged s (g ∷ []) r sizes marks x
+      → Tried s b (g ∷ []) r sizes marks x
+  inside-tried {g} {r} e a w =
       witnessed-as
-      (λ v. (g ∷ [], r, away (List·Memᴰ·head refl) a, v))
-      (λ v. inside-only refl (v .2) (v .3))
+      (λ v. (g ∷ [], r, rw e (away (List·Memᴰ·head refl) a), v))
+      (λ v. inside-only e (v .2) (v .3))
       w
 
   pub both-tried : {g h : ℕ} {sizes marks : List ℕ} {x : Bool} → 1 ≤ g → 1 ≤ h → PlaceJudged s (g ∷ h ∷ []) [] sizes marks x

@@ -110,9 +110,7 @@ same-length-6 : tie.Need-same-length-6 Inv-loop μ-loop
 same-length-6 c = search needs
 
 returns-3 : tie.Need-returns-3 Inv-loop μ-loop
-returns-3 c =
-    let c4 = c .before .before .before .before in
-    rw (c4 .before .before .before .before .if1 .left) (inside-tried (omega arith) (c4 .ask-place .ensures))
+returns-3 c = inside-tried (search needs) (omega arith) (c .before .before .before .before .ask-place .ensures)
 
 pub ask-left-spec : {M : Type 1} → statement M
 ask-left-spec =
