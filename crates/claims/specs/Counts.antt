@@ -11,10 +11,10 @@ use lib.ListN.{length, getD, set, length-set}
 use lib.Seq.{set-set, set-getD, getD-set-same, getD-set-other}
 use Rattle.wire.specs.Limits.{noEnd}
 use Rattle.laws.specs.Sum.{sum, bit}
-use Rattle.meaning.specs.Sheet.{Sheet, Group, Son, Top, fin, AtMost}
+use Rattle.meaning.specs.Sheet.{Sheet, Group, Son, Top, fin, AtMost, endOf}
 use Rattle.meaning.specs.Tree.{Tree}
 use Rattle.meaning.specs.Claim.{counted}
-use Rattle.meaning.specs.OfRecords.{endOf, disjointMode, coverMode, sameMode}
+use Rattle.reading.specs.Modes.{disjointMode, coverMode, sameMode}
 use Rattle.meaning.specs.Sons.{only}
 use Rattle.meaning.specs.Shown.{above}
 use Rattle.sizes.specs.Balanced.{isSon, sons, Balanced, Choice}
@@ -190,7 +190,7 @@ rooted-bound s l h t = record {
 }
 
 -- the smaller of an upper end and a number that is one
-end-smaller : (h k : ℕ) → k < noEnd → endOf (min h k) ≡ smaller (endOf h) (fin k)
+end-smaller : (h k : ℕ) → k < noEnd → endOf noEnd (min h k) ≡ smaller (endOf noEnd h) (fin k)
 unfolding endOf
 end-smaller h k l =
     let n : min h k ≡ noEnd → ⊥ = λ e. omega arith in
@@ -202,7 +202,7 @@ module _ (t : List ℕ) (n g : ℕ) (a : 1 ≤ g) (b : g ≤ n) (l : 4 * n ≤ l
   -- a bound of g stored (lo is field 1 of its record, hi field 2): the sheet with other bounds
   stored : (j x : ℕ) (L : ℕ → ℕ) (H : ℕ → Top) → 1 ≤ j → j ≤ 2
       → ((h : ℕ) → Group (sheetIn t n) h → getD (set t (4 * (g - 1) + j) x) (4 * (h - 1) + 1) 0 ≡ L h)
-      → ((h : ℕ) → Group (sheetIn t n) h → endOf (getD (set t (4 * (g - 1) + j) x) (4 * (h - 1) + 2) 0) ≡ H h)
+      → ((h : ℕ) → Group (sheetIn t n) h → endOf noEnd (getD (set t (4 * (g - 1) + j) x) (4 * (h - 1) + 2) 0) ≡ H h)
       → Same (sheetIn (set t (4 * (g - 1) + j) x) n) (rebound (sheetIn t n) L H)
   stored j x L H low high lo hi =
       let u : List ℕ = set t (4 * (g - 1) + j) x in
@@ -234,10 +234,10 @@ module _ (t : List ℕ) (n g : ℕ) (a : 1 ≤ g) (b : g ≤ n) (l : 4 * n ≤ l
       (λ h q. getD-set-other t i (4 * (h - 1) + 1) x 0 (λ e. omega arith) ∙ sym (lo-in t n h q))
       (λ h q. compare-eq h g
       (λ e. rw (e, eq-eqb g g refl)
-      (ap endOf (getD-set-same t i x 0 (omega arith)) ∙ end-smaller (getD t i 0) k o
+      (ap (endOf noEnd) (getD-set-same t i x 0 (omega arith)) ∙ end-smaller (getD t i 0) k o
       ∙ ap (λ z. smaller z (fin k)) (sym (hi-in t n g here))))
       (λ m. rw (ne-eqb h g m)
-      (ap endOf (getD-set-other t i (4 * (h - 1) + 2) x 0 (λ e. m (omega (arith, q .first)))) ∙ sym (hi-in t n h q))))
+      (ap (endOf noEnd) (getD-set-other t i (4 * (h - 1) + 2) x 0 (λ e. m (omega (arith, q .first)))) ∙ sym (hi-in t n h q))))
 
   pub same-lo : (k : ℕ)
       → Same (sheetIn (set t (4 * (g - 1) + 1) (max (getD t (4 * (g - 1) + 1) 0) k)) n) (narrowLo (sheetIn t n) g k)
@@ -249,7 +249,7 @@ module _ (t : List ℕ) (n g : ℕ) (a : 1 ≤ g) (b : g ≤ n) (l : 4 * n ≤ l
       (λ e. rw (e, eq-eqb g g refl) (getD-set-same t i x 0 (omega arith) ∙ ap (λ z. max z k) (sym (lo-in t n g here))))
       (λ m. rw (ne-eqb h g m)
       (getD-set-other t i (4 * (h - 1) + 1) x 0 (λ e. m (omega (arith, q .first))) ∙ sym (lo-in t n h q))))
-      (λ h q. ap endOf (getD-set-other t i (4 * (h - 1) + 2) x 0 (λ e. omega arith)) ∙ sym (hi-in t n h q))
+      (λ h q. ap (endOf noEnd) (getD-set-other t i (4 * (h - 1) + 2) x 0 (λ e. omega arith)) ∙ sym (hi-in t n h q))
 
   -- what the table with one bound narrowed says of the sheet
   least-sized : {Q : (ℕ → ℕ) → Type 0} {sizes marks : List ℕ} {x : Bool} (k : ℕ)
@@ -261,7 +261,7 @@ module _ (t : List ℕ) (n g : ℕ) (a : 1 ≤ g) (b : g ≤ n) (l : 4 * n ≤ l
 
   most-sized : {Q : (ℕ → ℕ) → Type 0} {sizes marks : List ℕ} {x : Bool} (k : ℕ) → getD t (4 * (g - 1) + 2) 0 ≤ noEnd
       → k ≤ noEnd → Sized (sheetIn (set t (4 * (g - 1) + 2) (min (getD t (4 * (g - 1) + 2) 0) k)) n) Q sizes marks x
-      → Sized (sheetIn t n) (λ f. AtMost (f g) (endOf k) × Q f) sizes marks x
+      → Sized (sheetIn t n) (λ f. AtMost (f g) (endOf noEnd k) × Q f) sizes marks x
   unfolding endOf
   most-sized k h o z =
       compare-eq k noEnd
@@ -278,7 +278,7 @@ module _ (t : List ℕ) (n g : ℕ) (a : 1 ≤ g) (b : g ≤ n) (l : 4 * n ≤ l
   tabled-stored j x low high e v =
       let u : List ℕ = set t (4 * (g - 1) + j) x in
       let L : ℕ → ℕ = λ h. getD u (4 * (h - 1) + 1) 0 in
-      let H : ℕ → Top = λ h. endOf (getD u (4 * (h - 1) + 2) 0) in
+      let H : ℕ → Top = λ h. endOf noEnd (getD u (4 * (h - 1) + 2) 0) in
       let w = same-turned (stored j x L H low high (λ h q. refl) (λ h q. refl)) in
       rw e
       (record {
@@ -294,7 +294,7 @@ pub between-sized : {u v sizes marks : List ℕ} {x : Bool} (t : List ℕ) (n g 
     → 4 * n ≤ length u
     → u ≡ set t (4 * (g - 1) + 1) (max (getD t (4 * (g - 1) + 1) 0) lo)
     → v ≡ set u (4 * (g - 1) + 2) (min (getD u (4 * (g - 1) + 2) 0) hi) → getD u (4 * (g - 1) + 2) 0 ≤ noEnd → hi ≤ noEnd
-    → Sized (sheetIn v n) Any sizes marks x → Sized (sheetIn t n) (Between g lo (endOf hi)) sizes marks x
+    → Sized (sheetIn v n) Any sizes marks x → Sized (sheetIn t n) (Between g lo (endOf noEnd hi)) sizes marks x
 between-sized {u} t n g lo hi a b l m e o h k z =
     witnessed-as
     (λ y. (y .0, (y .1 .0, y .1 .1 .0)))
@@ -309,7 +309,7 @@ stored-back {u} t i j x y e o h k f d =
 
 -- fewer than lo: at most lo - 1, where lo is not 0
 pub sized-under : {s : Sheet} {sizes marks : List ℕ} {x : Bool} (g lo k : ℕ) → k + 1 ≡ lo → k < noEnd
-    → Sized s (Between g 0 (endOf k)) sizes marks x → Sized s (CountUnder g lo) sizes marks x
+    → Sized s (Between g 0 (endOf noEnd k)) sizes marks x → Sized s (CountUnder g lo) sizes marks x
 unfolding endOf
 sized-under g lo k e l z =
     let n = ne-eqb k noEnd (λ i. omega arith) in
@@ -324,8 +324,8 @@ sized-never h = witnessed-no (λ y. h (y .0) (y .2))
 
 -- more than hi: at least hi + 1, where hi is an upper end
 pub sized-over : {s : Sheet} {sizes marks : List ℕ} {x : Bool} (g h : ℕ) → (h ≡ noEnd → ⊥)
-    → Sized s (Between g (h + 1) (endOf noEnd)) sizes marks x
-    → Sized s (CountOver g (endOf h)) sizes marks x
+    → Sized s (Between g (h + 1) (endOf noEnd noEnd)) sizes marks x
+    → Sized s (CountOver g (endOf noEnd h)) sizes marks x
 unfolding endOf
 sized-over g h n z =
     witnessed-as
@@ -333,7 +333,7 @@ sized-over g h n z =
     (λ y. (y .0, y .1, (let q = rw (ne-eqb h noEnd n) at (y .2) in omega arith, tt)))
     z
 
-pub over-never : {s : Sheet} {sizes marks : List ℕ} (g h : ℕ) → h ≡ noEnd → Sized s (CountOver g (endOf h)) sizes marks false
+pub over-never : {s : Sheet} {sizes marks : List ℕ} (g h : ℕ) → h ≡ noEnd → Sized s (CountOver g (endOf noEnd h)) sizes marks false
 unfolding endOf
 over-never g h e = sized-never (λ f p. rw e at p)
 

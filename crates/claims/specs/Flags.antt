@@ -6,7 +6,7 @@ use mathlib.Core.List.{List, [], _∷_, _++_}
 use native.Mathlib.Omega.{arith}
 use native.Mathlib.Numerals.{add-one}
 use borrow.Author.Tests.{eq-eqb, ne-eqb}
-use lib.ListN.{length, getD, set, take, length-set, replicate, getD-replicate}
+use lib.ListN.{length, getD, set, take, length-set}
 use lib.Seq.{take-suc}
 use lib.Dec.{eqb}
 use Rattle.wire.specs.Capacity.{groupCapacity}
@@ -14,7 +14,7 @@ use Rattle.laws.specs.Cases.{compare-eq}
 use Rattle.sizes.specs.ClaimsPlace.{isIn, placeIn}
 use Rattle.runs.specs.Told.{numberIn}
 use Rattle.measuring.specs.Held.{mayFlag}
-use Rattle.measuring.specs.Tables.{mayIn}
+use Rattle.measuring.specs.Tables.{mayIn, freeTable, free-flag}
 use Rattle.runs.specs.Told.{number-same, number-other}
 
 -- the flag without one of its two: to be in the group (true) or out of it (false)
@@ -98,18 +98,6 @@ barred-more {t} {d = d} l r x y = record {
 pub barred-next : {t u v : List ℕ} {d : Bool} (l : List ℕ) (i : ℕ) → i < length l → Barred t d (take i l) u
     → Barred u d (getD l i 0 ∷ []) v → Barred t d (take (i + 1) l) v
 barred-next l i h x y = rw (add-one, take-suc l i 0 h) (barred-more (take i l) (getD l i 0 ∷ []) x y)
-
--- the table of flags that forbids nothing
-abbrev pub freeTable : List ℕ
-freeTable = replicate groupCapacity 3
-
-pub free-flag : (g : ℕ) → 1 ≤ g → g ≤ groupCapacity → (c : Bool) → mayIn freeTable g c ≡ true
-free-flag g a l c =
-    may-number freeTable g c ∙ ap (λ x. mayFlag x c) (getD-replicate groupCapacity (g - 1) 3 0 (omega arith)) ∙ three c
-  where
-    three : (c : Bool) → mayFlag 3 c ≡ true
-    three true = refl
-    three false = refl
 
 -- The flags of a place: not out of the groups of one list, not in those of another.
 pub place-flags : {t u : List ℕ} (ins outs : List ℕ) → Barred freeTable false ins t → Barred t true outs u → (g : ℕ) → 1 ≤ g

@@ -21,8 +21,10 @@ use native.Mathlib.Omega.{arith}
 use lib.ListN.{length, take}
 use Rattle.wire.specs.Bytes.{u16At}
 use Rattle.wire.specs.SheetFormat.{NameRecord, ClaimRecord, count, inside, apart, u16s}
+use Rattle.wire.specs.Limits.{noEnd}
 use Rattle.meaning.specs.Claim.{Claim, counted, within, separate}
-use Rattle.meaning.specs.OfRecords.{endOf, nameGroup, claimed}
+use Rattle.meaning.specs.OfRecords.{nameGroup, claimed}
+use Rattle.meaning.specs.Sheet.{endOf}
 use Rattle.reading.specs.ClaimHeld.{leftNames, rightNames, claimRecord, ListsHeld, ClaimHeld}
 use Rattle.reading.specs.declared.claim.Lists.{Lists}
 use Rattle.reading.specs.declared.claim.Claim.{Claim as ClaimRead}
@@ -36,7 +38,7 @@ meanings names l = map (numberIn names) l
 
 -- what a claim record claims
 unfoldable pub claimMeant : List ℕ → ClaimRecord → Claim
-claimMeant names (count n lo hi) = counted (numberIn names n) lo (endOf hi)
+claimMeant names (count n lo hi) = counted (numberIn names n) lo (endOf noEnd hi)
 claimMeant names (inside l r) = within (meanings names l) (meanings names r)
 claimMeant names (apart l r) = separate (meanings names l) (meanings names r)
 

@@ -11,9 +11,9 @@ use reading::tables::set_hi;
 use reading::tables::set_lo;
 ghost use mathlib.Core.Path.{_≡_};
 ghost use Prim.Native.Nat.{_≤_};
-ghost use Rattle.meaning.specs.Sheet.{Top};
+ghost use Rattle.wire.specs.Limits.{noEnd};
+ghost use Rattle.meaning.specs.Sheet.{Top, endOf};
 ghost use Rattle.meaning.specs.Claim.{counted};
-ghost use Rattle.meaning.specs.OfRecords.{endOf};
 ghost use Rattle.reading.specs.Meant.{meantNumber, Numbered};
 ghost use Rattle.reading.specs.SheetIn.{sheetIn};
 ghost use Rattle.choosing.specs.Chosen.{Asking};
@@ -40,7 +40,7 @@ fn sets_between(
     marks: &mut [u8],
 ) -> bool
     requires { ⌜ Asking (now groups) size (now sizes) (now marks) × (1 ≤ g .0) × (g .0 ≤ size) ⌝ }
-    ensures { λ r. ⌜ Sized (sheetIn (now (groups .entry)) size) (Between (g .0) least (endOf most)) (now (sizes .exit)) (now
+    ensures { λ r. ⌜ Sized (sheetIn (now (groups .entry)) size) (Between (g .0) least (endOf noEnd most)) (now (sizes .exit)) (now
         (marks .exit)) r ⌝ }
     ensures { λ _. ⌜ now (groups .exit) ≡ now (groups .entry) ⌝ }
 {
@@ -83,7 +83,7 @@ fn over(
     marks: &mut [u8],
 ) -> bool
     requires { ⌜ Asking (now groups) size (now sizes) (now marks) × (1 ≤ g .0) × (g .0 ≤ size) ⌝ }
-    ensures { λ r. ⌜ Sized (sheetIn (now (groups .entry)) size) (CountOver (g .0) (endOf hi)) (now (sizes .exit)) (now
+    ensures { λ r. ⌜ Sized (sheetIn (now (groups .entry)) size) (CountOver (g .0) (endOf noEnd hi)) (now (sizes .exit)) (now
         (marks .exit)) r ⌝ }
     ensures { λ _. ⌜ now (groups .exit) ≡ now (groups .entry) ⌝ }
 {
@@ -104,7 +104,7 @@ fn judge_group(
     marks: &mut [u8],
 ) -> bool
     requires { ⌜ Asking (now groups) size (now sizes) (now marks) × (1 ≤ g .0) × (g .0 ≤ size) ⌝ }
-    ensures { λ r. ⌜ Judged (sheetIn (now (groups .entry)) size) (counted (g .0) lo (endOf hi)) (now (sizes .exit)) (now
+    ensures { λ r. ⌜ Judged (sheetIn (now (groups .entry)) size) (counted (g .0) lo (endOf noEnd hi)) (now (sizes .exit)) (now
         (marks .exit)) r ⌝ }
     ensures { λ _. ⌜ now (groups .exit) ≡ now (groups .entry) ⌝ }
 {
@@ -137,7 +137,7 @@ pub fn judge_count(
     marks: &mut [u8],
 ) -> bool
     requires { ⌜ Asking (now groups) size (now sizes) (now marks) × Numbered m × (meantNumber m ≤ size) ⌝ }
-    ensures { λ r. ⌜ Judged (sheetIn (now (groups .entry)) size) (counted (meantNumber m) lo (endOf hi)) (now (sizes .exit)) (now
+    ensures { λ r. ⌜ Judged (sheetIn (now (groups .entry)) size) (counted (meantNumber m) lo (endOf noEnd hi)) (now (sizes .exit)) (now
         (marks .exit)) r ⌝ }
     ensures { λ _. ⌜ now (groups .exit) ≡ now (groups .entry) ⌝ }
 {

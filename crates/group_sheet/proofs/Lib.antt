@@ -1,7 +1,4 @@
-pub mod ReplyLaws
-pub mod RangesLaws
-pub mod RegisterLaws
-pub mod ShownAlike
+pub mod TabledLaws
 pub mod ClaimLaws
 pub mod Alike
 pub mod Exits

@@ -8,12 +8,12 @@ use native.Mathlib.Omega.{arith}
 use borrow.Author.Tests.{eqb-true}
 use lib.Dec.{eqb}
 use lib.ListN.{length, drop}
-use Rattle.wire.specs.Limits.{noGreatest, rangeBytes, verdictBytes, answerBytes}
+use Rattle.wire.specs.Limits.{noGreatest, rangeBytes, verdictBytes, shownBytes, answerBytes}
 use Rattle.wire.specs.Record.{read}
 use Rattle.wire.specs.SheetFormat.{Records, readSheet}
 use Rattle.wire.specs.RegisterFormat.{Row, readRegister}
 use Rattle.wire.specs.Encoding.{Bytes}
-use Rattle.meaning.specs.Sheet.{Sheet, Group, Top, fin, inf}
+use Rattle.meaning.specs.Sheet.{Sheet, Group, Top, fin, inf, endOf}
 use Rattle.meaning.specs.Sets.{count}
 use Rattle.meaning.specs.Fits.{Possible}
 use Rattle.meaning.specs.Claim.{Claim, Breakable}
@@ -23,10 +23,10 @@ use Rattle.sizes.specs.ArrangedOnce.{ends-once}
 use Rattle.sizes.specs.Readable.{readable-possible-or-not, readable-breakable-or-not, readable-arrangement-once}
 use Rattle.registers.specs.Settled.{answered-once}
 use Rattle.claims.specs.declared.verdict.Verdict.{Verdict}
-use Rattle.group_sheet.specs.Reply.{call, packed, Replied}
-use Rattle.group_sheet.specs.RangesReply.{rangeAt, rangeLeast, rangeGreatest, runFirst, runCount, greatestOf, RangesIn, Ranges}
-use Rattle.group_sheet.specs.RegisterReply.{AnswerIn, Register}
-use Rattle.group_sheet.specs.ClaimReply.{denialBytes, shownAt, VerdictIn, DenialIn, ClaimVerdict}
+use Rattle.replies.specs.Reply.{call, packed, Replied, OnceSheet}
+use Rattle.range_reply.specs.RangesReply.{rangeAt, rangeLeast, rangeGreatest, runFirst, runCount, RangesIn, Ranges}
+use Rattle.register_reply.specs.RegisterReply.{AnswerIn, Register}
+use Rattle.claim_reply.specs.ClaimReply.{shownAt, VerdictIn, DenialIn, ClaimVerdict}
 use Rattle.group_sheet.proofs.Alike.{Alike, alike-then, alike-many, u16-alike, u32-alike}
 use Rattle.group_sheet.proofs.Exits.{once-read, once-possible, once-numbered, once-room, replied-alike}
 
@@ -36,8 +36,8 @@ numberOf : Top → ℕ
 numberOf (fin n) = n
 numberOf inf = noGreatest
 
-number-greatest : (n : ℕ) → numberOf (greatestOf n) ≡ n
-unfolding numberOf greatestOf
+number-greatest : (n : ℕ) → numberOf (endOf noGreatest n) ≡ n
+unfolding numberOf endOf
 number-greatest n = split (eqb n noGreatest) (λ e. rw e (sym (eqb-true n noGreatest e))) (λ e. rw e)
 
 -- the record of a group, from its range and its run
@@ -45,8 +45,8 @@ module _ (s : Sheet) {out out' : List ℕ} (x : Bytes out) (y : Bytes out') (v :
   range-once : Possible s → (g : ℕ) → Group s g
       → (rangeLeast out g ≡ rangeLeast out' g) × (rangeGreatest out g ≡ rangeGreatest out' g)
   range-once p g q =
-      let e = ends-once (rangeLeast out g) (rangeLeast out' g) (greatestOf (rangeGreatest out g))
-      (greatestOf (rangeGreatest out' g)) (v .range g q) (w .range g q) (count (p .0) g) (p .0, p .1, refl) in
+      let e = ends-once (rangeLeast out g) (rangeLeast out' g) (endOf noGreatest (rangeGreatest out g))
+      (endOf noGreatest (rangeGreatest out' g)) (v .range g q) (w .range g q) (count (p .0) g) (p .0, p .1, refl) in
       (e .0, sym (number-greatest (rangeGreatest out g)) ∙ ap numberOf (e .1) ∙ number-greatest (rangeGreatest out' g))
 
   ranges-alike : Possible s → ((g : ℕ) → Group s g → (runFirst out g ≡ runFirst out' g) × (runCount out g ≡ runCount out' g))
@@ -70,8 +70,8 @@ module _ (s : Sheet) {out out' : List ℕ} (x : Bytes out) (y : Bytes out') (v :
 
 -- Two exits of `sheet_ranges` that meet its contract for the same sheet and the same buffer at entry are the same: the number
 -- returned and every byte.
-pub ranges-settled : (sheet : List ℕ) {before after after' : List ℕ} {r r' : ℕ} → Ranges sheet (call before r after)
-    → Ranges sheet (call before r' after') → Bytes after → Bytes after' → (r ≡ r') × (after ≡ after')
+pub ranges-settled : (sheet : List ℕ) {before after after' : List ℕ} {r r' : ℕ} → OnceSheet sheet (λ d. Ranges (sheetOf (d .groups))) (call before r after)
+    → OnceSheet sheet (λ d. Ranges (sheetOf (d .groups))) (call before r' after') → Bytes after → Bytes after' → (r ≡ r') × (after ≡ after')
 ranges-settled sheet v w x y =
     once-read (λ z. z) (readSheet sheet) v w
     (λ d e v w. once-possible (λ z. z) (readable-possible-or-not sheet d e) v w
@@ -93,7 +93,8 @@ answer-alike {s} {rows} x y v w =
 -- Two exits of `sheet_register` that meet its contract for the same sheet, register and buffer at entry are the same: the
 -- number returned and every byte.
 pub register-settled : (sheet register : List ℕ) {before after after' : List ℕ} {r r' : ℕ}
-    → Register sheet register (call before r after) → Register sheet register (call before r' after')
+    → OnceSheet sheet (λ d. Register register (d .edition) (sheetOf (d .groups))) (call before r after)
+    → OnceSheet sheet (λ d. Register register (d .edition) (sheetOf (d .groups))) (call before r' after')
     → Bytes after → Bytes after' → (r ≡ r') × (after ≡ after')
 register-settled sheet register v w x y =
     once-read (λ z. z) (readSheet sheet) v w
@@ -109,6 +110,10 @@ verdict-alike x y v w =
     (u16-alike x y 0 (v .sized) (w .sized))
     (u16-alike x y 2 (v .kind) (w .kind)))
     (u16-alike x y 4 (v .verdict) (w .verdict))
+
+-- bytes of a denial that shows sets of n groups
+abbrev pub denialBytes : ℕ → ℕ
+denialBytes n = verdictBytes + shownBytes * n
 
 -- Two buffers with denials under s are the same but for the sets. Open are the ten bytes of each group's record that hold its
 -- run and its mark.
@@ -141,8 +146,8 @@ denials-alike x y a b v w = record {
 
 -- Two exits of `sheet_claim` that meet its contract for the same sheet, claim number and buffer at entry return the same number,
 -- and every byte is the same, unless the claim is denied: then every byte but those of the sets.
-pub claim-settled : (sheet : List ℕ) (k : ℕ) {before after after' : List ℕ} {r r' : ℕ} → ClaimVerdict sheet k (call before r after)
-    → ClaimVerdict sheet k (call before r' after') → Bytes after → Bytes after'
+pub claim-settled : (sheet : List ℕ) (k : ℕ) {before after after' : List ℕ} {r r' : ℕ} → OnceSheet sheet (ClaimVerdict k) (call before r after)
+    → OnceSheet sheet (ClaimVerdict k) (call before r' after') → Bytes after → Bytes after'
     → (r ≡ r') × ((after ≡ after') ⊎ DeniedAlike sheet k r after after')
 claim-settled sheet k {after} {after'} {r} {r'} v w x y =
     let same : (r ≡ r') × (after ≡ after') → (r ≡ r') × ((after ≡ after') ⊎ DeniedAlike sheet k r after after') = λ z. (z .0, inl (z .1)) in

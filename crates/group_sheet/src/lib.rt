@@ -2,7 +2,5 @@
 // `specs/` writes each operation down: return value and every byte of the reply, for every input.
 // Document 01, "What it reads and gives" and "Replies".
 pub mod claim;
-pub mod fitting;
-pub mod pairs;
 pub mod ranges;
 pub mod register;

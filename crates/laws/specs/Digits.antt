@@ -10,13 +10,10 @@ use lib.Arith.{lt-one}
 use lib.Pow.{pow-lt, shr-shr, shr-lt, shr-le}
 use lib.Bits.{bitAnd, bitOr, and-step, or-step, and-self, block-half, block-odd}
 use lib.Count.{ones, ones-step, trailingZeros}
+unfoldable pub use Rattle.laws.specs.Digit.{digit}
 use Rattle.laws.specs.Sum.{sum, bit}
 use Rattle.laws.specs.Cases.{compare-le, compare-eq}
 use Rattle.laws.specs.SumLaws.{sum-eq, sum-zero, sum-first}
-
--- digit k of a word, the lowest being digit 0
-unfoldable pub digit : ℕ → ℕ → ℕ
-digit w k = w / 2 ^ k % 2
 
 pub digit-zero : (w : ℕ) → digit w 0 ≡ w % 2
 unfolding digit

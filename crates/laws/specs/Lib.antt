@@ -1,4 +1,5 @@
 pub mod Sum
 pub mod Cases
 pub mod SumLaws
+pub mod Digit
 pub mod Digits

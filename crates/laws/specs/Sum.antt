@@ -1,11 +1,10 @@
 -- Sums over the numbers below a bound, and a test as a number: what "count" is made of (document 01, "Meaning").
 use Prim.Native.Nat.{ℕ, zero, suc, _+_}
-use mathlib.Core.Bool.{Bool, true, false}
+use mathlib.Core.Bool.{Bool, cond}
 
 -- 1 for true, 0 for false
 abbrev pub bit : Bool → ℕ
-bit true = 1
-bit false = 0
+bit b = cond b 1 0
 
 -- f 0 + f 1 + .. + f (n - 1)
 unfoldable pub sum : (ℕ → ℕ) → ℕ → ℕ

@@ -10,14 +10,15 @@ use lib.Dec.{leb, ltb, eqb}
 use Rattle.wire.specs.SheetFormat.{GroupRecord, NameRecord, count, inside, apart}
 use Rattle.laws.specs.Sum.{sum, bit}
 use native.Mathlib.Nat.{le-of-eq}
+use Rattle.laws.specs.Digit.{digit}
 use Rattle.laws.specs.Cases.{split, not-true-false, true-not-false, or-true, or-left}
 use Rattle.laws.specs.SumLaws.{bit-le, bit-le-true, bit-most, true-bit, sum-le, sum-eq, sum-add, sum-zero, sum-tight}
-use Rattle.meaning.specs.Sheet.{Sheet, Group, Son, Top, fin, inf, AtMost}
+use Rattle.meaning.specs.Sheet.{Sheet, Group, Son, Top, fin, inf, AtMost, endOf}
 use Rattle.meaning.specs.Sets.{Sets, numbered}
 use Rattle.meaning.specs.Sets as sets
 use Rattle.meaning.specs.Fits.{Meets, Fits, Possible, Attains, groupsOf}
 use Rattle.meaning.specs.Claim.{Claim, Breakable, countNamed}
-use Rattle.meaning.specs.OfRecords.{sheetOf, claimed, endOf}
+use Rattle.meaning.specs.OfRecords.{sheetOf, claimed}
 
 -- a group record: parent, lo, hi, mode
 abbrev group : ℕ → ℕ → ℕ → ℕ → GroupRecord
@@ -175,7 +176,7 @@ pair-sons : (h p g : ℕ) → Son (pair h) p g → (p ≡ 1) × ((g ≡ 2) ⊎ (
 pair-sons h = three (pair h) refl refl refl refl
 
 no-pair : Possible (pair 3) → ⊥
-unfolding endOf
+unfolding endOf digit
 no-pair w =
     omega (
       arith,
@@ -186,7 +187,7 @@ no-pair w =
     )
 
 some-pair : Possible (pair 4)
-unfolding overlap endOf sets.count sum
+unfolding overlap endOf sets.count sum digit
 some-pair = (
   overlap 4 2 2,
   record {
@@ -213,6 +214,7 @@ some-pair = (
 
 -- a 'cover' group without sons has nobody
 bare : (l : ℕ) (A : Sets ℕ) → Fits (leaf l) A → sets.count A 1 ≡ 0
+unfolding digit
 bare l A w =
     nobody w 1
     (λ M m. not-true-false (M 1)
@@ -224,6 +226,7 @@ leaf-sets = empty-fits (leaf 0) (each-two (λ g. leaf 0 .lo g ≡ 0) (leaf 0) (o
 
 -- 'same' with 'disjoint' over two sons leaves nobody in any of the three
 twins-nobody : (A : Sets ℕ) → Fits twins A → (g : ℕ) → Group twins g → sets.count A g ≡ 0
+unfolding digit
 twins-nobody A w =
     let root : (M : ℕ → Bool) → Meets twins M → M 1 ≡ false =
     λ M m. not-true-false (M 1)
@@ -256,7 +259,7 @@ everybody-fits s n no-cover one-son bounds = record {
 
 -- everybody in both groups
 single-sets : (k : ℕ) → Fits single (everybody k)
-unfolding endOf
+unfolding endOf digit
 single-sets k =
     everybody-fits single k (each-two (λ p. single .cover p ≡ true → ⊥) single (omega arith) false≢true false≢true)
     (λ p g h a b e. only-son g h (a .group) (b .group) (omega (arith, a .above, a .under)) (omega (arith, b .above, b .under)))
@@ -268,7 +271,7 @@ single-sets k =
         (λ c. each-two (λ h. 1 ≤ single .parent h → 2 ≡ h) single (omega arith) (λ d. absurd (omega arith)) (λ d. refl) h b) g a
 
 forced-sets : Fits forced (everybody 5)
-unfolding endOf
+unfolding endOf digit
 forced-sets =
     everybody-fits forced 5 (each (λ p. forced .cover p ≡ true → ⊥) forced refl false≢true false≢true false≢true)
     (λ p g h a b e. absurd (false≢true (rw (three forced refl refl refl refl p g a .0) at e)))
@@ -290,7 +293,7 @@ shared-sons l = three (shared l) refl refl refl refl
 
 -- the counts leave no room for a member in both sons
 shared-nobody : (A : Sets ℕ) → Fits (shared 5) A → (i : ℕ) → i < A .bound → groupsOf A i 2 ≡ true → groupsOf A i 3 ≡ true → ⊥
-unfolding endOf sets.count
+unfolding endOf sets.count digit
 shared-nobody A w i l x y =
     let e : bit (groupsOf A i 1) ≡ bit (groupsOf A i 2) + bit (groupsOf A i 3) =
     sum-tight (λ i. bit (groupsOf A i 1)) (λ i. bit (groupsOf A i 2) + bit (groupsOf A i 3)) (A .bound)
@@ -307,7 +310,7 @@ shared-nobody A w i l x y =
 -- sets of l members, 3 of them in the first son, those from b on in the second
 shared-sets : (l b : ℕ) → b ≤ 3 → ((g : ℕ) → Group (shared l) g → shared l .lo g ≤ sets.count (overlap l 3 b) g)
     → ((g : ℕ) → Group (shared l) g → AtMost (sets.count (overlap l 3 b) g) (shared l .hi g)) → Fits (shared l) (overlap l 3 b)
-unfolding overlap
+unfolding overlap digit
 shared-sets l b h least most = record {
   distinct = record { once = λ i j k l e. e };
   rules = λ i k. record {
@@ -326,21 +329,21 @@ shared-sets l b h least most = record {
 }
 
 shared-four-sets : Fits (shared 4) (overlap 4 3 2)
-unfolding overlap endOf sets.count sum
+unfolding overlap endOf sets.count sum digit
 shared-four-sets =
     shared-sets 4 2 (omega arith)
     (each (λ g. shared 4 .lo g ≤ sets.count (overlap 4 3 2) g) (shared 4) refl (omega arith) (omega arith) (omega arith))
     (each (λ g. AtMost (sets.count (overlap 4 3 2) g) (shared 4 .hi g)) (shared 4) refl tt (omega arith) (omega arith))
 
 shared-five-sets : Fits (shared 5) (overlap 5 3 3)
-unfolding overlap endOf sets.count sum
+unfolding overlap endOf sets.count sum digit
 shared-five-sets =
     shared-sets 5 3 (omega arith)
     (each (λ g. shared 5 .lo g ≤ sets.count (overlap 5 3 3) g) (shared 5) refl (omega arith) (omega arith) (omega arith))
     (each (λ g. AtMost (sets.count (overlap 5 3 3) g) (shared 5 .hi g)) (shared 5) refl tt (omega arith) (omega arith))
 
 endless-sets : (n : ℕ) → Fits endless (everybody n)
-unfolding endOf
+unfolding endOf digit
 endless-sets n =
     everybody-fits endless n (each-two (λ p. endless .cover p ≡ true → ⊥) endless (omega arith) false≢true false≢true)
     (λ p g h a b e. omega (arith, a .group, b .group))
@@ -353,7 +356,7 @@ count-named A g = refl
 
 -- the member that both sons share
 shared-break : Breakable (shared 4) (claimed names (apart (2 ∷ []) (3 ∷ [])))
-unfolding claimed overlap
+unfolding claimed overlap digit
 shared-break = (overlap 4 3 2, shared-four-sets, λ says. says 2 (omega arith) refl refl)
 
 -- one name alone
@@ -361,7 +364,7 @@ alone : (b : Bool) → (b || false) ≡ true → b ≡ true
 alone b e = or-true b false e (λ x. x) (λ x. absurd (false≢true x))
 
 pub worked : Worked
-unfolding claimed endOf
+unfolding claimed endOf digit
 worked = record {
   pair-three = no-pair;
   pair-four = some-pair;

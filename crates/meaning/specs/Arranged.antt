@@ -6,7 +6,7 @@ use mathlib.Core.Bool.{cond, _&&_}
 use lib.Dec.{ltb}
 use Rattle.laws.specs.Sum.{sum}
 use Rattle.meaning.specs.Sheet.{Sheet, Son, Top, fin, inf}
-use Rattle.meaning.specs.Sons.{isSon, only, sons, sonCount}
+use Rattle.meaning.specs.Sons.{isSon, only, sons}
 use Rattle.meaning.specs.Part.{BottomUp}
 
 -- the smaller of an upper end and a number
@@ -23,7 +23,7 @@ leftFor s L size p g = size p - (sum (only s p size) g + (sons s p L - sum (only
 -- greatest and the parent's count; otherwise its least.
 unfoldable pub sizeOf : Sheet → (ℕ → ℕ) → (ℕ → Top) → (ℕ → ℕ) → ℕ → ℕ → ℕ
 sizeOf s L U size p g =
-    cond (s .same p) (cond (s .disjoint p && ltb 1 (sonCount s p)) 0 (size p))
+    cond (s .same p) (cond (s .disjoint p && ltb 1 (sons s p (λ h. 1))) 0 (size p))
     (cond (s .cover p) (cond (s .disjoint p) (cap (U g) (leftFor s L size p g)) (cap (U g) (size p))) (L g))
 
 -- where the last son of p before number n ended, where p starts if there is none

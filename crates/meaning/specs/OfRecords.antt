@@ -1,44 +1,32 @@
 -- What records mean: the sheet of its group records, the claim of a claim record, the sets that a register lists.
 -- Document 01, "Records of a sheet", "Meaning" and "Registers".
-use Prim.Native.Nat.{ℕ, _-_, _/_, _%_}
-use mathlib.Core.Bool.{Bool, false, cond, _&&_, _||_}
+use Prim.Native.Nat.{ℕ, _-_}
+use mathlib.Core.Bool.{Bool, false, _&&_, _||_}
 use mathlib.Core.List.{List, [], _∷_, map}
 use lib.ListN.{length, getD}
 use lib.Dec.{eqb}
+use Rattle.laws.specs.Digit.{digit}
 use Rattle.wire.specs.Limits.{noEnd}
 use Rattle.wire.specs.SheetFormat.{GroupRecord, NameRecord, ClaimRecord, count, inside, apart, Records}
 use Rattle.wire.specs.RegisterFormat.{Row, inGroup}
-use Rattle.meaning.specs.Sheet.{Sheet, Top, fin, inf}
+use Rattle.meaning.specs.Sheet.{Sheet, endOf}
 use Rattle.meaning.specs.Sets.{Sets}
 use Rattle.meaning.specs.Claim.{Claim, counted, within, separate}
-
--- "hi is 0 to 65,534, or 65,535 for no upper end"
-unfoldable pub endOf : ℕ → Top
-endOf h = cond (eqb h noEnd) inf (fin h)
-
--- "Mode is a sum of 1 (disjoint), 2 (cover), 4 (same)"
-abbrev pub disjointMode : ℕ → Bool
-disjointMode m = eqb (m % 2) 1
-
-abbrev pub coverMode : ℕ → Bool
-coverMode m = eqb (m / 2 % 2) 1
-
-abbrev pub sameMode : ℕ → Bool
-sameMode m = eqb (m / 4 % 2) 1
 
 -- the record of group g, the groups being numbered from 1
 abbrev pub groupAt : List GroupRecord → ℕ → GroupRecord
 groupAt gs g = getD gs (g - 1) (record { parent = 0; lo = 0; hi = 0; mode = 0 })
 
+-- "hi is 0 to 65,534, or 65,535 for no upper end"; "mode is a sum of 1 (disjoint), 2 (cover), 4 (same)"
 abbrev pub sheetOf : List GroupRecord → Sheet
 sheetOf gs = record {
   size = length gs;
   parent = λ g. groupAt gs g .parent;
   lo = λ g. groupAt gs g .lo;
-  hi = λ g. endOf (groupAt gs g .hi);
-  disjoint = λ g. disjointMode (groupAt gs g .mode);
-  cover = λ g. coverMode (groupAt gs g .mode);
-  same = λ g. sameMode (groupAt gs g .mode);
+  hi = λ g. endOf noEnd (groupAt gs g .hi);
+  disjoint = λ g. eqb (digit (groupAt gs g .mode) 0) 1;
+  cover = λ g. eqb (digit (groupAt gs g .mode) 1) 1;
+  same = λ g. eqb (digit (groupAt gs g .mode) 2) 1;
 }
 
 -- the group that name n means, 0 for the empty set; names are numbered from 1
@@ -47,7 +35,7 @@ nameGroup ns n = getD ns (n - 1) (record { group = 0; label = [] }) .group
 
 -- what a claim record claims, its names replaced by what they mean
 unfoldable pub claimed : List NameRecord → ClaimRecord → Claim
-claimed ns (count n lo hi) = counted (nameGroup ns n) lo (endOf hi)
+claimed ns (count n lo hi) = counted (nameGroup ns n) lo (endOf noEnd hi)
 claimed ns (inside l r) = within (map (nameGroup ns) l) (map (nameGroup ns) r)
 claimed ns (apart l r) = separate (map (nameGroup ns) l) (map (nameGroup ns) r)
 
@@ -60,14 +48,10 @@ unfoldable pub listed : List Row → ℕ → ℕ → Bool
 listed [] g x = false
 listed (r ∷ rs) g x = eqb (r .member) x && inGroup r g || listed rs g x
 
--- past the last row
-abbrev pub noRow : Row
-noRow = record { member = 0; bits = [] }
-
 -- the sets that a register lists: one member for each row
 abbrev pub listedSets : List Row → Sets ℕ
 listedSets rs = record {
   bound = length rs;
-  who = λ i. getD rs i noRow .member;
+  who = λ i. getD rs i (record { member = 0; bits = [] }) .member;
   has = listed rs;
 }

@@ -12,21 +12,19 @@ unfoldable pub under : Sheet → ℕ → ℕ → ℕ → Bool
 under s g zero h = eqb h g
 under s g (suc n) h = eqb h g || under s g n (s .parent h)
 
--- h is at or below g
-abbrev pub inPart : Sheet → ℕ → ℕ → Bool
-inPart s g h = under s g (s .size) h
-
 -- The sheet of the part at g: g has no parent, and only the groups at or below g keep their bounds and modes.
 unfoldable pub partAt : Sheet → ℕ → Sheet
-partAt s g = record {
-  size = s .size;
-  parent = λ h. cond (eqb h g) 0 (s .parent h);
-  lo = λ h. cond (inPart s g h) (s .lo h) 0;
-  hi = λ h. cond (inPart s g h) (s .hi h) inf;
-  disjoint = λ h. inPart s g h && s .disjoint h;
-  cover = λ h. inPart s g h && s .cover h;
-  same = λ h. inPart s g h && s .same h;
-}
+partAt s g =
+    let kept : ℕ → Bool = under s g (s .size) in
+    record {
+      size = s .size;
+      parent = λ h. cond (eqb h g) 0 (s .parent h);
+      lo = λ h. cond (kept h) (s .lo h) 0;
+      hi = λ h. cond (kept h) (s .hi h) inf;
+      disjoint = λ h. kept h && s .disjoint h;
+      cover = λ h. kept h && s .cover h;
+      same = λ h. kept h && s .same h;
+    }
 
 -- L g and U g are the least and the greatest count of g over the sets that fit the part at g, and every count between is had
 pub record BottomUp (s : Sheet) (L : ℕ → ℕ) (U : ℕ → Top) : Type 0 where

@@ -15,7 +15,11 @@ use Rattle.wire.specs.Encoding.{Each, RowRight}
 use Rattle.wire.specs.RowFacts.{members-rise}
 use Rattle.wire.specs.RoundTripRegister.{register-read}
 use Rattle.meaning.specs.Sets.{Distinct}
-use Rattle.meaning.specs.OfRecords.{listed, noRow, listedSets}
+use Rattle.meaning.specs.OfRecords.{listed, listedSets}
+
+-- what stands past the last row
+abbrev pub noRow : Row
+noRow = record { member = 0; bits = [] }
 
 pub distinct-of-right : {e : Edition} {groups : ℕ} {rs : List Row} → Each (RowRight e groups) [] rs → Distinct (listedSets rs)
 distinct-of-right {rs} right =

@@ -1,7 +1,8 @@
 -- A sheet as mathematics: groups 1 to `size`, each with a parent, bounds and modes (document 01, "Records of a sheet").
 use Prim.Native.Nat.{ℕ, _≤_}
 use mathlib.Core.Path.{_≡_}
-use mathlib.Core.Bool.{Bool}
+use mathlib.Core.Bool.{Bool, cond}
+use lib.Dec.{eqb}
 
 -- an upper end: a number, or none
 pub data Top : Type 0 where
@@ -12,6 +13,10 @@ pub data Top : Type 0 where
 abbrev pub AtMost : ℕ → Top → Type 0
 AtMost n (fin k) = n ≤ k
 AtMost n inf = Unit {0}
+
+-- the upper end that n stands for, where the number `none` stands for no end
+unfoldable pub endOf : ℕ → ℕ → Top
+endOf none n = cond (eqb n none) inf (fin n)
 
 pub record Sheet : Type 0 where
   pub size : ℕ

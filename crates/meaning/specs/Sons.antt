@@ -1,9 +1,9 @@
--- The sons of a group, in number order: a test, sums over them, and how many there are. Document 01, "A son is a group
--- whose parent this is" ("Meaning") and "Sons in number order" ("The arrangement").
+-- The sons of a group, in number order: a test, and sums over them. Document 01, "A son is a group whose parent this is"
+-- ("Meaning") and "Sons in number order" ("The arrangement").
 use Prim.Native.Nat.{ℕ, suc}
 use mathlib.Core.Bool.{Bool, cond, _&&_}
 use lib.Dec.{ltb, eqb}
-use Rattle.laws.specs.Sum.{sum, bit}
+use Rattle.laws.specs.Sum.{sum}
 use Rattle.meaning.specs.Sheet.{Sheet}
 
 -- `Son` as a test, for g at most the size
@@ -17,7 +17,3 @@ only s p f g = cond (isSon s p g) (f g) 0
 -- the sum of f over the sons of p
 unfoldable pub sons : Sheet → ℕ → (ℕ → ℕ) → ℕ
 sons s p f = sum (only s p f) (suc (s .size))
-
--- how many sons p has
-unfoldable pub sonCount : Sheet → ℕ → ℕ
-sonCount s p = sum (λ g. bit (isSon s p g)) (suc (s .size))

@@ -8,14 +8,13 @@ use borrow.Author.Tests.{eq-eqb, ne-eqb, lt-ltb}
 use lib.Dec.{ltb, eqb}
 use lib.ListN.{getD}
 use Rattle.wire.specs.Limits.{noEnd}
-use Rattle.meaning.specs.Sheet.{Sheet, Group, Son}
+use Rattle.meaning.specs.Sheet.{Sheet, Group, Son, endOf}
 use Rattle.meaning.specs.Tree.{Tree, Rooted}
-use Rattle.meaning.specs.OfRecords.{endOf, disjointMode, coverMode, sameMode}
-use Rattle.meaning.specs.Sons.{sonCount}
+use Rattle.reading.specs.Modes.{disjointMode, coverMode, sameMode}
 use Rattle.reading.specs.Tables.{groupFields, groupIn}
 use Rattle.reading.specs.SheetIn.{sheetIn, Tabled, size-in, few-groups, lo-in, hi-in, disjoint-in, cover-in, same-in}
 use Rattle.sizes.specs.Span.{Span, Kind, meet}
-use Rattle.sizes.specs.Fold.{kindOf, shut, start, joined, later, own, Measured}
+use Rattle.sizes.specs.Fold.{kindOf, sonCount, shut, start, joined, later, own, Measured}
 use Rattle.sizes.specs.Bounds.{topWeight, Small, span-small, later-small}
 use Rattle.sizes.specs.MeasuredLaws.{spans-measured}
 use Rattle.laws.specs.Cases.{compare-eq, compare-le, true-not-false}
@@ -185,7 +184,7 @@ small-in t n f =
       hi = λ g k. rw (hi-in t n g k) (field (groupIn t (g - 1) .hi) (f (groupFields * (g - 1) + 2)));
     }
   where
-    field : (h : ℕ) → h ≤ noEnd → topWeight (endOf h) ≤ noEnd
+    field : (h : ℕ) → h ≤ noEnd → topWeight (endOf noEnd h) ≤ noEnd
     field h l = compare-eq h noEnd (λ e. rw e (unfold endOf in omega arith)) (λ e. unfold endOf in rw (ne-eqb h noEnd e) l)
 
 -- so there is room for every sum

@@ -5,7 +5,7 @@ use mathlib.Core.Bool.{Bool, true, false, cond}
 use lib.Dec.{leb, eqb}
 use Rattle.wire.specs.Limits.{noGreatest}
 use Rattle.meaning.specs.Sheet.{Top, fin, inf}
-use Rattle.meaning.specs.OfRecords.{disjointMode, coverMode, sameMode}
+use Rattle.reading.specs.Modes.{disjointMode, coverMode, sameMode}
 use Rattle.reading.specs.SheetIn.{sizeLimit}
 use Rattle.sizes.specs.Span.{Span, none, span, Kind, lap, add, eq}
 use Rattle.sizes.specs.Bounds.{weight}

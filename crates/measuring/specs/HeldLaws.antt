@@ -5,8 +5,7 @@ use mathlib.Core.Bool.{Bool, true, false}
 use native.Mathlib.Omega.{arith}
 use borrow.Author.Tests.{le-leb, lt-leb, lt-ltb, ne-eqb}
 use Rattle.wire.specs.Limits.{noEnd}
-use Rattle.meaning.specs.Sheet.{Top, fin, inf}
-use Rattle.meaning.specs.OfRecords.{endOf}
+use Rattle.meaning.specs.Sheet.{Top, fin, inf, endOf}
 use Rattle.meaning.specs.Arranged.{cap}
 use Rattle.reading.specs.SheetIn.{sizeLimit}
 use Rattle.sizes.specs.Span.{Span, none, span, plus, less, smaller, larger, make, meet, hull, Kind, lap, add, eq, join}
@@ -136,7 +135,7 @@ both f h a b false = a
 both f h a b true = b
 
 -- a bound of a record as an upper end
-pub end-fin : {h : ℕ} → (h ≡ noEnd → ⊥) → endOf h ≡ fin h
+pub end-fin : {h : ℕ} → (h ≡ noEnd → ⊥) → endOf noEnd h ≡ fin h
 unfolding endOf
 end-fin {h} n = rw (ne-eqb h noEnd n)
 
@@ -147,22 +146,22 @@ pub finite-of : (l u : ℕ) → l ≤ endless → u < endless → spanOf l u ≡
 finite-of l u h k = sym (make-of l u h) ∙ (rw (top-fin {m = u} (λ e. omega arith)))
 
 -- the own bounds of a group, from the fields of its record
-pub own-out-endless : (l h : ℕ) → l ≤ noEnd → h ≡ noEnd → spanOf l endless ≡ ownTo l (endOf h) false
+pub own-out-endless : (l h : ℕ) → l ≤ noEnd → h ≡ noEnd → spanOf l endless ≡ ownTo l (endOf noEnd h) false
 unfolding endOf
 own-out-endless l h a e = rw e (endless-of l (omega arith))
 
-pub own-out-finite : (l h : ℕ) → l ≤ noEnd → h ≤ noEnd → (h ≡ noEnd → ⊥) → spanOf l h ≡ ownTo l (endOf h) false
+pub own-out-finite : (l h : ℕ) → l ≤ noEnd → h ≤ noEnd → (h ≡ noEnd → ⊥) → spanOf l h ≡ ownTo l (endOf noEnd h) false
 own-out-finite l h a b e = rw (end-fin e) (finite-of l h (omega arith) (omega arith))
 
-pub own-in-endless : (l h n : ℕ) → l ≤ noEnd → n ≡ l - 1 → h ≡ noEnd → spanOf n endless ≡ ownTo l (endOf h) true
+pub own-in-endless : (l h n : ℕ) → l ≤ noEnd → n ≡ l - 1 → h ≡ noEnd → spanOf n endless ≡ ownTo l (endOf noEnd h) true
 unfolding endOf
 own-in-endless l h n a d e = rw (e, d) (endless-of (l - 1) (omega arith))
 
-pub own-in-zero : (l h : ℕ) → h ≡ 0 → none ≡ ownTo l (endOf h) true
+pub own-in-zero : (l h : ℕ) → h ≡ 0 → none ≡ ownTo l (endOf noEnd h) true
 unfolding endOf
 own-in-zero l h e = rw e
 
 pub own-in-finite : (l h n m : ℕ) → l ≤ noEnd → h ≤ noEnd → n ≡ l - 1 → m ≡ h - 1 → (h ≡ noEnd → ⊥) → (h ≡ 0 → ⊥)
-    → spanOf n m ≡ ownTo l (endOf h) true
+    → spanOf n m ≡ ownTo l (endOf noEnd h) true
 own-in-finite l h n m a b d e f g =
     rw (end-fin f, lt-ltb 0 h (omega arith), d, e) (finite-of (l - 1) (h - 1) (omega arith) (omega arith))

@@ -11,11 +11,11 @@ use lib.Seq.{getD-set-same, getD-set-other}
 use Rattle.laws.specs.Sum.{sum, bit}
 use Rattle.meaning.specs.Sheet.{Sheet, Group, Son}
 use Rattle.meaning.specs.Tree.{Tree}
-use Rattle.meaning.specs.Sons.{isSon, sonCount}
+use Rattle.meaning.specs.Sons.{isSon, sons}
 use Rattle.reading.specs.Tables.{groupIn}
 use Rattle.reading.specs.SheetIn.{sheetIn, size-in, group-in, parent-in}
 use Rattle.sizes.specs.Span.{Span}
-use Rattle.sizes.specs.Fold.{kindOf, shut, start, joined, later}
+use Rattle.sizes.specs.Fold.{kindOf, sonCount, shut, start, joined, later}
 use Rattle.laws.specs.Cases.{split, compare-eq, compare-le, below-suc, true-not-false, not-true-false}
 use Rattle.meaning.proofs.SonLaws.{son-of, son-is, no-son-before}
 use Rattle.sizes.specs.RuleSteps.{no-son}
@@ -161,7 +161,7 @@ count-some s p (suc n) e =
 -- no son, one son, or more, by the last son and the one before it
 pub count-by : (s : Sheet) (p a b : ℕ) → a ≡ sonBelow s p (suc (s .size)) → b ≡ sonBelow s p a
     → (a ≡ 0 → sonCount s p ≡ 0) × ((a ≡ 0 → ⊥) → b ≡ 0 → sonCount s p ≡ 1) × ((a ≡ 0 → ⊥) → (b ≡ 0 → ⊥) → 1 < sonCount s p)
-unfolding sonCount
+unfolding sons
 count-by s p a b d e = (
   λ z. count-none s p (suc (s .size)) (sym d ∙ z),
   λ n z. count-some s p (suc (s .size)) (λ h. n (d ∙ h)) ∙ ap suc ((rw (← d)) ∙ count-none s p a (sym e ∙ z)),

@@ -1,11 +1,13 @@
 -- The flags of the groups of a sheet in a table, and the spans that they have under them.
-use Prim.Native.Nat.{ℕ, _-_}
-use mathlib.Core.Path.{_≡_}
-use mathlib.Core.Bool.{Bool, cond}
+use Prim.Native.Nat.{ℕ, _-_, _≤_}
+use mathlib.Core.Path.{_≡_, refl, ap, _∙_}
+use mathlib.Core.Bool.{Bool, true, false, cond}
 use mathlib.Core.List.{List}
-use lib.ListN.{getD}
-use Rattle.meaning.specs.Sheet.{Group}
-use Rattle.meaning.specs.OfRecords.{endOf}
+use native.Mathlib.Omega.{arith}
+use lib.ListN.{getD, replicate, getD-replicate}
+use Rattle.wire.specs.Limits.{noEnd}
+use Rattle.wire.specs.Capacity.{groupCapacity}
+use Rattle.meaning.specs.Sheet.{Group, endOf}
 use Rattle.reading.specs.Tables.{groupIn}
 use Rattle.reading.specs.SheetIn.{sheetIn, lo-in, hi-in, disjoint-in, same-in}
 use Rattle.sizes.specs.Span.{Span, none}
@@ -17,6 +19,18 @@ use Rattle.measuring.specs.Held.{mayFlag, modeKind}
 unfoldable pub mayIn : List ℕ → ℕ → Bool → Bool
 mayIn f g c = mayFlag (getD f (g - 1) 0) c
 
+-- the table of flags that forbids nothing
+abbrev pub freeTable : List ℕ
+freeTable = replicate groupCapacity 3
+
+pub free-flag : (g : ℕ) → 1 ≤ g → g ≤ groupCapacity → (c : Bool) → mayIn freeTable g c ≡ true
+unfolding mayIn
+free-flag g a l c = ap (λ x. mayFlag x c) (getD-replicate groupCapacity (g - 1) 3 0 (omega arith)) ∙ three c
+  where
+    three : (c : Bool) → mayFlag 3 c ≡ true
+    three true = refl
+    three false = refl
+
 -- the intervals of every group
 abbrev pub spansIn : List ℕ → ℕ → List ℕ → ℕ → Bool → Span
 spansIn t n f = spansOf (sheetIn t n) (mayIn f)
@@ -27,6 +41,6 @@ module _ (t : List ℕ) (n g : ℕ) (k : Group (sheetIn t n) g) where
   kind-in = rw (same-in t n g k, disjoint-in t n g k)
 
   pub own-in : (f : List ℕ) (c : Bool) → own (sheetIn t n) (mayIn f) g c
-      ≡ cond (mayFlag (getD f (g - 1) 0) c) (ownTo (groupIn t (g - 1) .lo) (endOf (groupIn t (g - 1) .hi)) c) none
+      ≡ cond (mayFlag (getD f (g - 1) 0) c) (ownTo (groupIn t (g - 1) .lo) (endOf noEnd (groupIn t (g - 1) .hi)) c) none
   unfolding own mayIn
   own-in f c = rw (lo-in t n g k, hi-in t n g k)

@@ -4,11 +4,12 @@ use reading::tables::NO_END;
 ghost use mathlib.Core.Path.{_≡_};
 ghost use mathlib.Core.Bool.{true, false, cond};
 ghost use Prim.Native.Nat.{_+_, _-_, min, max};
-ghost use Rattle.meaning.specs.OfRecords.{endOf};
 ghost use Rattle.sizes.specs.Span as sizes;
 ghost use Rattle.sizes.specs.Fold as fold;
 ghost use Rattle.measuring.specs.Held.{endless, topOf, EndRoom, spanHeld, Room, kindHeld, mayFlag, modeKind};
 ghost use Rattle.measuring.specs.Held.{pairOf, RoomBoth, Alike};
+ghost use Rattle.meaning.specs.Sheet.{endOf};
+ghost use Rattle.wire.specs.Limits.{noEnd};
 
 // stands for no upper end; no sum of upper ends reaches it
 pub const ENDLESS: u32 = 4294967295;
@@ -195,7 +196,7 @@ pub fn start(shut: bool) -> Pair
 
 // a group's own bounds for the member out of it, and for the member in it
 fn own_out(lo: u16, hi: u16) -> Span
-    ensures { λ r. ⌜ spanHeld r ≡ fold.ownTo lo (endOf hi) false ⌝ }
+    ensures { λ r. ⌜ spanHeld r ≡ fold.ownTo lo (endOf noEnd hi) false ⌝ }
 {
     if hi == NO_END {
         return Span {
@@ -216,7 +217,7 @@ fn less_one(n: u16) -> u32
 }
 
 fn own_in(lo: u16, hi: u16) -> Span
-    ensures { λ r. ⌜ spanHeld r ≡ fold.ownTo lo (endOf hi) true ⌝ }
+    ensures { λ r. ⌜ spanHeld r ≡ fold.ownTo lo (endOf noEnd hi) true ⌝ }
 {
     if hi == NO_END {
         return Span {
@@ -235,7 +236,7 @@ fn own_in(lo: u16, hi: u16) -> Span
 
 // the same where the flag lets the member be out of the group (1) and in it (2), none where it does not
 pub fn own_pair(lo: u16, hi: u16, flag: u8) -> Pair
-    ensures { λ r. ⌜ Alike (pairOf r) (λ c. cond (mayFlag flag c) (fold.ownTo lo (endOf hi) c) sizes.none) ⌝ }
+    ensures { λ r. ⌜ Alike (pairOf r) (λ c. cond (mayFlag flag c) (fold.ownTo lo (endOf noEnd hi) c) sizes.none) ⌝ }
 {
     if flag % 2 == 1 {
         if flag / 2 % 2 == 1 {

@@ -3,3 +3,4 @@ pub mod Tables
 pub mod Narrowed
 pub mod Sized
 pub mod Said
+pub mod Fitting

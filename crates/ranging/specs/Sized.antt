@@ -12,7 +12,7 @@ use Rattle.laws.specs.Sum.{sum}
 use Rattle.meaning.specs.Sheet.{Sheet, Group, Son, Top, fin}
 use Rattle.meaning.specs.Tree.{Tree}
 use Rattle.meaning.specs.Fits.{Possible}
-use Rattle.meaning.specs.OfRecords.{disjointMode, coverMode, sameMode}
+use Rattle.reading.specs.Modes.{disjointMode, coverMode, sameMode}
 use Rattle.meaning.specs.Arranged.{cap, leftFor, sizeOf, Arranged}
 use Rattle.reading.specs.Tables.{groupIn}
 use Rattle.reading.specs.SheetIn.{sheetIn, sizeLimit, Tabled, disjoint-in, cover-in, same-in}

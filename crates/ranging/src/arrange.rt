@@ -12,7 +12,7 @@ ghost use mathlib.Core.Path.{_≡_};
 ghost use Prim.Native.Nat.{ℕ, _+_, _-_, _*_, _≤_, _<_};
 ghost use lib.ListN.{length};
 ghost use Rattle.meaning.specs.Sheet.{Group};
-ghost use Rattle.meaning.specs.OfRecords.{disjointMode, coverMode, sameMode};
+ghost use Rattle.reading.specs.Modes.{disjointMode, coverMode, sameMode};
 ghost use Rattle.meaning.specs.Arranged.{Arranged};
 ghost use Rattle.reading.specs.Tables.{groupFields, groupIn};
 ghost use Rattle.reading.specs.SheetIn.{sheetIn};

@@ -1,7 +1,7 @@
 -- Laws of the readers' answers: what an answer says of the tests, which of the four sorts a record is, and what it carries.
 use Prim.Native.Nat.{ℕ, _+_, _-_, _*_, _≤_, _<_}
 use mathlib.Core.Path.{_≡_, refl, sym, ap, _∙_}
-use mathlib.Core.List.{List, [], _∷_, _++_}
+use mathlib.Core.List.{List, [], _∷_, _++_, flatMap}
 use native.Mathlib.Omega.{arith}
 use borrow.Author.Tests.{eqb-true, eqb-false, ne-eqb}
 use denote.Enum.Declared.{tagOf}
@@ -11,7 +11,7 @@ use lib.Dec.{eqb}
 use Rattle.wire.specs.Bytes.{u16At, le16}
 use Rattle.wire.specs.Record.{kindOf, Test, refusal, Reading, read, refused, onward}
 use Rattle.wire.specs.SheetFormat.{GroupRecord, NameRecord, headOf, groupOf, nameOf, claimOf, claimTests, leftOf, rightOf}
-use Rattle.wire.specs.Encoding.{encodeRecord, le16s, encodeClaim}
+use Rattle.wire.specs.Encoding.{encodeRecord, encodeClaim}
 use Rattle.wire.specs.Fields.{length-le16s}
 use Rattle.laws.specs.Cases.{split}
 use Rattle.wire.specs.Sorts.{length-u16s, claim-numbered, claim-cases, claim-count, claim-inside, claim-apart}
@@ -140,12 +140,12 @@ name-made s at n m k g e h = rw (k, g, label-from s at n e h)
 
 -- how many bytes the record of a claim has
 length-lists : (kind : ℕ) (l r : List ℕ) →
-    length (encodeRecord kind (le16s (length l ∷ length r ∷ l ++ r))) ≡ 8 + 2 * (length l + length r)
+    length (encodeRecord kind (flatMap le16 (length l ∷ length r ∷ l ++ r))) ≡ 8 + 2 * (length l + length r)
 unfolding encodeRecord le16
 length-lists kind l r = simp (length-le16s, length-append) (omega arith)
 
 pub lists-bytes : (s : List ℕ) (kind : ℕ) (l : Lists) →
-    length (encodeRecord kind (le16s (length (leftNames s l) ∷ length (rightNames s l) ∷ leftNames s l ++ rightNames s l)))
+    length (encodeRecord kind (flatMap le16 (length (leftNames s l) ∷ length (rightNames s l) ∷ leftNames s l ++ rightNames s l)))
     ≡ 8 + 2 * (l .m + l .n)
 lists-bytes s kind l = rw (length-lists kind (leftNames s l) (rightNames s l)) (simp length-u16s)
 
@@ -153,7 +153,7 @@ claim-length : (names : ℕ) (b : List ℕ) → refusal (claimTests names [] b) 
 unfolding encodeClaim
 claim-length names b e =
     claim-cases names [] b (passed _ (claim-numbered names [] b) e)
-    (λ k f. rw (claim-count b k) (unfold encodeRecord le16s le16 in omega arith))
+    (λ k f. rw (claim-count b k) (unfold encodeRecord flatMap le16 in omega arith))
     (λ k f. rw (claim-inside b k, length-lists 5 (leftOf b) (rightOf b)) (unfold leftOf rightOf in simp length-u16s (omega arith)))
     (λ k f. rw (claim-apart b k, length-lists 6 (leftOf b) (rightOf b)) (unfold leftOf rightOf in simp length-u16s (omega arith)))
 

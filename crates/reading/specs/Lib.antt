@@ -1,4 +1,5 @@
 pub mod Tables
+pub mod Modes
 pub mod SheetIn
 pub mod Meant
 pub mod ClaimHeld

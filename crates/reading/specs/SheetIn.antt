@@ -4,11 +4,14 @@ use mathlib.Core.Path.{_≡_, sym, ap, _∙_}
 use mathlib.Core.List.{List}
 use native.Mathlib.Omega.{arith}
 use lib.ListN.{length}
+use lib.Dec.{eqb}
+use Rattle.laws.specs.Digits.{digit, digit-zero}
 use Rattle.wire.specs.Limits.{noEnd}
 use Rattle.wire.specs.Capacity.{groupCapacity}
-use Rattle.meaning.specs.Sheet.{Sheet, Group, Son}
+use Rattle.meaning.specs.Sheet.{Sheet, Group, Son, endOf}
 use Rattle.meaning.specs.Tree.{Tree, Rooted}
-use Rattle.meaning.specs.OfRecords.{sheetOf, endOf, disjointMode, coverMode, sameMode}
+use Rattle.meaning.specs.OfRecords.{sheetOf}
+use Rattle.reading.specs.Modes.{disjointMode, coverMode, sameMode}
 use Rattle.reading.specs.Tables.{groupFields, groupIn, groupsIn, length-groupsIn, groupAt-groupsIn}
 
 -- the sheet of the first n groups of the table
@@ -44,20 +47,22 @@ module _ (t : List ℕ) (n g : ℕ) (k : Group (sheetIn t n) g) where
   unfolding sheetIn
   lo-in = ap (λ r. r .lo) (groupAt-groupsIn t n g (k .first) (omega (arith, size-in t n)))
 
-  pub hi-in : sheetIn t n .hi g ≡ endOf (groupIn t (g - 1) .hi)
+  pub hi-in : sheetIn t n .hi g ≡ endOf noEnd (groupIn t (g - 1) .hi)
   unfolding sheetIn
-  hi-in = ap (λ r. endOf (r .hi)) (groupAt-groupsIn t n g (k .first) (omega (arith, size-in t n)))
+  hi-in = ap (λ r. endOf noEnd (r .hi)) (groupAt-groupsIn t n g (k .first) (omega (arith, size-in t n)))
 
   pub disjoint-in : sheetIn t n .disjoint g ≡ disjointMode (groupIn t (g - 1) .mode)
   unfolding sheetIn
-  disjoint-in = ap (λ r. disjointMode (r .mode)) (groupAt-groupsIn t n g (k .first) (omega (arith, size-in t n)))
+  disjoint-in =
+      ap (λ r. eqb (digit (r .mode) 0) 1) (groupAt-groupsIn t n g (k .first) (omega (arith, size-in t n)))
+      ∙ ap (λ x. eqb x 1) (digit-zero (groupIn t (g - 1) .mode))
 
   pub cover-in : sheetIn t n .cover g ≡ coverMode (groupIn t (g - 1) .mode)
-  unfolding sheetIn
+  unfolding sheetIn digit
   cover-in = ap (λ r. coverMode (r .mode)) (groupAt-groupsIn t n g (k .first) (omega (arith, size-in t n)))
 
   pub same-in : sheetIn t n .same g ≡ sameMode (groupIn t (g - 1) .mode)
-  unfolding sheetIn
+  unfolding sheetIn digit
   same-in = ap (λ r. sameMode (r .mode)) (groupAt-groupsIn t n g (k .first) (omega (arith, size-in t n)))
 
 pub few-groups : {t : List ℕ} {n : ℕ} → Tabled t n → sheetIn t n .size ≤ groupCapacity

@@ -19,7 +19,7 @@ use Rattle.wire.specs.RegisterFormat.{Row, rowOf, lastMember, clearAbove, rowTe
 use Rattle.wire.specs.Encoding.{Bytes}
 use Rattle.wire.specs.Facts.{bytes-drop}
 use Rattle.wire.specs.RowFacts.{last-member-behind}
-use Rattle.meaning.specs.OfRecords.{noRow}
+use Rattle.meaning.specs.ReadableRows.{noRow}
 use Rattle.laws.specs.Cases.{split, below-suc}
 use Rattle.registers.specs.declared.rows.RowWords.{RowWords}
 use Rattle.registers.specs.declared.rows.RowAnswer.the-variants as answer

@@ -9,10 +9,10 @@ use lib.Dec.{ltb, eqb}
 use Rattle.wire.specs.Limits.{noEnd}
 use Rattle.registers.specs.Words.{rowGroups}
 use Rattle.laws.specs.Sum.{sum}
-use Rattle.meaning.specs.Sheet.{Sheet, AtMost, Group, Son}
+use Rattle.meaning.specs.Sheet.{Sheet, AtMost, Group, Son, endOf}
 use Rattle.meaning.specs.Sets.{Sets, count}
 use Rattle.meaning.specs.Rule.{Rule, outside, lacking, uncovered, shared, below, above, ruleNumber, Broken}
-use Rattle.meaning.specs.OfRecords.{endOf, sameMode}
+use Rattle.reading.specs.Modes.{sameMode}
 use Rattle.reading.specs.SheetIn.{sheetIn, Tabled, group-in, parent-in, lo-in, hi-in, disjoint-in, cover-in, same-in, parent-below}
 use Rattle.laws.specs.Cases.{and-true, split, compare-le, true-not-false}
 use Rattle.laws.specs.SumLaws.{sum-some, sum-two, sum-term, sum-pair}
@@ -181,13 +181,13 @@ module _ {t : List ℕ} {n : ℕ} (k : Tabled t n) (g : ℕ) (a : 1 ≤ g) (b : 
   may-is above l = absurd (omega arith)
 
   -- a count that breaks a rule, and a rule that a count breaks
-  over : (c h : ℕ) → (not (eqb h noEnd) && ltb h c) ≡ true → AtMost c (endOf h) → ⊥
+  over : (c h : ℕ) → (not (eqb h noEnd) && ltb h c) ≡ true → AtMost c (endOf noEnd h) → ⊥
   unfolding endOf
   over c h e m =
       let x = and-true (not (eqb h noEnd)) (ltb h c) e in
       let y : c ≤ h = rw (not-true (eqb h noEnd) (x .0)) at m in omega (arith, ltb-true h c (x .1))
 
-  not-over : (c h : ℕ) → (not (eqb h noEnd) && ltb h c) ≡ false → AtMost c (endOf h)
+  not-over : (c h : ℕ) → (not (eqb h noEnd) && ltb h c) ≡ false → AtMost c (endOf noEnd h)
   unfolding endOf
   not-over c h e =
       split (eqb h noEnd)

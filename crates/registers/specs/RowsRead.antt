@@ -9,7 +9,7 @@ use Rattle.wire.specs.Edition.{edition1, rowBytes}
 use Rattle.registers.specs.Words.{rowGroups}
 use Rattle.wire.specs.Record.{Test, refusal, Reading, read, refused}
 use Rattle.wire.specs.RegisterFormat.{Row, rowOf, inGroup, rowTests, readRegister}
-use Rattle.meaning.specs.OfRecords.{noRow}
+use Rattle.meaning.specs.ReadableRows.{noRow}
 use Rattle.registers.specs.declared.rows.RowWords.{RowWords}
 use Rattle.registers.specs.declared.rows.RowAnswer.{RowAnswer}
 use Rattle.registers.specs.declared.rows.RowAnswer.the-variants as answer

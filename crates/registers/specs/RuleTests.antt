@@ -6,7 +6,7 @@ use mathlib.Core.List.{List}
 use lib.ListN.{getD}
 use lib.Dec.{ltb, eqb}
 use Rattle.wire.specs.Limits.{noEnd}
-use Rattle.meaning.specs.OfRecords.{disjointMode, coverMode, sameMode}
+use Rattle.reading.specs.Modes.{disjointMode, coverMode, sameMode}
 use Rattle.registers.specs.Words.{holds, inBoth}
 
 -- by a rule's number, 1 to 4

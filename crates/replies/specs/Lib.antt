@@ -1,2 +1,3 @@
+pub mod Reply
 pub mod Wrote
 pub mod Written

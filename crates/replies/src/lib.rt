@@ -1,11 +1,15 @@
 // Replies: the records of kinds 17 to 20, written into the lent buffer.
 // Each writer says what is read back from its bytes, and that no other byte changes.
 // Document 01, "Replies".
+pub mod pairs;
+
+use crate::pairs::pack;
 use wire::bytes::put_long;
 use wire::bytes::put_word;
 ghost use mathlib.Core.Path.{_≡_};
 ghost use Prim.Native.Nat.{_+_, _*_, _≤_};
 ghost use lib.ListN.{length};
+ghost use Rattle.replies.specs.Reply.{call, OnceRoom};
 ghost use Rattle.replies.specs.Wrote.{Wrote};
 ghost use Rattle.wire.specs.Limits.{rangeBytes, verdictBytes, shownBytes, answerBytes};
 ghost use Rattle.replies.specs.Written.{WordsPut, AnswerAt, VerdictAt, RangeAt, ShownAt, RangesPut, SetsPut};
@@ -124,4 +128,15 @@ pub fn put_sets(out: &mut [u8], size: u16, firsts: &[u32], counts: &[u32], marks
         );
         g += 1;
     }
+}
+
+// The answer, into a buffer with room for it.
+pub fn give_answer(reply: &mut [u8], group: u16, rule: u16) -> u64
+    ensures { λ r. ⌜ OnceRoom answerBytes (call (now (reply .entry)) r (now (reply .exit))) (λ out. AnswerAt out group rule) ⌝ }
+{
+    if reply.len() < ANSWER_BYTES {
+        return pack(14, 0);
+    }
+    put_answer(reply, group, rule);
+    pack(0, 8)
 }

@@ -11,7 +11,7 @@ use lib.Seq.{getD-set-same, getD-set-other}
 use Rattle.wire.specs.Capacity.{groupCapacity}
 use Rattle.meaning.specs.Sheet.{Sheet, Group, Son}
 use Rattle.meaning.specs.Tree.{Tree, Rooted}
-use Rattle.meaning.specs.OfRecords.{disjointMode, coverMode, sameMode}
+use Rattle.reading.specs.Modes.{disjointMode, coverMode, sameMode}
 use Rattle.meaning.specs.Sons.{isSon}
 use Rattle.meaning.specs.Arranged.{ended, firstOf}
 use Rattle.reading.specs.Tables.{groupIn}

@@ -6,7 +6,7 @@ use reading::tables::parent_of;
 ghost use mathlib.Core.Path.{_≡_};
 ghost use Prim.Native.Nat.{_+_, _-_, _≤_, _<_};
 ghost use Rattle.meaning.specs.Sheet.{Son};
-ghost use Rattle.meaning.specs.OfRecords.{disjointMode, coverMode, sameMode};
+ghost use Rattle.reading.specs.Modes.{disjointMode, coverMode, sameMode};
 ghost use Rattle.reading.specs.SheetIn.{sheetIn, Tabled};
 ghost use Rattle.runs.specs.Told.{Told, Placeable, numberIn, runLimit};
 ghost use Rattle.runs.specs.Placed.{startBy, StartIs, Placed};

@@ -7,9 +7,9 @@ use native.Mathlib.Nat.{le-refl}
 use Rattle.laws.specs.Sum.{sum, bit}
 use Rattle.meaning.specs.Sheet.{Sheet, Group, Son}
 use Rattle.meaning.specs.Tree.{Tree}
-use Rattle.meaning.specs.Sons.{isSon, sonCount}
+use Rattle.meaning.specs.Sons.{isSon, sons}
 use Rattle.sizes.specs.Span.{Span, none, Kind, meet}
-use Rattle.sizes.specs.Fold.{kindOf, shut, start, joined, later, own, Measured}
+use Rattle.sizes.specs.Fold.{kindOf, sonCount, shut, start, joined, later, own, Measured}
 use Rattle.laws.specs.Cases.{split}
 use Rattle.laws.specs.SumLaws.{sum-eq}
 use Rattle.sizes.specs.RuleSteps.{Lasts, all-lasts, lasts-less, no-son}
@@ -51,7 +51,7 @@ module _ (s r : Sheet) (may can : ℕ → Bool → Bool) (z : s .size ≡ r .siz
   kind-alike = rw (a .same, a .disjoint)
 
   count-alike : sonCount s p ≡ sonCount r p
-  unfolding sonCount
+  unfolding sons
   count-alike =
       sum-eq _ (λ g. bit (isSon r p g)) (suc (s .size)) (λ g l. ap bit (son-alike g (omega arith)))
       ∙ ap (λ n. sum (λ g. bit (isSon r p g)) (suc n)) z

@@ -12,7 +12,7 @@ use Rattle.meaning.specs.Sheet.{Sheet, Group, Son, Top}
 use Rattle.meaning.specs.Tree.{Tree}
 use Rattle.meaning.specs.Sons.{isSon}
 use Rattle.meaning.specs.Fits.{Attains}
-use Rattle.meaning.specs.Part.{under, inPart, partAt, BottomUp}
+use Rattle.meaning.specs.Part.{under, partAt, BottomUp}
 use Rattle.sizes.specs.Span.{Span, span, In}
 use Rattle.sizes.specs.Fold.{Measured}
 use Rattle.sizes.specs.Ranged.{free}
@@ -21,6 +21,10 @@ use Rattle.sizes.specs.Members.{balanced-zero}
 use Rattle.sizes.specs.Possible.{Sizes, nowhere, sizes-choice, choice-sizes, attains}
 use Rattle.sizes.specs.Exact.{ChoiceAt, sound, sound-at, had}
 use Rattle.sizes.specs.MeasuredLaws.{AlikeAt, measured-alike, spansOf, spans-measured}
+
+-- h is at or below g
+abbrev inPart : Sheet → ℕ → ℕ → Bool
+inPart s g h = under s g (s .size) h
 
 -- The tree above: number 0 stands for 'no parent' and has itself none.
 module _ (s : Sheet) (t : Tree s) (o : s .parent 0 ≡ 0) (g : ℕ) (k : Group s g) where

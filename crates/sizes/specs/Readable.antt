@@ -15,10 +15,10 @@ use Rattle.wire.specs.Record.{read}
 use Rattle.wire.specs.SheetFormat.{Records, readSheet}
 use Rattle.wire.specs.Encoding.{Bytes, SheetWithin}
 use Rattle.wire.specs.Facts.{read-right, read-within}
-use Rattle.meaning.specs.Sheet.{Group}
+use Rattle.meaning.specs.Sheet.{Group, endOf}
 use Rattle.meaning.specs.Fits.{Possible}
 use Rattle.meaning.specs.Claim.{Breakable}
-use Rattle.meaning.specs.OfRecords.{sheetOf, claimAt, endOf, groupAt}
+use Rattle.meaning.specs.OfRecords.{sheetOf, claimAt, groupAt}
 use Rattle.meaning.specs.Readable.{root-under-none, lo-most, hi-most, tree-of-right, rooted-of-right, tree-of-readable}
 use Rattle.laws.specs.Cases.{split}
 use Rattle.sizes.specs.Bounds.{Small}

@@ -10,10 +10,10 @@ use borrow.Author.Tests.{lt-ltb}
 use lib.Dec.{ltb}
 use Rattle.laws.specs.Sum.{sum, bit}
 use Rattle.meaning.specs.Sheet.{Sheet, Son}
-use Rattle.meaning.specs.Sons.{isSon, only, sons, sonCount}
+use Rattle.meaning.specs.Sons.{isSon, only, sons}
 use Rattle.sizes.specs.Balanced.{RuleAt}
 use Rattle.sizes.specs.Span.{Kind, lap, add, eq, Makes}
-use Rattle.sizes.specs.Fold.{kindOf, shut}
+use Rattle.sizes.specs.Fold.{kindOf, sonCount, shut}
 use Rattle.sizes.specs.JoinedLaws.{bit-of, makes-first}
 use Rattle.laws.specs.Cases.{split, below-suc, true-not-false}
 use Rattle.laws.specs.SumLaws.{sum-eq, sum-suc, sum-first, sum-term}
@@ -178,7 +178,7 @@ sum-alike b f x (suc n) h =
     split (b n) (λ e. rw e (omega (arith, h n (le-refl (suc n)) e))) (λ e. rw e (omega arith))
 
 sons-same : (s : Sheet) (p : ℕ) (f : ℕ → ℕ) (x : ℕ) → ((g : ℕ) → Son s p g → f g ≡ x) → sons s p f ≡ sonCount s p * x
-unfolding sons sonCount
+unfolding sons
 sons-same s p f x h = sum-alike (isSon s p) f x (suc (s .size)) (λ g l e. h g (son-of s p g (omega arith) e))
 
 -- 'disjoint' and 'cover' under 'same', with n sons

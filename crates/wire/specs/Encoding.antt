@@ -3,7 +3,7 @@
 use Prim.Native.Nat.{ℕ, _+_, _-_, _≤_, _<_}
 use mathlib.Core.Path.{_≡_}
 use mathlib.Core.Bool.{true, false}
-use mathlib.Core.List.{List, [], _∷_, _++_}
+use mathlib.Core.List.{List·Memᴰ, List, [], _∷_, _++_, flatMap}
 use lib.ListN.{length, getD}
 use Rattle.wire.specs.Limits.{nameLimit, claimLimit, sideLimit, boundLimit, noEnd, modeLimit, rowLimit}
 use Rattle.wire.specs.Edition.{Edition, editionNumber, membershipBytes, groupLimit, labelLimit, rowKind}
@@ -20,40 +20,31 @@ Bytes b = (i : ℕ) → getD b i 0 < 256
 unfoldable pub encodeRecord : ℕ → List ℕ → List ℕ
 encodeRecord kind body = le16 (length body + 2) ++ (le16 kind ++ body)
 
--- fields of two bytes
-unfoldable pub le16s : List ℕ → List ℕ
-le16s [] = []
-le16s (x ∷ xs) = le16 x ++ le16s xs
-
-unfoldable pub encodeAll : {A : Type 0} → (A → List ℕ) → List A → List ℕ
-encodeAll encode [] = []
-encodeAll encode (x ∷ xs) = encode x ++ encodeAll encode xs
-
 unfoldable pub encodeHead : Records → List ℕ
 encodeHead d =
-    encodeRecord 1 (le16s (editionNumber (d .edition) ∷ length (d .groups) ∷ length (d .names) ∷ length (d .claims) ∷ []))
+    encodeRecord 1 (flatMap le16 (editionNumber (d .edition) ∷ length (d .groups) ∷ length (d .names) ∷ length (d .claims) ∷ []))
 
 unfoldable pub encodeGroup : GroupRecord → List ℕ
-encodeGroup g = encodeRecord 2 (le16s (g .parent ∷ g .lo ∷ g .hi ∷ g .mode ∷ []))
+encodeGroup g = encodeRecord 2 (flatMap le16 (g .parent ∷ g .lo ∷ g .hi ∷ g .mode ∷ []))
 
 unfoldable pub encodeName : NameRecord → List ℕ
 encodeName n = encodeRecord 3 (le16 (n .group) ++ n .label)
 
 unfoldable pub encodeClaim : ClaimRecord → List ℕ
-encodeClaim (count n lo hi) = encodeRecord 4 (le16s (n ∷ lo ∷ hi ∷ []))
-encodeClaim (inside l r) = encodeRecord 5 (le16s (length l ∷ length r ∷ l ++ r))
-encodeClaim (apart l r) = encodeRecord 6 (le16s (length l ∷ length r ∷ l ++ r))
+encodeClaim (count n lo hi) = encodeRecord 4 (flatMap le16 (n ∷ lo ∷ hi ∷ []))
+encodeClaim (inside l r) = encodeRecord 5 (flatMap le16 (length l ∷ length r ∷ l ++ r))
+encodeClaim (apart l r) = encodeRecord 6 (flatMap le16 (length l ∷ length r ∷ l ++ r))
 
 unfoldable pub encodeSheet : Records → List ℕ
 encodeSheet d =
     encodeHead d
-    ++ (encodeAll encodeGroup (d .groups) ++ (encodeAll encodeName (d .names) ++ encodeAll encodeClaim (d .claims)))
+    ++ (flatMap encodeGroup (d .groups) ++ (flatMap encodeName (d .names) ++ flatMap encodeClaim (d .claims)))
 
 unfoldable pub encodeRow : Edition → Row → List ℕ
 encodeRow e r = encodeRecord (rowKind e) (le32 (r .member) ++ r .bits)
 
 unfoldable pub encodeRegister : Edition → List Row → List ℕ
-encodeRegister e rs = encodeAll (encodeRow e) rs
+encodeRegister e rs = flatMap (encodeRow e) rs
 
 -- Each of the items ys is right after those before it, the items xs standing before them all.
 pub data Each {A : Type 0} (P : List A → A → Type 0) : List A → List A → Type 0 where
@@ -84,15 +75,6 @@ ClaimRight names cs (count n lo hi) = (allWithin names (n ∷ []) ≡ true) × (
 ClaimRight names cs (inside l r) = SideRight names l × SideRight names r
 ClaimRight names cs (apart l r) = SideRight names l × SideRight names r
 
--- an upper end is a number up to 65,534, or 65,535 for none
-abbrev pub GroupEnd : List GroupRecord → GroupRecord → Type 0
-GroupEnd gs g = g .hi ≤ noEnd
-
-abbrev pub ClaimEnd : List ClaimRecord → ClaimRecord → Type 0
-ClaimEnd cs (count n lo hi) = hi ≤ noEnd
-ClaimEnd cs (inside l r) = Unit {0}
-ClaimEnd cs (apart l r) = Unit {0}
-
 -- what reading ensures of any list of numbers
 pub record Right (d : Records) : Type 0 where
   pub someGroup : 1 ≤ length (d .groups)
@@ -103,23 +85,20 @@ pub record Right (d : Records) : Type 0 where
   pub names : Each (NameRight (d .edition) (length (d .groups))) [] (d .names)
   pub claims : Each (ClaimRight (length (d .names))) [] (d .claims)
 
--- a sheet within the limits
+-- a sheet within the limits: upper ends are numbers up to 65,534, or 65,535 for none
 pub record SheetWithin (d : Records) : Type 0 where
   pub right : Right d
-  pub groupEnds : Each GroupEnd [] (d .groups)
-  pub claimEnds : Each ClaimEnd [] (d .claims)
+  pub groupEnds : Each (λ gs g. g .hi ≤ noEnd) [] (d .groups)
+  pub claimEnds : (n lo hi : ℕ) → List·Memᴰ (count n lo hi) (d .claims) → hi ≤ noEnd
 
--- A row after the rows rs, under a sheet of edition e with `groups` groups; what fits its fields; and rows within the limits.
+-- A row after the rows rs, under a sheet of edition e with `groups` groups; and rows within the limits, numbers that fit their
+-- fields among them.
 pub record RowRight (e : Edition) (groups : ℕ) (rs : List Row) (r : Row) : Type 0 where
   pub rises : lastMember rs < r .member
   pub width : length (r .bits) ≡ membershipBytes e
   pub clear : clearAbove r groups (groupLimit e - groups) ≡ true
 
-pub record RowFits (rs : List Row) (r : Row) : Type 0 where
-  pub member : r .member < 4294967296
-  pub bytes : Bytes (r .bits)
-
 pub record RowsWithin (e : Edition) (groups : ℕ) (rs : List Row) : Type 0 where
   pub rowCount : length rs ≤ rowLimit
   pub right : Each (RowRight e groups) [] rs
-  pub fits : Each RowFits [] rs
+  pub fits : Each (λ before r. (r .member < 4294967296) × Bytes (r .bits)) [] rs

@@ -2,7 +2,8 @@
 use Prim.Native.Nat.{ℕ, zero, suc, _+_, _≤_, _<_}
 use mathlib.Core.Path.{_≡_, refl, sym, ap, _∙_, subst}
 use mathlib.Core.Bool.{true, _&&_}
-use mathlib.Core.List.{List, [], _∷_}
+use mathlib.Core.List.{List, [], _∷_, _++_, List·Memᴰ, List·Memᴰ·head, List·Memᴰ·tail, List·Memᴰ·not-nil, List·Memᴰ·cases-cons}
+use mathlib.Core.Logic.{⊎-elim}
 use native.Mathlib.Omega.{arith}
 use native.Mathlib.Nat.{mul-le-mul-left}
 use lib.ListN.{length, take, drop, getD, length-take, length-drop}
@@ -17,9 +18,9 @@ use Rattle.wire.specs.EditionFacts.{groups-within}
 use Rattle.wire.specs.Bytes.{u16At}
 use Rattle.wire.specs.Record.{lengthOf, after, test, read, refused}
 use Rattle.wire.specs.SheetFormat.{headTests, groupTests, nameTests, claimTests, headOf, groupOf, nameOf, claimOf}
-use Rattle.wire.specs.SheetFormat.{HeadRecord, GroupRecord, NameRecord, ClaimRecord, count, Records}
+use Rattle.wire.specs.SheetFormat.{HeadRecord, GroupRecord, NameRecord, ClaimRecord, count, inside, apart, Records}
 use Rattle.wire.specs.SheetFormat.{parentAllowed, allWithin, closing, readClaims, readNames, readGroups, readSheet}
-use Rattle.wire.specs.Encoding.{Bytes, GroupRight, NameRight, ClaimRight, GroupEnd, ClaimEnd, Right, SheetWithin}
+use Rattle.wire.specs.Encoding.{Bytes, Each, none, more, GroupRight, NameRight, ClaimRight, Right, SheetWithin}
 use Rattle.laws.specs.Cases.{split, and-true}
 use Rattle.wire.specs.Passing.{Pass, Numbered, onward-read, Refuses, onward-refuses}
 use Rattle.wire.specs.Many.{Reads, reads-same, empty-of-length, each-at, each-read, kept-read, reads-length, many-read}
@@ -164,9 +165,27 @@ pub bytes-after : (b : List ℕ) → Bytes b → Bytes (after b)
 unfolding after
 bytes-after b k = bytes-drop (lengthOf b + 2) b k
 
-group-end : (gs : List GroupRecord) (b : List ℕ) → Bytes b → Pass (groupTests gs b) → GroupEnd gs (groupOf b)
+group-end : (gs : List GroupRecord) (b : List ℕ) → Bytes b → Pass (groupTests gs b) → groupOf b .hi ≤ noEnd
 unfolding groupOf
 group-end gs b k p = u16-most b k 8
+
+-- upper ends of claims, one behind another and by membership
+abbrev pub ClaimEnd : List ClaimRecord → ClaimRecord → Type 0
+ClaimEnd cs (count n lo hi) = hi ≤ noEnd
+ClaimEnd cs (inside l r) = Unit {0}
+ClaimEnd cs (apart l r) = Unit {0}
+
+pub each-end : (xs cs : List ClaimRecord) → ((n lo hi : ℕ) → List·Memᴰ (count n lo hi) cs → hi ≤ noEnd) → Each ClaimEnd xs cs
+each-end xs [] h = none
+each-end xs (count n lo hi ∷ cs) h =
+    more (h n lo hi (List·Memᴰ·head refl)) (each-end (xs ++ (count n lo hi ∷ [])) cs (λ m l u i. h m l u (List·Memᴰ·tail i)))
+each-end xs (inside l r ∷ cs) h = more tt (each-end (xs ++ (inside l r ∷ [])) cs (λ m l u i. h m l u (List·Memᴰ·tail i)))
+each-end xs (apart l r ∷ cs) h = more tt (each-end (xs ++ (apart l r ∷ [])) cs (λ m l u i. h m l u (List·Memᴰ·tail i)))
+
+end-of-each : {xs cs : List ClaimRecord} → Each ClaimEnd xs cs → (n lo hi : ℕ) → List·Memᴰ (count n lo hi) cs → hi ≤ noEnd
+end-of-each none n lo hi i = absurd (List·Memᴰ·not-nil i)
+end-of-each {xs} (more p e) n lo hi i =
+    ⊎-elim (λ q. subst (ClaimEnd xs) (sym q) p) (λ j. end-of-each e n lo hi j) (List·Memᴰ·cases-cons i)
 
 claim-end : (names : ℕ) (cs : List ClaimRecord) (b : List ℕ) → Bytes b → Pass (claimTests names cs b) → ClaimEnd cs (claimOf b)
 claim-end names cs b k p =
@@ -182,7 +201,7 @@ read-within b k d e =
     record {
       right = read-right b d e;
       groupEnds = each-read Bytes bytes-after group-end (bytes-after b k) (s .groups);
-      claimEnds = each-read Bytes bytes-after (claim-end (length (d .names))) n (s .claims);
+      claimEnds = end-of-each (each-read Bytes bytes-after (claim-end (length (d .names))) n (s .claims));
     }
 
 pub end-at : {d : Records} → SheetWithin d → (i : ℕ) (z : GroupRecord) → i < length (d .groups)

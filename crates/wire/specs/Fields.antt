@@ -2,7 +2,7 @@
 use Prim.Native.Nat.{ℕ, zero, suc, _+_, _*_, _/_, _%_, _≤_, _<_}
 use mathlib.Core.Path.{_≡_, refl, sym, _∙_}
 use mathlib.Core.Bool.{true}
-use mathlib.Core.List.{List, [], _∷_, _++_, append-assoc}
+use mathlib.Core.List.{List, [], _∷_, _++_, append-assoc, flatMap}
 use native.Mathlib.Omega.{arith}
 use native.Mathlib.Numerals.{add-one, add-two, add-three, add-four}
 use native.Mathlib.Nat.{add-zero, div-div-eq-div-mul}
@@ -12,7 +12,7 @@ use Rattle.wire.specs.Limits.{noEnd}
 use Rattle.wire.specs.Bytes.{u16At, u32At, le16, le32}
 use Rattle.wire.specs.Record.{lengthOf, kindOf, after, framed}
 use Rattle.wire.specs.SheetFormat.{u16s}
-use Rattle.wire.specs.Encoding.{Bytes, le16s, encodeRecord}
+use Rattle.wire.specs.Encoding.{Bytes, encodeRecord}
 use Rattle.wire.specs.Sorts.{Framed, framed-of}
 
 -- places counted from further on
@@ -55,10 +55,10 @@ pub length-le16 : (x : ℕ) (c : List ℕ) → length (le16 x ++ c) ≡ 2 + leng
 unfolding le16
 length-le16 x c = omega arith
 
-pub length-le16s : (xs : List ℕ) → length (le16s xs) ≡ 2 * length xs
-unfolding le16s
+pub length-le16s : (xs : List ℕ) → length (flatMap le16 xs) ≡ 2 * length xs
+unfolding flatMap
 length-le16s [] = refl
-length-le16s (x ∷ xs) = omega (arith, length-le16 x (le16s xs), length-le16s xs)
+length-le16s (x ∷ xs) = omega (arith, length-le16 x (flatMap le16 xs), length-le16s xs)
 
 -- every number fits two bytes
 pub data Fields : List ℕ → Type 0 where
@@ -69,12 +69,12 @@ drop-le16-append : (x : ℕ) (c : List ℕ) → drop 2 (le16 x ++ c) ≡ c
 unfolding le16
 drop-le16-append x c = refl
 
-pub u16s-le16s : {xs : List ℕ} → Fields xs → (c : List ℕ) → u16s (le16s xs ++ c) 0 (length xs) ≡ xs
-unfolding u16s le16s
+pub u16s-le16s : {xs : List ℕ} → Fields xs → (c : List ℕ) → u16s (flatMap le16 xs ++ c) 0 (length xs) ≡ xs
+unfolding u16s flatMap
 u16s-le16s none c = refl
 u16s-le16s (more {x} {xs} h f) c =
-    let b = le16 x ++ (le16s xs ++ c) in
-    rw (append-assoc, u16-le16 x (le16s xs ++ c) h, ← u16s-drop 2 b 0 (length xs), drop-le16-append, u16s-le16s f c)
+    let b = le16 x ++ (flatMap le16 xs ++ c) in
+    rw (append-assoc, u16-le16 x (flatMap le16 xs ++ c) h, ← u16s-drop 2 b 0 (length xs), drop-le16-append, u16s-le16s f c)
 
 -- writing what was read
 low-byte : (a q : ℕ) → a < 256 → ((a + 256 * q) % 256 ≡ a) × ((a + 256 * q) / 256 ≡ q)
@@ -89,8 +89,8 @@ drop-le16 b k i l =
     let second = drop-cons b (suc i) 0 (omega arith) in
     rw (low .0, low .1, high, first, second, add-one, add-two)
 
-pub drop-le16s : (b : List ℕ) → Bytes b → (i n : ℕ) → i + 2 * n ≤ length b → le16s (u16s b i n) ++ drop (i + 2 * n) b ≡ drop i b
-unfolding le16s u16s
+pub drop-le16s : (b : List ℕ) → Bytes b → (i n : ℕ) → i + 2 * n ≤ length b → flatMap le16 (u16s b i n) ++ drop (i + 2 * n) b ≡ drop i b
+unfolding flatMap u16s
 drop-le16s b k i zero l = rw (add-zero i)
 drop-le16s b k i (suc n) l =
     let same : i + 2 * suc n ≡ i + 2 + 2 * n = omega arith in

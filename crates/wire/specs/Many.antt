@@ -2,13 +2,13 @@
 -- the sort: its tests, the value of a record, the encoding of a value.
 use Prim.Native.Nat.{ℕ, zero, suc, _+_, _*_, _≤_, _<_}
 use mathlib.Core.Path.{_≡_, refl, sym, ap, _∙_, subst}
-use mathlib.Core.List.{List, [], _∷_, _++_, append-assoc, append-nil}
+use mathlib.Core.List.{List, [], _∷_, _++_, append-assoc, append-nil, flatMap}
 use native.Mathlib.Omega.{arith}
 use native.Mathlib.Nat.{add-zero}
 use lib.ListN.{length, take, getD, length-append, length-drop}
 use Rattle.wire.specs.Record.{lengthOf, after, Test, Reading, read}
 use Rattle.wire.specs.SheetFormat.{readMany}
-use Rattle.wire.specs.Encoding.{Each, none, more, encodeAll}
+use Rattle.wire.specs.Encoding.{Each, none, more}
 use Rattle.wire.specs.Passing.{Pass, Numbered, onward-passed, onward-read, Refuses, onward-refuses}
 
 -- Behind xs the bytes b begin with records that pass their tests, of the values ys, and go on with the bytes c.
@@ -65,8 +65,8 @@ module _ {A : Type 0} {tests : List A → List ℕ → List Test} {value : List 
   pub encode-reads : (encode : A → List ℕ) (Kept : List ℕ → Type 0) → ((b : List ℕ) → Kept b → Kept (after b))
       → ((xs : List A) (b : List ℕ) → Kept b → Pass (tests xs b) → encode (value b) ++ after b ≡ b)
       → {xs : List A} {b : List ℕ} {ys : List A} {c : List ℕ} → Kept b → Reads tests value xs b ys c
-      → encodeAll encode ys ++ c ≡ b
-  unfolding encodeAll
+      → flatMap encode ys ++ c ≡ b
+  unfolding flatMap
   encode-reads encode Kept keep back k stop = refl
   encode-reads encode Kept keep back k (go {xs} {b} p rest) =
       rw (append-assoc, encode-reads encode Kept keep back (keep b k) rest) (back xs b k p)
@@ -109,11 +109,11 @@ module _ {A R : Type 0} (tests : List A → List ℕ → List Test) (value : Lis
       → ((xs : List A) (y : A) (c : List ℕ) → P xs y
       → Pass (tests xs (encode y ++ c)) × (value (encode y ++ c) ≡ y) × (after (encode y ++ c) ≡ c))
       → (r : ℕ) {xs ys : List A} → Each P xs ys → (c : List ℕ)
-      → readMany tests value rest (length ys) r xs (encodeAll encode ys ++ c) ≡ rest (r + length ys) (xs ++ ys) c
-  unfolding readMany encodeAll
+      → readMany tests value rest (length ys) r xs (flatMap encode ys ++ c) ≡ rest (r + length ys) (xs ++ ys) c
+  unfolding readMany flatMap
   many-encoded encode P good r none c = rw (add-zero, append-nil)
   many-encoded encode P good r (more {xs} {ys} {y} p e) c =
-      let g = good xs y (encodeAll encode ys ++ c) p in
+      let g = good xs y (flatMap encode ys ++ c) p in
       let same : r + 1 + length ys ≡ r + suc (length ys) = omega arith in
       rw append-assoc
       (onward-passed _ r _ (g .0) ∙ rw (g .1, g .2, many-encoded encode P good (r + 1) e c, same, append-assoc))

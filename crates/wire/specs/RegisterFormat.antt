@@ -1,9 +1,10 @@
 -- The reading of a register's rows, to an end or to a refusal: document 01, "Registers" and "Turned back", 10 to 13.
-use Prim.Native.Nat.{ℕ, zero, suc, _+_, _-_, _/_, _%_, _^_}
+use Prim.Native.Nat.{ℕ, zero, suc, _+_, _-_, _/_, _%_}
 use mathlib.Core.Bool.{Bool, true, false, cond, _&&_}
 use mathlib.Core.List.{List, [], _∷_, _++_}
 use lib.ListN.{length, take, drop, getD}
 use lib.Dec.{leb, ltb, eqb}
+use Rattle.laws.specs.Digit.{digit}
 use Rattle.wire.specs.Limits.{rowLimit}
 use Rattle.wire.specs.Edition.{Edition, membershipBytes, groupLimit, rowKind, rowBytes}
 use Rattle.wire.specs.Bytes.{u16At, u32At}
@@ -19,7 +20,7 @@ rowOf e b = record { member = u32At b 4; bits = take (membershipBytes e) (drop 8
 
 -- "group g is bit (g − 1) mod 8 of byte (g − 1) div 8, bit 0 the lowest"
 unfoldable pub inGroup : Row → ℕ → Bool
-inGroup r g = eqb (getD (r .bits) ((g - 1) / 8) 0 / 2 ^ ((g - 1) % 8) % 2) 1
+inGroup r g = eqb (digit (getD (r .bits) ((g - 1) / 8) 0) ((g - 1) % 8)) 1
 
 -- no group above `groups` among the next n has its bit set
 unfoldable pub clearAbove : Row → ℕ → ℕ → Bool

@@ -3,7 +3,7 @@
 use Prim.Native.Nat.{ℕ, zero, suc, _+_, _-_, _*_, _%_, _≤_, _<_}
 use mathlib.Core.Path.{_≡_, refl, sym, _∙_}
 use mathlib.Core.Bool.{true, _&&_}
-use mathlib.Core.List.{List, [], _∷_, _++_, append-assoc}
+use mathlib.Core.List.{List, [], _∷_, _++_, append-assoc, flatMap}
 use native.Mathlib.Omega.{arith}
 use native.Mathlib.Nat.{zero-add, add-zero, suc-add}
 use lib.ListN.{length, take, drop, length-append, take-append-drop}
@@ -19,15 +19,15 @@ use Rattle.wire.specs.Record.{lengthOf, kindOf, after, framed, Test}
 use Rattle.wire.specs.SheetFormat.{HeadRecord, GroupRecord, NameRecord, ClaimRecord, count, inside, apart, Records}
 use Rattle.wire.specs.SheetFormat.{headTests, groupTests, nameTests, claimTests, headOf, groupOf, nameOf, claimOf}
 use Rattle.wire.specs.SheetFormat.{u16s, leftOf, rightOf, allWithin, claimLength, claimFields, claimNames}
-use Rattle.wire.specs.Encoding.{Bytes, GroupRight, NameRight, SideRight, ClaimRight, GroupEnd, ClaimEnd, Right}
-use Rattle.wire.specs.Encoding.{encodeRecord, le16s, encodeHead, encodeGroup, encodeName, encodeClaim}
+use Rattle.wire.specs.Encoding.{Bytes, GroupRight, NameRight, SideRight, ClaimRight, Right}
+use Rattle.wire.specs.Encoding.{encodeRecord, encodeHead, encodeGroup, encodeName, encodeClaim}
 use Rattle.laws.specs.Cases.{and-true}
 use Rattle.wire.specs.Passing.{Pass}
 use Rattle.wire.specs.Sorts.{Framed, HeadRight, group-frame, name-frame, SidesFrame}
 use Rattle.wire.specs.Sorts.{claim-cases, claim-frame, claim-count, claim-inside, claim-apart, length-u16s, label-length}
 use Rattle.wire.specs.Fields.{Fields, none, more, u16s-drop, u16s-le16s, length-le16, length-le16s, drop-le16, drop-le16s}
 use Rattle.wire.specs.Fields.{length-encoded, kind-encoded, body-encoded, after-encoded, framed-encoded, encode-read}
-use Rattle.wire.specs.Facts.{right-few, parent-right}
+use Rattle.wire.specs.Facts.{right-few, parent-right, ClaimEnd}
 
 -- A record whose body is fields of two bytes.
 pub record FieldsOf (b : List ℕ) (kind : ℕ) (xs c : List ℕ) : Type 0 where
@@ -38,27 +38,27 @@ pub record FieldsOf (b : List ℕ) (kind : ℕ) (xs c : List ℕ) : Type 0 where
   pub fields : u16s b 4 (length xs) ≡ xs
 
 fields-encoded : (kind : ℕ) {xs : List ℕ} → kind ≤ 6 → length xs ≤ 2 + (sideLimit + sideLimit) → Fields xs → (c : List ℕ)
-    → FieldsOf (encodeRecord kind (le16s xs) ++ c) kind xs c
+    → FieldsOf (encodeRecord kind (flatMap le16 xs) ++ c) kind xs c
 fields-encoded kind {xs} k l f c =
     let n = length-le16s xs in
     record {
-      frame = framed-encoded kind (le16s xs) c (omega arith) (omega arith);
-      kind-is = kind-encoded kind (le16s xs) c (omega arith) (omega arith);
-      size = rw (← n) (length-encoded kind (le16s xs) c (omega arith) (omega arith));
-      rest = after-encoded kind (le16s xs) c (omega arith) (omega arith);
+      frame = framed-encoded kind (flatMap le16 xs) c (omega arith) (omega arith);
+      kind-is = kind-encoded kind (flatMap le16 xs) c (omega arith) (omega arith);
+      size = rw (← n) (length-encoded kind (flatMap le16 xs) c (omega arith) (omega arith));
+      rest = after-encoded kind (flatMap le16 xs) c (omega arith) (omega arith);
       fields =
-          sym (u16s-drop 4 (encodeRecord kind (le16s xs) ++ c) 0 (length xs))
-          ∙ rw (body-encoded kind (le16s xs) c (omega arith) (omega arith)) (u16s-le16s f c);
+          sym (u16s-drop 4 (encodeRecord kind (flatMap le16 xs) ++ c) 0 (length xs))
+          ∙ rw (body-encoded kind (flatMap le16 xs) c (omega arith) (omega arith)) (u16s-le16s f c);
     }
 
 fields-read : (b : List ℕ) → Bytes b → Framed b → (n : ℕ) → lengthOf b ≡ 2 * n + 2 → (kind : ℕ) → kindOf b ≡ kind
-    → encodeRecord kind (le16s (u16s b 4 n)) ++ after b ≡ b
+    → encodeRecord kind (flatMap le16 (u16s b 4 n)) ++ after b ≡ b
 unfolding after
 fields-read b k f n l kind e =
     let size = length-le16s (u16s b 4 n) in
     let same : lengthOf b + 2 ≡ 4 + 2 * n = omega arith in
     rw (← e)
-    (encode-read b k f (le16s (u16s b 4 n)) (rw same (drop-le16s b k 4 n (omega arith))) (omega (arith, length-u16s b 4 n)))
+    (encode-read b k f (flatMap le16 (u16s b 4 n)) (rw same (drop-le16s b k 4 n (omega arith))) (omega (arith, length-u16s b 4 n)))
 
 -- groups
 group-fields : (g : GroupRecord) → Fields (g .parent ∷ g .lo ∷ g .hi ∷ g .mode ∷ []) → (c : List ℕ)
@@ -92,7 +92,7 @@ abbrev pub Good : {A : Type 0} → (List ℕ → List Test) → (List ℕ → A)
 Good tests value y b c = Pass (tests b) × (value b ≡ y) × (after b ≡ c)
 
 pub group-good : (gs : List GroupRecord) (g : GroupRecord) (c : List ℕ)
-    → GroupRight gs g → GroupEnd gs g → length gs < groupCapacity → Good (groupTests gs) groupOf g (encodeGroup g ++ c) c
+    → GroupRight gs g → g .hi ≤ noEnd → length gs < groupCapacity → Good (groupTests gs) groupOf g (encodeGroup g ++ c) c
 group-good gs g c R e l =
     let p = parent-right (length gs) (g .parent) (R .parent) in
     let f = group-fields g (more (omega arith) (more (omega arith) (more e (more (omega arith) none)))) c in
@@ -185,7 +185,7 @@ sides-fields b =
     rw (length-u16s b 8 (u16At b 4), length-u16s b (8 + 2 * u16At b 4) (u16At b 6), u16s-append b 8 (u16At b 4) (u16At b 6))
 
 sides-back : (names : ℕ) (b : List ℕ) → Bytes b → Framed b → SidesFrame names b → (kind : ℕ) → kindOf b ≡ kind
-    → encodeRecord kind (le16s (sides (leftOf b) (rightOf b))) ++ after b ≡ b
+    → encodeRecord kind (flatMap le16 (sides (leftOf b) (rightOf b))) ++ after b ≡ b
 sides-back names b k f s kind e =
     rw (sides-fields b) (fields-read b k f (suc (suc (u16At b 4 + u16At b 6))) (omega arith) kind e)
 
@@ -298,7 +298,7 @@ count-passes names cs b c n lo hi f R =
     )
 
 sides-encoded : (names : ℕ) (l r : List ℕ) → names ≤ nameLimit → SideRight names l → SideRight names r
-    → (kind : ℕ) → kind ≤ 6 → (c : List ℕ) → FieldsOf (encodeRecord kind (le16s (sides l r)) ++ c) kind (sides l r) c
+    → (kind : ℕ) → kind ≤ 6 → (c : List ℕ) → FieldsOf (encodeRecord kind (flatMap le16 (sides l r)) ++ c) kind (sides l r) c
 sides-encoded names l r most L R kind six c =
     let some : names ≤ noEnd = omega arith in
     let fields = fields-append (within-fields names l some (L .allowed)) (within-fields names r some (R .allowed)) in
@@ -320,7 +320,7 @@ count-value b c n lo hi f =
 sides-good : (names : ℕ) → names ≤ nameLimit → (cs : List ClaimRecord) (made : List ℕ → List ℕ → ClaimRecord) (l r c : List ℕ)
     (kind : ℕ) → 5 ≤ kind → kind ≤ 6 → ((b : List ℕ) → kindOf b ≡ kind → claimOf b ≡ made (leftOf b) (rightOf b))
     → SideRight names l → SideRight names r
-    → Good (claimTests names cs) claimOf (made l r) (encodeRecord kind (le16s (sides l r)) ++ c) c
+    → Good (claimTests names cs) claimOf (made l r) (encodeRecord kind (flatMap le16 (sides l r)) ++ c) c
 sides-good names most cs made l r c kind five six value L R =
     let f = sides-encoded names l r most L R kind six c in
     let s = sides-of _ l r (f .fields) in

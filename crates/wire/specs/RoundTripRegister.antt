@@ -1,8 +1,8 @@
 -- A register is read back from its encoding, and every readable register is the encoding of its rows; the numbers of a refusal.
-use Prim.Native.Nat.{ℕ, zero, suc, _+_, _-_, _≤_}
+use Prim.Native.Nat.{ℕ, zero, suc, _+_, _-_, _≤_, _<_}
 use mathlib.Core.Path.{_≡_, refl, sym, ap, _∙_}
 use mathlib.Core.Bool.{true, _&&_}
-use mathlib.Core.List.{List, [], _∷_, _++_, append-assoc, append-nil}
+use mathlib.Core.List.{List, [], _∷_, _++_, append-assoc, append-nil, flatMap}
 use native.Mathlib.Omega.{arith}
 use lib.ListN.{length, take, drop, length-append, length-take, length-drop, take-append-drop}
 use lib.Seq.{drop-drop, take-at, drop-at}
@@ -14,8 +14,8 @@ use Rattle.wire.specs.EditionFacts.{groups-within, row-kind-fits}
 use Rattle.wire.specs.Bytes.{u16At, u32At, le16, le32}
 use Rattle.wire.specs.Record.{lengthOf, kindOf, after, test, read, refused}
 use Rattle.wire.specs.RegisterFormat.{Row, rowOf, lastMember, rowTests, readRows, readRegister}
-use Rattle.wire.specs.Encoding.{Bytes, Each, none, more, RowRight, RowFits, RowsWithin}
-use Rattle.wire.specs.Encoding.{encodeRecord, encodeAll, encodeRow, encodeRegister}
+use Rattle.wire.specs.Encoding.{Bytes, Each, none, more, RowRight, RowsWithin}
+use Rattle.wire.specs.Encoding.{encodeRecord, encodeRow, encodeRegister}
 use Rattle.laws.specs.Cases.{split, and-true}
 use Rattle.wire.specs.Passing.{Pass, Numbered, onward-passed, onward-read, Refuses, onward-refuses}
 use Rattle.wire.specs.Many.{Reads, stop, go, reads-same, empty-of-length, each-both, each-read, encode-reads}
@@ -71,13 +71,11 @@ module _ (e : Edition) (groups : ℕ) where
         clear = p .1 .1 .0;
       }
 
-  row-fits : (rs : List Row) (b : List ℕ) → Bytes b → Pass (rowTests e groups rs b) → RowFits rs (rowOf e b)
+  row-fits : (rs : List Row) (b : List ℕ) → Bytes b → Pass (rowTests e groups rs b)
+      → (rowOf e b .member < 4294967296) × Bytes (rowOf e b .bits)
   unfolding rowOf u32At
   row-fits rs b k p =
-      record {
-        member = omega (arith, k 4, k 5, k 6, k 7);
-        bytes = bytes-take (membershipBytes e) (drop 8 b) (bytes-drop 8 b k);
-      }
+      (omega (arith, k 4, k 5, k 6, k 7), bytes-take (membershipBytes e) (drop 8 b) (bytes-drop 8 b k))
 
   row-encoded : (rs : List Row) (b : List ℕ) → Bytes b → Pass (rowTests e groups rs b)
       → encodeRow e (rowOf e b) ++ after b ≡ b
@@ -93,14 +91,14 @@ module _ (e : Edition) (groups : ℕ) where
       (omega (arith, length-le32 (u32At b 4) bits, length-take (membershipBytes e) (drop 8 b), length-drop 8 b)))
 
   -- an encoded row that is right passes, and is read with what follows it
-  module _ (rs : List Row) (r : Row) (c : List ℕ) (R : RowRight e groups rs r) (F : RowFits rs r) where
+  module _ (rs : List Row) (r : Row) (c : List ℕ) (R : RowRight e groups rs r) (small : r .member < 4294967296) where
     row-size : length (le32 (r .member) ++ r .bits) ≡ 4 + membershipBytes e
     row-size = omega (arith, length-le32 (r .member) (r .bits), R .width)
 
     row-back : rowOf e (encodeRow e r ++ c) ≡ r
     unfolding rowOf encodeRow encodeRecord le16 le32 u32At
     row-back =
-        let m : u32At (le32 (r .member) ++ c) 0 ≡ r .member = u32-le32 (r .member) c (F .member) in
+        let m : u32At (le32 (r .member) ++ c) 0 ≡ r .member = u32-le32 (r .member) c small in
         rw (m, take-at (r .bits) c (membershipBytes e) (R .width))
 
     row-skipped : drop (rowBytes e) (encodeRow e r ++ c) ≡ c
@@ -113,11 +111,11 @@ module _ (e : Edition) (groups : ℕ) where
     unfolding encodeRow
     row-begins =
         let body = le32 (r .member) ++ r .bits in
-        let small = row-kind-fits e in
+        let kind = row-kind-fits e in
         let fits : length body + 2 ≤ noEnd = omega (arith, row-size, groups-within e) in (
-          omega (arith, row-size, length-record (rowKind e) body c small fits),
-          omega (arith, row-size, length-encoded (rowKind e) body c small fits),
-          kind-encoded (rowKind e) body c small fits,
+          omega (arith, row-size, length-record (rowKind e) body c kind fits),
+          omega (arith, row-size, length-encoded (rowKind e) body c kind fits),
+          kind-encoded (rowKind e) body c kind fits,
         )
 
     row-passes : Pass (rowTests e groups rs (encodeRow e r ++ c))
@@ -155,19 +153,19 @@ module _ (e : Edition) (groups : ℕ) where
       rows-more left rs b qs (s .0)
       (rows-read left (rs ++ (rowOf e b ∷ [])) (after b) qs (rw (after-row rs b (s .0)) at (s .1))))
 
-  rows-encoded : (left : ℕ) {rs ys : List Row} → Each (λ us y. RowRight e groups us y × RowFits us y) rs ys → length ys ≤ left
-      → readRows e groups left rs (encodeAll (encodeRow e) ys) ≡ read (rs ++ ys)
-  unfolding readRows encodeAll
+  rows-encoded : (left : ℕ) {rs ys : List Row} → Each (λ us y. RowRight e groups us y × ((y .member < 4294967296) × Bytes (y .bits))) rs ys → length ys ≤ left
+      → readRows e groups left rs (flatMap (encodeRow e) ys) ≡ read (rs ++ ys)
+  unfolding readRows flatMap
   rows-encoded zero none l = rw append-nil (onward-passed (test 10 true ∷ []) _ _ (refl, tt))
   rows-encoded (suc left) none l = rw append-nil
   rows-encoded zero (more p m) l = absurd (omega arith)
   rows-encoded (suc left) (more {xs} {ys} {y} p m) l =
-      let c = encodeAll (encodeRow e) ys in
-      let s = row-begins xs y c (p .0) (p .1) in
-      let v = row-back xs y c (p .0) (p .1) in
-      let k = row-skipped xs y c (p .0) (p .1) in
+      let c = flatMap (encodeRow e) ys in
+      let s = row-begins xs y c (p .0) (p .1 .0) in
+      let v = row-back xs y c (p .0) (p .1 .0) in
+      let k = row-skipped xs y c (p .0) (p .1 .0) in
       rw (ne-eqb (length (encodeRow e y ++ c)) 0 (omega arith))
-      (onward-passed _ _ _ (row-passes xs y c (p .0) (p .1))
+      (onward-passed _ _ _ (row-passes xs y c (p .0) (p .1 .0))
       ∙ rw (v, k, rows-encoded left m (omega arith), append-assoc))
 
   -- The written register loses nothing.
@@ -192,7 +190,7 @@ module _ (e : Edition) (groups : ℕ) where
   unfolding encodeRegister
   readable-register-is-encoded b k rs x =
       let s = register-read b rs x in (
-        sym (append-nil (encodeAll (encodeRow e) rs)) ∙ encode-reads (encodeRow e) Bytes bytes-after row-encoded k (s .rows),
+        sym (append-nil (flatMap (encodeRow e) rs)) ∙ encode-reads (encodeRow e) Bytes bytes-after row-encoded k (s .rows),
         record { rowCount = s .rowCount; right = s .right; fits = each-read Bytes bytes-after row-fits k (s .rows) },
       )
 

@@ -7,9 +7,9 @@ use borrow.Author.Tests.{not-true, not-false}
 use Rattle.reading.specs.SheetIn.{sheetIn}
 use Rattle.reading.specs.ClaimTable.{length-claimsIn}
 use Rattle.reading.specs.Loaded.{loaded-sheet, loaded-held, loaded-refused}
-use Rattle.group_sheet.specs.ClaimReply.{VerdictUnder}
-use Rattle.group_sheet.proofs.ReplyLaws.{read-not-refused, as-read, turned-back}
-use Rattle.group_sheet.proofs.RangesLaws.{tabled}
+use Rattle.claim_reply.specs.ClaimReply.{ClaimVerdict}
+use Rattle.replies.proofs.ReplyLaws.{read-not-refused, as-read, turned-back}
+use Rattle.group_sheet.proofs.TabledLaws.{tabled}
 use Rattle.group_sheet.proofs.ClaimLaws.{verdict-on, claim-askable, claim-told}
 use borrow.Author.Needs.{needs}
 use Rattle.group_sheet.proofs.claim.sheet_claim.Statement.{statement}
@@ -63,7 +63,7 @@ returns c =
     let fit = c .before .before .some-fit .ensures in
     record {
       turned = λ n k f. absurd (read-not-refused e f);
-      passed = as-read (λ d. VerdictUnder d _ _) e (record {
+      passed = as-read (λ d. ClaimVerdict _ d _) e (record {
         impossible = λ i. record { returned = c .pack2 .ensures; unchanged = refl };
         possible = λ p. absurd (false≢true (sym (not-true _ (c .before .if1 .taken)) ∙ fit .1 p));
       });
@@ -81,7 +81,7 @@ returns-2 c =
     let fit = c .before .before .before .some-fit .ensures in
     record {
       turned = λ n k f. absurd (read-not-refused e f);
-      passed = as-read (λ d. VerdictUnder d _ _) e (record {
+      passed = as-read (λ d. ClaimVerdict _ d _) e (record {
         impossible = λ i. absurd (i (fit .0 (not-false _ (c .before .before .if1 .left))));
         possible = λ p. record {
           unnumbered = λ o. record { returned = c .pack3 .ensures; unchanged = refl };
@@ -105,7 +105,7 @@ returns-3 c =
     let fit = c .before .before .before .before .before .some-fit .ensures in
     record {
       turned = λ n k f. absurd (read-not-refused e f);
-      passed = as-read (λ d. VerdictUnder d _ _) e (record {
+      passed = as-read (λ d. ClaimVerdict _ d _) e (record {
         impossible = λ i. absurd (i (fit .0 (not-false _ (c .before .before .before .before .if1 .left))));
         possible = λ p. record {
           unnumbered = λ o. record { returned = c .pack4 .ensures; unchanged = refl };
@@ -168,7 +168,7 @@ returns-5 c =
     let x = c .before .before .before .before .before .before .before .claim-in .ensures in
     record {
       turned = λ n k f. absurd (read-not-refused e f);
-      passed = as-read (λ d. VerdictUnder d _ _) e (record {
+      passed = as-read (λ d. ClaimVerdict _ d _) e (record {
         impossible = λ i. absurd (i (fit .0 (not-false _ (c .before .before .before .before .before .before .before .before .before .before .before .before .before .if1 .left))));
         possible = λ p. record {
           unnumbered = λ o. absurd (⊎-elim (c .before .before .before .before .before .before .before .before .before .before .before .before .if2 .left) (λ b. omega (arith, simp length-claimsIn at b)) o);

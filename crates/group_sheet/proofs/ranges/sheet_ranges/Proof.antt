@@ -5,9 +5,9 @@ use borrow.Author.Needs.{needs}
 use Rattle.meaning.specs.OfRecords.{sheetOf}
 use Rattle.reading.specs.SheetIn.{sheetIn}
 use Rattle.reading.specs.Loaded.{loaded-sheet, loaded-held, loaded-refused}
-use Rattle.group_sheet.specs.RangesReply.{RangesUnder}
-use Rattle.group_sheet.proofs.ReplyLaws.{read-not-refused, as-read, turned-back}
-use Rattle.group_sheet.proofs.RangesLaws.{tabled}
+use Rattle.range_reply.specs.RangesReply.{Ranges}
+use Rattle.replies.proofs.ReplyLaws.{read-not-refused, as-read, turned-back}
+use Rattle.group_sheet.proofs.TabledLaws.{tabled}
 use Rattle.group_sheet.proofs.ranges.sheet_ranges.Statement.{statement}
 use Rattle.group_sheet.proofs.ranges.sheet_ranges.Tie as tie
 
@@ -38,11 +38,11 @@ pack-requires c κs = search needs
 enum-known-head : tie.Need-enum-known-head
 enum-known-head c = search needs
 
-slice-aggregate-answer : tie.Need-slice-aggregate-answer
-slice-aggregate-answer c = search needs
+slice-aggregate-give-ranges : tie.Need-slice-aggregate-give-ranges
+slice-aggregate-give-ranges c = search needs
 
-answer-requires : tie.Need-answer-requires
-answer-requires c κs =
+give-ranges-requires : tie.Need-give-ranges-requires
+give-ranges-requires c κs =
     let w = c .before .before .before .before .before .before .before .before .before .before .load-sheet .ensures in
     let e = c .before .before .before .head .given .1 in
     tabled _ _ _ _ (loaded-sheet w _ e) refl (omega (arith, loaded-held w _ e .limits .fewGroups))
@@ -64,7 +64,7 @@ returns-2 c =
     let e = loaded-sheet (c .before .before .before .before .before .before .before .before .before .before .before .before .before .load-sheet .ensures) _ (c .before .before .before .before .before .before .head .given .1) in
     record {
       turned = λ n k f. absurd (read-not-refused e f);
-      passed = as-read (λ d. RangesUnder (sheetOf (d .groups)) _) e (c .before .before .answer .ensures);
+      passed = as-read (λ d. Ranges (sheetOf (d .groups)) _) e (c .before .before .give-ranges .ensures);
     }
 
 pub sheet-ranges-spec : {M : Type 1} → statement M
@@ -80,8 +80,8 @@ sheet-ranges-spec =
     enum-known-n
     pack-requires
     enum-known-head
-    slice-aggregate-answer
-    answer-requires
+    slice-aggregate-give-ranges
+    give-ranges-requires
     returns
     same-length
     returns-2)

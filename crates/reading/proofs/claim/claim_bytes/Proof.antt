@@ -1,6 +1,7 @@
 -- `claim_bytes` meets its contract, by the three cases.
+use mathlib.Core.List.{flatMap}
 use Rattle.wire.specs.Bytes.{le16}
-use Rattle.wire.specs.Encoding.{encodeRecord, le16s, encodeClaim}
+use Rattle.wire.specs.Encoding.{encodeRecord, encodeClaim}
 use Rattle.reading.proofs.Carried.{lists-bytes}
 use borrow.Author.Needs.{needs}
 use Rattle.reading.proofs.claim.claim_bytes.Statement.{statement}
@@ -22,7 +23,7 @@ lists-bytes-requires-2 : tie.Need-lists-bytes-requires-2
 lists-bytes-requires-2 c κs = search needs
 
 returns : tie.Need-returns
-unfolding encodeClaim encodeRecord le16s le16
+unfolding encodeClaim encodeRecord flatMap le16
 returns c = λ s. rw (c .enum-told .given .1)
 
 returns-2 : tie.Need-returns-2

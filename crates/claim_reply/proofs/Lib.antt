@@ -1,0 +1,2 @@
+pub mod ShownAlike
+pub mod DenialLaws

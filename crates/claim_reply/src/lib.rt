@@ -1,0 +1,65 @@
+// The reply to `sheet_claim` on a claim of a possible sheet: the verdict, with sets where it is denied, or refusal 14.
+// `specs/ClaimReply` writes the operation down.
+// Document 01, "Meaning", "The arrangement" (denials), "Replies".
+use claims::decide::decide;
+use claims::verdict::Verdict;
+use claims::verdict::verdict_number;
+use reading::claim::Claim;
+use reading::tables::GROUP_CAPACITY;
+use replies::SHOWN_BYTES;
+use replies::VERDICT_BYTES;
+use replies::pairs::pack;
+use replies::put_sets;
+use replies::put_verdict;
+ghost use Rattle.reading.specs.ClaimHeld.{claimRecord};
+ghost use Rattle.reading.specs.SheetIn.{sheetIn, Tabled};
+ghost use Rattle.claims.specs.Named.{Askable, claimMeant};
+ghost use Rattle.replies.specs.Reply.{call};
+ghost use Rattle.claim_reply.specs.ClaimReply.{VerdictOn};
+
+// The verdict on a claim, with sets where it is denied, into a buffer with room for this verdict.
+pub fn give_verdict(
+    sheet: &[u8],
+    c: Claim,
+    names: &[u16],
+    groups: &mut [u16],
+    size: u16,
+    reply: &mut [u8],
+) -> u64
+    requires { ⌜ Tabled (now groups) size × Askable (now sheet) c (now names) size ⌝ }
+    ensures { λ r. ⌜ VerdictOn (sheetIn (now (groups .entry)) size) (claimMeant (now (names .entry)) (claimRecord (now
+        (sheet .entry)) c))
+        (call (now (reply .entry)) r (now (reply .exit))) ⌝ }
+{
+    let mut firsts = [0u32; GROUP_CAPACITY];
+    let mut sizes = [0u32; GROUP_CAPACITY];
+    let mut marks = [0u8; GROUP_CAPACITY];
+    let v = decide(
+        sheet,
+        c,
+        names,
+        groups,
+        size,
+        &mut firsts,
+        &mut sizes,
+        &mut marks,
+    );
+    match v {
+        Verdict::Holds => {
+            if reply.len() < VERDICT_BYTES {
+                return pack(14, 0); // no room to say that it holds
+            }
+            put_verdict(reply, verdict_number(v));
+            pack(0, 6)
+        }
+        Verdict::Denied => {
+            let bytes = VERDICT_BYTES + SHOWN_BYTES * size as usize;
+            if reply.len() < bytes {
+                return pack(14, 0); // no room for the sets
+            }
+            put_verdict(reply, verdict_number(v));
+            put_sets(reply, size, &firsts, &sizes, &marks);
+            pack(0, 6 + 14 * size as u32)
+        }
+    }
+}

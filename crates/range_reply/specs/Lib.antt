@@ -1,0 +1,2 @@
+pub mod RangesReply
+pub mod RangesGiven

@@ -1,0 +1,25 @@
+// The reply to `sheet_register` under a sheet that was read: the register's refusal, or the answer of its check.
+// `specs/RegisterReply` writes the operation down.
+// Document 01, "Registers", "Replies", refusals 10 to 14.
+use registers::check::Check;
+use registers::check::check_register;
+use replies::give_answer;
+use replies::pairs::pack;
+ghost use Rattle.wire.specs.Edition.{edition1};
+ghost use Rattle.reading.specs.SheetIn.{sheetIn};
+ghost use Rattle.registers.specs.Tallies.{Checkable};
+ghost use Rattle.replies.specs.Reply.{call};
+ghost use Rattle.register_reply.specs.RegisterReply.{Register};
+
+// The reply under a sheet whose groups are in the table.
+pub fn give_check(groups: &[u16], size: u16, register: &[u8], reply: &mut [u8]) -> u64
+    requires { ⌜ Checkable (now groups) size ⌝ }
+    ensures { λ r. ⌜ Register (now (register .entry)) edition1 (sheetIn (now (groups .entry)) size) (call (now (reply .entry)) r (now
+        (reply .exit))) ⌝ }
+{
+    match check_register(groups, size, register) {
+        Check::Refused(n, row) => pack(n, row),
+        Check::Broken(group, rule) => give_answer(reply, group.0, rule),
+        Check::Fits => give_answer(reply, 0, 0),
+    }
+}
