@@ -1,7 +1,6 @@
 // The reply to `sheet_claim` on a claim of a possible sheet: the verdict, with sets where it is denied, or refusal 14.
 // `specs/ClaimReply` writes the operation down.
 // Document 01, "Meaning", "The arrangement" (denials), "Replies".
-use replies::pairs::pack;
 use claims::decide::decide;
 use claims::verdict::Verdict;
 use claims::verdict::verdict_number;
@@ -9,6 +8,7 @@ use reading::claim::Claim;
 use reading::tables::GROUP_CAPACITY;
 use replies::SHOWN_BYTES;
 use replies::VERDICT_BYTES;
+use replies::pairs::pack;
 use replies::put_sets;
 use replies::put_verdict;
 ghost use Rattle.reading.specs.ClaimHeld.{claimRecord};

@@ -1,6 +1,5 @@
 // Ranges with an arrangement.
 use range_reply::give_ranges;
-use replies::pairs::pack;
 use reading::load::Loaded;
 use reading::load::load_sheet;
 use reading::tables::CLAIM_TABLE;
@@ -8,6 +7,7 @@ use reading::tables::GROUP_TABLE;
 use reading::tables::LABEL_TABLE;
 use reading::tables::NAME_TABLE;
 use reading::tables::PLACE_TABLE;
+use replies::pairs::pack;
 ghost use Rattle.meaning.specs.OfRecords.{sheetOf};
 ghost use Rattle.replies.specs.Reply.{call, OnceSheet};
 ghost use Rattle.range_reply.specs.RangesReply.{Ranges};

@@ -1,5 +1,4 @@
 // The check of a register.
-use replies::pairs::pack;
 use reading::load::Loaded;
 use reading::load::load_sheet;
 use reading::tables::CLAIM_TABLE;
@@ -8,6 +7,7 @@ use reading::tables::LABEL_TABLE;
 use reading::tables::NAME_TABLE;
 use reading::tables::PLACE_TABLE;
 use register_reply::give_check;
+use replies::pairs::pack;
 ghost use Rattle.meaning.specs.OfRecords.{sheetOf};
 ghost use Rattle.replies.specs.Reply.{call, OnceSheet};
 ghost use Rattle.register_reply.specs.RegisterReply.{Register};

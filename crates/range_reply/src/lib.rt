@@ -1,14 +1,14 @@
 // The reply to `sheet_ranges` under a sheet that was read: ranges with an arrangement, or a refusal.
 // `specs/RangesReply` writes the operation down.
 // Document 01, "Ranges", "The arrangement", "Replies", refusals 8 and 14.
-use ranging::fitting::measure;
-use replies::pairs::pack;
 use measuring::pairs::PAIR_TABLE;
 use ranging::arrange::arrange;
+use ranging::fitting::measure;
 use ranging::narrow::narrow;
 use ranging::tables::SPAN_TABLE;
 use reading::tables::GROUP_CAPACITY;
 use replies::RANGE_BYTES;
+use replies::pairs::pack;
 use replies::put_ranges;
 ghost use Rattle.reading.specs.SheetIn.{sheetIn, Tabled};
 ghost use Rattle.replies.specs.Reply.{call};

@@ -1,7 +1,7 @@
 // Whether some sets fit a sheet, for all operations that ask it.
+use crate::narrow::possible;
 use measuring::measure::measure_sheet;
 use measuring::pairs::PAIR_TABLE;
-use crate::narrow::possible;
 use reading::tables::GROUP_CAPACITY;
 ghost use mathlib.Core.Path.{_≡_};
 ghost use mathlib.Core.Bool.{true};
