@@ -8,10 +8,10 @@ use native.Mathlib.Omega.{arith}
 use native.Mathlib.Nat.{le-refl}
 use borrow.Author.Tests.{eq-eqb, ne-eqb}
 use lib.ListN.{length, getD, set, length-set}
-use lib.Seq.{getD-set-same, getD-set-other}
+use lib.Seq.{set-set, set-getD, getD-set-same, getD-set-other}
 use Rattle.wire.specs.Limits.{noEnd}
 use Rattle.laws.specs.Sum.{sum, bit}
-use Rattle.meaning.specs.Sheet.{Sheet, Group, Son, Top, fin, endOf}
+use Rattle.meaning.specs.Sheet.{Sheet, Group, Son, Top, fin, AtMost, endOf}
 use Rattle.meaning.specs.Tree.{Tree}
 use Rattle.meaning.specs.Claim.{counted}
 use Rattle.reading.specs.Modes.{disjointMode, coverMode, sameMode}
@@ -26,32 +26,29 @@ use Rattle.meaning.proofs.SonLaws.{son-of, son-is}
 use Rattle.sizes.specs.Runs.{above-runs}
 use Rattle.sizes.specs.Possible.{Sizes, nowhere, sizes-choice, possible}
 use Rattle.sizes.specs.ClaimsPlace.{isIn, placeIn, place}
-use Rattle.sizes.specs.ClaimsCount.{rebound, narrowHi, narrowLo, narrowHi-sizes, narrowLo-sizes, narrowHi-choice, narrowLo-choice}
+use Rattle.sizes.specs.ClaimsCount.{rebound, tree-rebound, narrowHi, narrowLo, narrowHi-sizes, narrowLo-sizes, narrowHi-choice, narrowLo-choice}
 use Rattle.sizes.specs.ClaimsMath.{MoreThan, breakable-size, breakable-empty, empty-breaks, shown-breaks-count}
 use Rattle.runs.specs.Told.{numberIn}
 use Rattle.reading.specs.SheetIn.{Tabled}
-use Rattle.reading.specs.SheetIn.{sheetIn, size-in, parent-in, lo-in, hi-in, disjoint-in, cover-in, same-in}
+use Rattle.reading.specs.SheetIn.{sheetIn, size-in, group-in, parent-in, lo-in, hi-in, disjoint-in, cover-in, same-in}
 use Rattle.choosing.specs.Divided.{markedIn}
 use Rattle.claims.specs.Witnessed.{Witnessed, witnessed-yes, witnessed-no, witnessed-as}
 use Rattle.claims.specs.Judged.{Fitting, Denial, Judged}
 use Rattle.claims.specs.Places.{PlaceJudged}
 
--- sizes without a condition, with at most and at least k members in group g
+-- sizes without a condition, with from lo to hi members in group g
 abbrev pub Any : (ℕ → ℕ) → Type 0
 Any f = Unit {0}
 
-abbrev pub Few : ℕ → ℕ → (ℕ → ℕ) → Type 0
-Few g k f = f g ≤ k
-
-abbrev pub Many : ℕ → ℕ → (ℕ → ℕ) → Type 0
-Many g k f = k ≤ f g
+abbrev pub Between : ℕ → ℕ → Top → (ℕ → ℕ) → Type 0
+Between g lo hi f = (lo ≤ f g) × AtMost (f g) hi
 
 -- with fewer than lo members in g, and with more than the upper end
-abbrev pub Under : ℕ → ℕ → (ℕ → ℕ) → Type 0
-Under g lo f = f g < lo
+abbrev pub CountUnder : ℕ → ℕ → (ℕ → ℕ) → Type 0
+CountUnder g lo f = f g < lo
 
-abbrev pub Over : ℕ → Top → (ℕ → ℕ) → Type 0
-Over g hi f = MoreThan (f g) hi
+abbrev pub CountOver : ℕ → Top → (ℕ → ℕ) → Type 0
+CountOver g hi f = MoreThan (f g) hi
 
 -- the counts that numbers and marks in tables give
 abbrev pub counts : List ℕ → List ℕ → ℕ → ℕ
@@ -163,27 +160,28 @@ module _ {s r : Sheet} (w : Same s r) where
   }
 
 -- a condition that narrows a sheet: the sizes of the narrowed one are those of the sheet that meet it
-pub sized-narrow : {s u v : Sheet} {P : (ℕ → ℕ) → Type 0} {sizes marks : List ℕ} {x : Bool} → Same u v → s .size ≡ u .size
+pub sized-narrow : {s u v : Sheet} {P Q : (ℕ → ℕ) → Type 0} {sizes marks : List ℕ} {x : Bool} → Same u v → s .size ≡ u .size
     → ((may : ℕ → Bool → Bool) (f : ℕ → ℕ) (M : ℕ → Bool) → Choice v may f M → Choice s may f M × P (λ g. f g + bit (M g)))
-    → ((f : ℕ → ℕ) → Sizes s f → P f → Sizes v f) → Sized u Any sizes marks x → Sized s P sizes marks x
+    → ((f : ℕ → ℕ) → Sizes s f → P f → Sizes v f) → Sized u Q sizes marks x → Sized s (λ f. P f × Q f) sizes marks x
 sized-narrow w n i o z =
     witnessed-as
-    (λ y. let f = y .0 in let c = i (f .may) _ _ (choice-same w (f .choice)) in (
+    (λ y. let f = y .0 .found in let c = i (y .0 .may) _ _ (choice-same w (f .choice)) in (
       record {
-        may = f .may;
-        choice = c .0;
-        top = f .top;
-        bits = λ g q. f .bits g (record { first = q .first; last = omega (arith, q .last, n) });
+        may = y .0 .may;
+        root = y .0 .root;
+        found = record {
+          choice = c .0;
+          top = f .top;
+          state = f .state;
+          bits = λ g q. f .bits g (record { first = q .first; last = omega (arith, q .last, n) });
+        };
       },
-      c .1,
+      (c .1, y .1),
     ))
-    (λ y. (y .0, sizes-same (same-turned w) (o (y .0) (y .1) (y .2)), tt))
+    (λ y. (y .0, sizes-same (same-turned w) (o (y .0) (y .1) (y .2 .0)), y .2 .1))
     z
 
--- bounds bear neither on the tree nor on its root
-tree-bound : (s : Sheet) (l : ℕ → ℕ) (h : ℕ → Top) → Tree s → Tree (rebound s l h)
-tree-bound s l h t = record { before = λ g q. t .before g (record { first = q .first; last = q .last }) }
-
+-- bounds do not bear on the root
 rooted-bound : (s : Sheet) (l : ℕ → ℕ) (h : ℕ → Top) → Rooted s → Rooted (rebound s l h)
 rooted-bound s l h t = record {
   one = record { first = t .one .first; last = t .one .last };
@@ -201,9 +199,6 @@ end-smaller h k l =
     (λ o. rw (ne-eqb (min h k) noEnd n, ne-eqb h noEnd o))
 
 module _ (t : List ℕ) (n g : ℕ) (a : 1 ≤ g) (b : g ≤ n) (l : 4 * n ≤ length t) where
-  group-in : (u v : List ℕ) {h : ℕ} → Group (sheetIn u n) h → Group (sheetIn v n) h
-  group-in u v q = record { first = q .first; last = omega (arith, q .last, size-in u n, size-in v n) }
-
   -- a bound of g stored (lo is field 1 of its record, hi field 2): the sheet with other bounds
   stored : (j x : ℕ) (L : ℕ → ℕ) (H : ℕ → Top) → 1 ≤ j → j ≤ 2
       → ((h : ℕ) → Group (sheetIn t n) h → getD (set t (4 * (g - 1) + j) x) (4 * (h - 1) + 1) 0 ≡ L h)
@@ -211,7 +206,8 @@ module _ (t : List ℕ) (n g : ℕ) (a : 1 ≤ g) (b : g ≤ n) (l : 4 * n ≤ l
       → Same (sheetIn (set t (4 * (g - 1) + j) x) n) (rebound (sheetIn t n) L H)
   stored j x L H low high lo hi =
       let u : List ℕ = set t (4 * (g - 1) + j) x in
-      let back : (h : ℕ) → Group (sheetIn u n) h → Group (sheetIn t n) h = λ h q. group-in u t q in
+      let back : (h : ℕ) → Group (sheetIn u n) h → Group (sheetIn t n) h =
+      λ h q. group-in t n (q .first) (omega (arith, q .last, size-in u n)) in
       let mode : (h : ℕ) → getD u (4 * (h - 1) + 3) 0 ≡ getD t (4 * (h - 1) + 3) 0 =
       λ h. getD-set-other t (4 * (g - 1) + j) (4 * (h - 1) + 3) x 0 (λ e. omega arith) in
       record {
@@ -227,7 +223,7 @@ module _ (t : List ℕ) (n g : ℕ) (a : 1 ≤ g) (b : g ≤ n) (l : 4 * n ≤ l
       }
 
   here : Group (sheetIn t n) g
-  here = record { first = a; last = omega (arith, size-in t n) }
+  here = group-in t n a b
 
   pub same-hi : (k : ℕ) → k < noEnd
       → Same (sheetIn (set t (4 * (g - 1) + 2) (min (getD t (4 * (g - 1) + 2) 0) k)) n) (narrowHi (sheetIn t n) g k)
@@ -255,43 +251,72 @@ module _ (t : List ℕ) (n g : ℕ) (a : 1 ≤ g) (b : g ≤ n) (l : 4 * n ≤ l
       (getD-set-other t i (4 * (h - 1) + 1) x 0 (λ e. m (omega (arith, q .first))) ∙ sym (lo-in t n h q))))
       (λ h q. ap (endOf noEnd) (getD-set-other t i (4 * (h - 1) + 2) x 0 (λ e. omega arith)) ∙ sym (hi-in t n h q))
 
-  -- what the narrowed table says of the sheet
-  pub few-sized : (k : ℕ) → k < noEnd → {sizes marks : List ℕ} {x : Bool}
-      → Sized (sheetIn (set t (4 * (g - 1) + 2) (min (getD t (4 * (g - 1) + 2) 0) k)) n) Any sizes marks x
-      → Sized (sheetIn t n) (Few g k) sizes marks x
-  few-sized k o z =
-      sized-narrow (same-hi k o) (size-in t n ∙ sym (size-in _ n)) (λ may f M c. narrowHi-choice g k here .0 c)
-      (λ f y p. narrowHi-sizes g k here .1 (y, p)) z
-
-  pub many-sized : (k : ℕ) → {sizes marks : List ℕ} {x : Bool}
-      → Sized (sheetIn (set t (4 * (g - 1) + 1) (max (getD t (4 * (g - 1) + 1) 0) k)) n) Any sizes marks x
-      → Sized (sheetIn t n) (Many g k) sizes marks x
-  many-sized k z =
+  -- what the table with one bound narrowed says of the sheet
+  least-sized : {Q : (ℕ → ℕ) → Type 0} {sizes marks : List ℕ} {x : Bool} (k : ℕ)
+      → Sized (sheetIn (set t (4 * (g - 1) + 1) (max (getD t (4 * (g - 1) + 1) 0) k)) n) Q sizes marks x
+      → Sized (sheetIn t n) (λ f. (k ≤ f g) × Q f) sizes marks x
+  least-sized k z =
       sized-narrow (same-lo k) (size-in t n ∙ sym (size-in _ n)) (λ may f M c. narrowLo-choice g k here .0 c)
       (λ f y p. narrowLo-sizes g k here .1 (y, p)) z
 
-  -- the narrowed table is that of a tree
-  grown-bound : (u : List ℕ) (L : ℕ → ℕ) (H : ℕ → Top) → length u ≡ length t → Same (sheetIn u n) (rebound (sheetIn t n) L H)
-      → Tabled t n → Tabled u n
+  most-sized : {Q : (ℕ → ℕ) → Type 0} {sizes marks : List ℕ} {x : Bool} (k : ℕ) → getD t (4 * (g - 1) + 2) 0 ≤ noEnd
+      → k ≤ noEnd → Sized (sheetIn (set t (4 * (g - 1) + 2) (min (getD t (4 * (g - 1) + 2) 0) k)) n) Q sizes marks x
+      → Sized (sheetIn t n) (λ f. AtMost (f g) (endOf noEnd k) × Q f) sizes marks x
+  unfolding endOf
+  most-sized k h o z =
+      compare-eq k noEnd
+      (λ e. let m : min (getD t (4 * (g - 1) + 2) 0) k ≡ getD t (4 * (g - 1) + 2) 0 = omega arith in
+      rw e
+      (witnessed-as (λ y. (y .0, (tt, y .1))) (λ y. (y .0, y .1, y .2 .1)) (rw (m, set-getD t (4 * (g - 1) + 2) 0) at z)))
+      (λ m. rw (ne-eqb k noEnd m)
+      (sized-narrow (same-hi k (omega arith)) (size-in t n ∙ sym (size-in _ n)) (λ may f M c. narrowHi-choice g k here .0 c)
+      (λ f y p. narrowHi-sizes g k here .1 (y, p)) z))
+
+  -- the table with another bound is that of a tree
+  pub tabled-stored : {u : List ℕ} (j x : ℕ) → 1 ≤ j → j ≤ 2 → u ≡ set t (4 * (g - 1) + j) x → Tabled t n → Tabled u n
   unfolding sheetIn
-  grown-bound u L H e w v = record {
-    some = v .some;
-    small = v .small;
-    long = omega (arith, v .long);
-    tree = tree-same (same-turned w) (tree-bound (sheetIn t n) L H (v .tree));
-    rooted = rooted-same (same-turned w) (rooted-bound (sheetIn t n) L H (v .rooted));
-  }
+  tabled-stored j x low high e v =
+      let u : List ℕ = set t (4 * (g - 1) + j) x in
+      let L : ℕ → ℕ = λ h. getD u (4 * (h - 1) + 1) 0 in
+      let H : ℕ → Top = λ h. endOf noEnd (getD u (4 * (h - 1) + 2) 0) in
+      let w = same-turned (stored j x L H low high (λ h q. refl) (λ h q. refl)) in
+      rw e
+      (record {
+        some = v .some;
+        small = v .small;
+        long = omega (arith, v .long, length-set t (4 * (g - 1) + j) x);
+        tree = tree-same w (tree-rebound (sheetIn t n) _ L _ H (v .tree));
+        rooted = rooted-same w (rooted-bound (sheetIn t n) L H (v .rooted));
+      })
 
-  pub grown-hi : (k : ℕ) → k < noEnd → Tabled t n → Tabled (set t (4 * (g - 1) + 2) (min (getD t (4 * (g - 1) + 2) 0) k)) n
-  grown-hi k o w = grown-bound _ _ _ (length-set t _ _) (same-hi k o) w
+-- both bounds narrowed
+pub between-sized : {u v sizes marks : List ℕ} {x : Bool} (t : List ℕ) (n g lo hi : ℕ) → 1 ≤ g → g ≤ n → 4 * n ≤ length t
+    → 4 * n ≤ length u
+    → u ≡ set t (4 * (g - 1) + 1) (max (getD t (4 * (g - 1) + 1) 0) lo)
+    → v ≡ set u (4 * (g - 1) + 2) (min (getD u (4 * (g - 1) + 2) 0) hi) → getD u (4 * (g - 1) + 2) 0 ≤ noEnd → hi ≤ noEnd
+    → Sized (sheetIn v n) Any sizes marks x → Sized (sheetIn t n) (Between g lo (endOf noEnd hi)) sizes marks x
+between-sized {u} t n g lo hi a b l m e o h k z =
+    witnessed-as
+    (λ y. (y .0, (y .1 .0, y .1 .1 .0)))
+    (λ y. (y .0, y .1, (y .2 .0, (y .2 .1, tt))))
+    (least-sized t n g a b l lo (rw e at (most-sized u n g a b m hi h k (rw o at z))))
 
-  pub grown-lo : (k : ℕ) → Tabled t n → Tabled (set t (4 * (g - 1) + 1) (max (getD t (4 * (g - 1) + 1) 0) k)) n
-  grown-lo k w = grown-bound _ _ _ (length-set t _ _) (same-lo k) w
+-- two places of a table stored over, and stored back
+pub stored-back : {u v w z : List ℕ} {p q : ℕ} (t : List ℕ) (i j x y : ℕ) → u ≡ set t i x → v ≡ set u j y → p ≡ getD t i 0
+    → q ≡ getD u j 0 → w ≡ set v j q → z ≡ set w i p → z ≡ t
+stored-back {u} t i j x y e o h k f d =
+    d ∙ rw (f, o, k, set-set u j y _, set-getD u j 0, e, h) (set-set t i x _ ∙ set-getD t i 0)
 
 -- fewer than lo: at most lo - 1, where lo is not 0
-pub sized-under : {s : Sheet} {sizes marks : List ℕ} {x : Bool} (g lo k : ℕ) → k + 1 ≡ lo → Sized s (Few g k) sizes marks x
-    → Sized s (Under g lo) sizes marks x
-sized-under g lo k e z = witnessed-as (λ y. (y .0, omega (arith, y .1))) (λ y. (y .0, y .1, omega (arith, y .2))) z
+pub sized-under : {s : Sheet} {sizes marks : List ℕ} {x : Bool} (g lo k : ℕ) → k + 1 ≡ lo → k < noEnd
+    → Sized s (Between g 0 (endOf noEnd k)) sizes marks x → Sized s (CountUnder g lo) sizes marks x
+unfolding endOf
+sized-under g lo k e l z =
+    let n = ne-eqb k noEnd (λ i. omega arith) in
+    witnessed-as
+    (λ y. (y .0, let q = rw n at (y .1 .1) in omega arith))
+    (λ y. (y .0, y .1, (omega arith, rw n (omega (arith, y .2)))))
+    z
 
 pub sized-never : {s : Sheet} {P : (ℕ → ℕ) → Type 0} {sizes marks : List ℕ} → ((f : ℕ → ℕ) → P f → ⊥)
     → Sized s P sizes marks false
@@ -299,16 +324,16 @@ sized-never h = witnessed-no (λ y. h (y .0) (y .2))
 
 -- more than hi: at least hi + 1, where hi is an upper end
 pub sized-over : {s : Sheet} {sizes marks : List ℕ} {x : Bool} (g h : ℕ) → (h ≡ noEnd → ⊥)
-    → Sized s (Many g (h + 1)) sizes marks x
-    → Sized s (Over g (endOf noEnd h)) sizes marks x
+    → Sized s (Between g (h + 1) (endOf noEnd noEnd)) sizes marks x
+    → Sized s (CountOver g (endOf noEnd h)) sizes marks x
 unfolding endOf
 sized-over g h n z =
     witnessed-as
-    (λ y. (y .0, rw (ne-eqb h noEnd n) (omega (arith, y .1))))
-    (λ y. (y .0, y .1, let q = rw (ne-eqb h noEnd n) at (y .2) in omega arith))
+    (λ y. (y .0, rw (ne-eqb h noEnd n) (omega (arith, y .1 .0))))
+    (λ y. (y .0, y .1, (let q = rw (ne-eqb h noEnd n) at (y .2) in omega arith, tt)))
     z
 
-pub over-never : {s : Sheet} {sizes marks : List ℕ} (g h : ℕ) → h ≡ noEnd → Sized s (Over g (endOf noEnd h)) sizes marks false
+pub over-never : {s : Sheet} {sizes marks : List ℕ} (g h : ℕ) → h ≡ noEnd → Sized s (CountOver g (endOf noEnd h)) sizes marks false
 unfolding endOf
 over-never g h e = sized-never (λ f p. rw e at p)
 
@@ -326,18 +351,18 @@ empty-kept lo hi e = witnessed-no (λ w. let l = breakable-empty lo hi .0 w .1 i
 
 -- a count claim on a group: too few, then too many
 count-denied : {s : Sheet} {sizes marks : List ℕ} (g lo : ℕ) (hi : Top) → Tree s → Group s g → Fitting s sizes marks
-    → Under g lo (counts sizes marks) ⊎ Over g hi (counts sizes marks) → Denial s (counted g lo hi) sizes marks
+    → CountUnder g lo (counts sizes marks) ⊎ CountOver g hi (counts sizes marks) → Denial s (counted g lo hi) sizes marks
 count-denied {s} {sizes} g lo hi t q f w = record {
   fitting = f;
-  breaks = λ st h. shown-breaks-count t (f .choice) h _ g lo hi q (above-runs (s .size) st (numberIn sizes) g (q .last)) w;
+  breaks = λ st h. shown-breaks-count t (f .found .choice) h _ g lo hi q (above-runs (s .size) st (numberIn sizes) g (q .last)) w;
 }
 
 pub under-judged : {s : Sheet} {sizes marks : List ℕ} (g lo : ℕ) (hi : Top) → Tree s → Group s g
-    → Sized s (Under g lo) sizes marks true → Judged s (counted g lo hi) sizes marks true
+    → Sized s (CountUnder g lo) sizes marks true → Judged s (counted g lo hi) sizes marks true
 under-judged g lo hi t q z = let f = z .found refl in witnessed-yes (count-denied g lo hi t q (f .0) (inl (f .1)))
 
 pub over-judged : {s : Sheet} {sizes marks sizes' marks' : List ℕ} {x : Bool} (g lo : ℕ) (hi : Top) → Tree s → Group s g
-    → Sized s (Under g lo) sizes' marks' false → Sized s (Over g hi) sizes marks x → Judged s (counted g lo hi) sizes marks x
+    → Sized s (CountUnder g lo) sizes' marks' false → Sized s (CountOver g hi) sizes marks x → Judged s (counted g lo hi) sizes marks x
 over-judged {s} g lo hi t q y z = record {
   found = λ e. let f = z .found e in count-denied g lo hi t q (f .0) (inr (f .1));
   lacking = λ e w.

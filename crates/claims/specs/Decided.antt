@@ -40,7 +40,7 @@ pub record Decided (s : Sheet) (k : Claim) (firsts sizes marks : List ℕ) (r : 
 pub denial-shows : {s : Sheet} {k : Claim} {firsts sizes marks : List ℕ} → Tree s → Rooted s → Denial s k sizes marks
     → Told s (numberIn sizes) (numberIn firsts) → Shows s k firsts sizes marks
 denial-shows {firsts = firsts} t r d w =
-    let f = d .fitting in
+    let f = d .fitting .found in
     let h = told-runs t r (f .choice .others) w in
     record {
       fits = shown-fits-above t (f .choice) h;

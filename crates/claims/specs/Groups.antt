@@ -50,41 +50,41 @@ union-groups A [] x = refl
 union-groups A (zero ∷ l) x = union-groups A l x
 union-groups A (suc g ∷ l) x = ap (λ b. A .has (suc g) x || b) (union-groups A l x)
 
-pub groups-none : groupsAmong [] ≡ []
+pub among-none : groupsAmong [] ≡ []
 unfolding groupsAmong
-groups-none = refl
+among-none = refl
 
-pub groups-more : (g : ℕ) (l : List ℕ) → groupsAmong (g ∷ l) ≡ groupsAmong (g ∷ []) ++ groupsAmong l
+pub among-more : (g : ℕ) (l : List ℕ) → groupsAmong (g ∷ l) ≡ groupsAmong (g ∷ []) ++ groupsAmong l
 unfolding groupsAmong
-groups-more zero l = refl
-groups-more (suc g) l = refl
+among-more zero l = refl
+among-more (suc g) l = refl
 
-pub groups-one : (g : ℕ) → 1 ≤ g → groupsAmong (g ∷ []) ≡ g ∷ []
+pub among-one : (g : ℕ) → 1 ≤ g → groupsAmong (g ∷ []) ≡ g ∷ []
 unfolding groupsAmong
-groups-one zero l = absurd (omega arith)
-groups-one (suc g) l = refl
+among-one zero l = absurd (omega arith)
+among-one (suc g) l = refl
 
-pub groups-zero : groupsAmong (0 ∷ []) ≡ []
+pub among-zero : groupsAmong (0 ∷ []) ≡ []
 unfolding groupsAmong
-groups-zero = refl
+among-zero = refl
 
-pub groups-all : (size : ℕ) (l : List ℕ) → AllUpTo size l → AllGroups size (groupsAmong l)
+pub among-all : (size : ℕ) (l : List ℕ) → AllUpTo size l → AllGroups size (groupsAmong l)
 unfolding groupsAmong
-groups-all size [] h = tt
-groups-all size (zero ∷ l) h = groups-all size l (λ g m. h g (List·Memᴰ·tail m))
-groups-all size (suc g ∷ l) h =
-    (omega arith, h (suc g) (List·Memᴰ·head refl), groups-all size l (λ i m. h i (List·Memᴰ·tail m)))
+among-all size [] h = tt
+among-all size (zero ∷ l) h = among-all size l (λ g m. h g (List·Memᴰ·tail m))
+among-all size (suc g ∷ l) h =
+    (omega arith, h (suc g) (List·Memᴰ·head refl), among-all size l (λ i m. h i (List·Memᴰ·tail m)))
 
 -- the numbers on a list in a table
-pub listed-at : (t : List ℕ) (n i : ℕ) → i < n → n ≤ length t → List·Memᴰ (getD t i 0) (take n t)
-listed-at [] n i a b = absurd (omega arith)
-listed-at (x ∷ t) zero i a b = absurd (omega arith)
-listed-at (x ∷ t) (suc n) zero a b = List·Memᴰ·head refl
-listed-at (x ∷ t) (suc n) (suc i) a b = List·Memᴰ·tail (listed-at t n i (omega arith) (omega arith))
+pub getD-in-take : (t : List ℕ) (n i : ℕ) → i < n → n ≤ length t → List·Memᴰ (getD t i 0) (take n t)
+getD-in-take [] n i a b = absurd (omega arith)
+getD-in-take (x ∷ t) zero i a b = absurd (omega arith)
+getD-in-take (x ∷ t) (suc n) zero a b = List·Memᴰ·head refl
+getD-in-take (x ∷ t) (suc n) (suc i) a b = List·Memᴰ·tail (getD-in-take t n i (omega arith) (omega arith))
 
-pub listed-more : (t : List ℕ) (i g : ℕ) → i < length t → List·Memᴰ g (take (i + 1) t)
+pub in-take-next : (t : List ℕ) (i g : ℕ) → i < length t → List·Memᴰ g (take (i + 1) t)
     → List·Memᴰ g (take i t) ⊎ (g ≡ getD t i 0)
-listed-more t i g l m =
+in-take-next t i g l m =
     ⊎-elim inl (λ o. inr (List·Memᴰ·eq-of-singleton o))
     (List·Memᴰ·append-cases (take i t) (rw (add-one, take-suc t i 0 l) at m))
 
@@ -95,7 +95,7 @@ all-groups size (h ∷ l) w g m =
     ⊎-elim (λ (e : g ≡ h). rw e (w .0, w .1)) (λ i. all-groups size l (w .2) g i) (List·Memᴰ·cases-cons m)
 
 pub listed-group : {t : List ℕ} {n size : ℕ} → Listed t n size → (i : ℕ) → i < n → (1 ≤ getD t i 0) × (getD t i 0 ≤ size)
-listed-group {t} {n} {size} w i l = all-groups size (take n t) (w .groups) (getD t i 0) (listed-at t n i l (w .long))
+listed-group {t} {n} {size} w i l = all-groups size (take n t) (w .groups) (getD t i 0) (getD-in-take t n i l (w .long))
 
 pub listed-known : {t : List ℕ} {n size : ℕ} → Listed t n size → AllUpTo size (take n t)
 listed-known {t} {n} {size} w g m = all-groups size (take n t) (w .groups) g m .1

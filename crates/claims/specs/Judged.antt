@@ -1,5 +1,5 @@
 -- Whether some sets that fit break a claim, with numbers and marks that show such sets.
-use Prim.Native.Nat.{ℕ, _≤_}
+use Prim.Native.Nat.{ℕ}
 use mathlib.Core.Path.{_≡_, sym, _∙_}
 use mathlib.Core.Bool.{Bool, true, false}
 use mathlib.Core.List.{List}
@@ -12,17 +12,16 @@ use Rattle.sizes.specs.Balanced.{Choice}
 use Rattle.sizes.specs.Runs.{Starts}
 use Rattle.sizes.specs.ClaimsMath.{lists}
 use Rattle.runs.specs.Told.{numberIn}
-use Rattle.reading.specs.SheetIn.{sizeLimit}
 use Rattle.choosing.specs.Divided.{markedIn}
+use Rattle.choosing.specs.Chosen.{Found}
 use Rattle.claims.specs.Witnessed.{Witnessed, witnessed-as}
 use Rattle.claims.specs.Groups.{groupsAmong, union-groups}
 
--- numbers and marks that show sets that fit, wherever the runs start
+-- numbers and marks that some flags allow: they show sets that fit, wherever the runs start
 pub record Fitting (s : Sheet) (sizes marks : List ℕ) : Type 0 where
   pub may : ℕ → Bool → Bool
-  pub choice : Choice s may (numberIn sizes) (markedIn marks)
-  pub top : numberIn sizes 1 ≤ sizeLimit
-  pub bits : (g : ℕ) → Group s g → numberIn marks g ≤ 1
+  pub root : Bool
+  pub found : Found s may root sizes marks
 
 -- and that break the claim
 pub record Denial (s : Sheet) (k : Claim) (sizes marks : List ℕ) : Type 0 where

@@ -30,7 +30,7 @@ use Rattle.reading.specs.declared.claim.Lists.{Lists}
 use Rattle.reading.specs.declared.claim.Claim.{Claim as ClaimRead}
 use Rattle.reading.specs.declared.claim.Claim.the-variants as claim
 use Rattle.runs.specs.Told.{numberIn}
-use Rattle.claims.specs.Groups.{groupsAmong, AllUpTo, Listed, groups-none, groups-more, groups-all}
+use Rattle.claims.specs.Groups.{groupsAmong, AllUpTo, Listed, among-none, among-more, among-all}
 
 -- what the names on a list mean, by the table of names
 abbrev pub meanings : List ℕ → List ℕ → List ℕ
@@ -90,7 +90,7 @@ module _ {Held : ℕ → Type 0} {names : List ℕ} {size : ℕ} (w : AskableBy 
 
   -- the groups that a table lists for them
   pub meanings-listed : (t : List ℕ) (n : ℕ) → n ≤ length t → take n t ≡ groupsAmong (meanings names l) → Listed t n size
-  meanings-listed t n a e = record { long = a; groups = rw e (groups-all size (meanings names l) meanings-known) }
+  meanings-listed t n a e = record { long = a; groups = rw e (among-all size (meanings names l) meanings-known) }
 
 map-same : (f h : ℕ → ℕ) (l : List ℕ) → ((x : ℕ) → List·Memᴰ x l → f x ≡ h x) → map f l ≡ map h l
 map-same f h [] e = refl
@@ -159,11 +159,11 @@ unfolding u16s
 meant-next sheet from n i names l t r h x e =
     let o : n - i ≡ suc (n - (i + 1)) = omega arith in
     let p : from + 2 * i + 2 ≡ from + 2 * (i + 1) = omega arith in
-    rw (x, append-assoc, ← p) (rw (o, groups-more) at e)
+    rw (x, append-assoc, ← p) (rw (o, among-more) at e)
 
 pub meant-last : (sheet : List ℕ) (from n i : ℕ) (names l r : List ℕ) → n ≤ i
     → l ++ groupsAmong (meanings names (u16s sheet (from + 2 * i) (n - i))) ≡ r → l ≡ r
 unfolding u16s
 meant-last sheet from n i names l r h e =
     let o : n - i ≡ 0 = omega arith in
-    sym (append-nil l) ∙ (rw (o, groups-none) at e)
+    sym (append-nil l) ∙ (rw (o, among-none) at e)

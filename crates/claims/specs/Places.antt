@@ -24,7 +24,7 @@ use Rattle.measuring.specs.Tables.{mayIn}
 use Rattle.choosing.specs.Divided.{markedIn}
 use Rattle.choosing.specs.Chosen.{Chose}
 use Rattle.claims.specs.Witnessed.{Witnessed}
-use Rattle.claims.specs.Groups.{Listed, listed-at, listed-group}
+use Rattle.claims.specs.Groups.{Listed, getD-in-take, listed-group}
 use Rattle.claims.specs.Judged.{Fitting, choice-allowed}
 
 -- some sets that fit have such a member
@@ -67,7 +67,7 @@ root-state {s} t (suc m) outs u r k f M c =
       M,
       c,
       marked-root u r c (getD t 0 0) (getD t 0 0) (le-refl (getD t 0 0)) q
-          (p .held (getD t 0 0) (listed-at t (suc m) 0 (omega arith) (k .long)) q) ∙ sym (lt-ltb 0 (suc m) (omega arith)),
+          (p .held (getD t 0 0) (getD-in-take t (suc m) 0 (omega arith) (k .long)) q) ∙ sym (lt-ltb 0 (suc m) (omega arith)),
     )
 
 -- Under the flags of the place, and with the root in that state, the question is the one for the place.
@@ -77,7 +77,7 @@ pub place-judged : {s : Sheet} {sizes marks : List ℕ} {x : Bool} (flags t : Li
     → Chose s (mayIn flags) (ltb 0 m) sizes marks x → PlaceJudged s (take m t) outs sizes marks x
 place-judged {marks = marks} flags t m outs u r k e w = record {
   found = λ o. let v = w .found o in record {
-    fitting = record { may = mayIn flags; choice = v .choice; top = v .top; bits = v .bits };
+    fitting = record { may = mayIn flags; root = ltb 0 m; found = v };
     placed = flags-placed (take m t) outs (markedIn marks)
         (λ g q. sym (e g q (markedIn marks g)) ∙ v .choice .allowed g q);
   };

@@ -12,7 +12,7 @@ use Rattle.meaning.specs.Shown.{above}
 use Rattle.sizes.specs.ClaimsPlace.{placed-flags, place}
 use Rattle.sizes.specs.ClaimsMath.{Known, lists, Way, away, along, breakable-lists, shown-breaks}
 use Rattle.claims.specs.Witnessed.{Witnessed, witnessed-yes, witnessed-as}
-use Rattle.claims.specs.Groups.{listed-at, listed-more}
+use Rattle.claims.specs.Groups.{getD-in-take, in-take-next}
 use Rattle.claims.specs.Judged.{Judged, choice-allowed}
 use Rattle.claims.specs.Places.{PlaceHad, PlaceShown, PlaceJudged}
 
@@ -37,7 +37,7 @@ tried-judged {s} {l} {r} b t k n w =
     witnessed-as
     (λ v. record {
       fitting = v .3 .fitting;
-      breaks = λ st h. shown-breaks k n (v .2) (choice-allowed (placed-flags (v .3 .placed)) (v .3 .fitting .choice)) st _
+      breaks = λ st h. shown-breaks k n (v .2) (choice-allowed (placed-flags (v .3 .placed)) (v .3 .fitting .found .choice)) st _
           (above-one s st _);
     })
     (λ v. let u = breakable-lists t b l r k n .0 v in (u .0, u .1, u .2, place (u .0) (u .1) t .1 (u .3, u .4, u .5)))
@@ -73,39 +73,39 @@ module _ (W : List ℕ → List ℕ → List ℕ → Type 0)
       ⊎-elim
       (λ m. h (v .0, v .1, w .2 (take i t) m, v .3))
       (λ e. n (v .0, v .1, w .2 (getD t i 0 ∷ []) (List·Memᴰ·head e), v .3))
-      (listed-more t i (w .0) l (w .1))
+      (in-take-next t i (w .0) l (w .1))
 
   through-one : (t : List ℕ) (n i : ℕ) → i < n → n ≤ length t → Through (getD t i 0 ∷ []) → Through (take n t)
   through-one t n i l k v =
       let w = one (getD t i 0 ∷ []) (v .0) (v .1) (v .2) in
-      (v .0, v .1, w .2 (take n t) (Memᴰ·cast (List·Memᴰ·eq-of-singleton (w .1)) (listed-at t n i l k)), v .3)
+      (v .0, v .1, w .2 (take n t) (Memᴰ·cast (List·Memᴰ·eq-of-singleton (w .1)) (getD-in-take t n i l k)), v .3)
 
 -- the left list
 module _ {s : Sheet} (b : Bool) (t r : List ℕ) where
-  pub left-none : WayHad s b (take 0 t) r → ⊥
-  left-none = through-none (λ l. Way l r b) (λ l i o w. left-one w) (PlaceHad s)
+  pub left-way-none : WayHad s b (take 0 t) r → ⊥
+  left-way-none = through-none (λ l. Way l r b) (λ l i o w. left-one w) (PlaceHad s)
 
-  pub left-more : {sizes marks : List ℕ} {x : Bool} (i : ℕ) → i < length t → (WayHad s b (take i t) r → ⊥)
+  pub left-way-more : {sizes marks : List ℕ} {x : Bool} (i : ℕ) → i < length t → (WayHad s b (take i t) r → ⊥)
       → Tried s b (getD t i 0 ∷ []) r sizes marks x → x ≡ false → WayHad s b (take (i + 1) t) r → ⊥
-  left-more i l h w e = through-more (λ l. Way l r b) (λ l i o w. left-one w) (PlaceHad s) t i l h (w .lacking e)
+  left-way-more i l h w e = through-more (λ l. Way l r b) (λ l i o w. left-one w) (PlaceHad s) t i l h (w .lacking e)
 
-  pub left-found : {sizes marks : List ℕ} {x : Bool} (n i : ℕ) → i < n → n ≤ length t
+  pub left-way-found : {sizes marks : List ℕ} {x : Bool} (n i : ℕ) → i < n → n ≤ length t
       → Tried s b (getD t i 0 ∷ []) r sizes marks x → x ≡ true → Tried s b (take n t) r sizes marks true
-  left-found {sizes} {marks} n i l k w e =
+  left-way-found {sizes} {marks} n i l k w e =
       witnessed-yes (through-one (λ l. Way l r b) (λ l i o w. left-one w) (λ i o. PlaceShown s i o sizes marks) t n i l k (w .found e))
 
 -- the right list of kind 6
 module _ {s : Sheet} (l t : List ℕ) where
-  pub right-none : WayHad s true l (take 0 t) → ⊥
-  right-none = through-none (λ r. Way l r true) (λ r i o w. right-one refl w) (PlaceHad s)
+  pub right-way-none : WayHad s true l (take 0 t) → ⊥
+  right-way-none = through-none (λ r. Way l r true) (λ r i o w. right-one refl w) (PlaceHad s)
 
-  pub right-more : {sizes marks : List ℕ} {x : Bool} (i : ℕ) → i < length t → (WayHad s true l (take i t) → ⊥)
+  pub right-way-more : {sizes marks : List ℕ} {x : Bool} (i : ℕ) → i < length t → (WayHad s true l (take i t) → ⊥)
       → Tried s true l (getD t i 0 ∷ []) sizes marks x → x ≡ false → WayHad s true l (take (i + 1) t) → ⊥
-  right-more i k h w e = through-more (λ r. Way l r true) (λ r i o w. right-one refl w) (PlaceHad s) t i k h (w .lacking e)
+  right-way-more i k h w e = through-more (λ r. Way l r true) (λ r i o w. right-one refl w) (PlaceHad s) t i k h (w .lacking e)
 
-  pub right-found : {sizes marks : List ℕ} {x : Bool} (n i : ℕ) → i < n → n ≤ length t
+  pub right-way-found : {sizes marks : List ℕ} {x : Bool} (n i : ℕ) → i < n → n ≤ length t
       → Tried s true l (getD t i 0 ∷ []) sizes marks x → x ≡ true → Tried s true l (take n t) sizes marks true
-  right-found {sizes} {marks} n i j k w e =
+  right-way-found {sizes} {marks} n i j k w e =
       witnessed-yes
       (through-one (λ r. Way l r true) (λ r i o w. right-one refl w) (λ i o. PlaceShown s i o sizes marks) t n i j k (w .found e))
 
@@ -125,12 +125,12 @@ module _ {s : Sheet} where
       let d : i ∷ j ∷ [] ≡ g ∷ h ∷ [] = cc in
       subst (λ l. PlaceHad s l []) d v
 
-  pub inside-tried : {g : ℕ} {r sizes marks : List ℕ} {x : Bool} → 1 ≤ g → PlaceJudged s (g ∷ []) r sizes marks x
-      → Tried s false (g ∷ []) r sizes marks x
-  inside-tried {g} {r} a w =
+  pub inside-tried : {g : ℕ} {r sizes marks : List ℕ} {b x : Bool} → b ≡ false → 1 ≤ g → PlaceJudged s (g ∷ []) r sizes marks x
+      → Tried s b (g ∷ []) r sizes marks x
+  inside-tried {g} {r} e a w =
       witnessed-as
-      (λ v. (g ∷ [], r, away (List·Memᴰ·head refl) a, v))
-      (λ v. inside-only refl (v .2) (v .3))
+      (λ v. (g ∷ [], r, rw e (away (List·Memᴰ·head refl) a), v))
+      (λ v. inside-only e (v .2) (v .3))
       w
 
   pub both-tried : {g h : ℕ} {sizes marks : List ℕ} {x : Bool} → 1 ≤ g → 1 ≤ h → PlaceJudged s (g ∷ h ∷ []) [] sizes marks x

@@ -1,5 +1,7 @@
 // Claims of kind 4 (count): the claim is broken where the sheet with one bound narrowed is possible.
 use crate::places::ask_place;
+use measuring::spans::larger;
+use measuring::spans::smaller;
 use reading::tables::GroupNo;
 use reading::tables::Meant;
 use reading::tables::NO_END;
@@ -8,27 +10,15 @@ use reading::tables::lo_of;
 use reading::tables::set_hi;
 use reading::tables::set_lo;
 ghost use mathlib.Core.Path.{_≡_};
-ghost use Prim.Native.Nat.{_≤_, _<_, min, max};
+ghost use Prim.Native.Nat.{_≤_};
 ghost use Rattle.wire.specs.Limits.{noEnd};
 ghost use Rattle.meaning.specs.Sheet.{Top, endOf};
 ghost use Rattle.meaning.specs.Claim.{counted};
 ghost use Rattle.reading.specs.Meant.{meantNumber, Numbered};
 ghost use Rattle.reading.specs.SheetIn.{sheetIn};
 ghost use Rattle.choosing.specs.Chosen.{Asking};
-ghost use Rattle.claims.specs.Counts.{Sized, Any, Few, Many, Under, Over};
+ghost use Rattle.claims.specs.Counts.{Sized, Any, Between, CountUnder, CountOver};
 ghost use Rattle.claims.specs.Judged.{Judged};
-
-fn smaller(a: u16, b: u16) -> u16
-    ensures { λ r. ⌜ r ≡ min a b ⌝ }
-{
-    if a < b { a } else { b }
-}
-
-fn larger(a: u16, b: u16) -> u16
-    ensures { λ r. ⌜ r ≡ max a b ⌝ }
-{
-    if a < b { b } else { a }
-}
 
 // whether some sets fit: they have a place for a member of whom nothing is asked
 fn any_sets(groups: &[u16], size: u16, sizes: &mut [u32], marks: &mut [u8]) -> bool
@@ -39,43 +29,28 @@ fn any_sets(groups: &[u16], size: u16, sizes: &mut [u32], marks: &mut [u8]) -> b
     ask_place(groups, size, &none, 0, &none, 0, sizes, marks)
 }
 
-// whether some sets that fit have at most k members in a group; k does not stand for no end
-fn few_sets(
+// whether some sets that fit have from `least` to `most` members in a group, `NO_END` for no upper end
+fn sets_between(
     groups: &mut [u16],
     size: u16,
     g: GroupNo,
-    k: u16,
-    sizes: &mut [u32],
-    marks: &mut [u8],
-) -> bool
-    requires { ⌜ Asking (now groups) size (now sizes) (now marks) × (1 ≤ g .0) × (g .0 ≤ size) × (k < noEnd) ⌝ }
-    ensures { λ r. ⌜ Sized (sheetIn (now (groups .entry)) size) (Few (g .0) k) (now (sizes .exit)) (now (marks .exit)) r ⌝ }
-    ensures { λ _. ⌜ now (groups .exit) ≡ now (groups .entry) ⌝ }
-{
-    let old = hi_of(groups, g);
-    set_hi(groups, g, smaller(old, k));
-    let r = any_sets(groups, size, sizes, marks);
-    set_hi(groups, g, old);
-    r
-}
-
-// whether some sets that fit have at least k members in a group
-fn many_sets(
-    groups: &mut [u16],
-    size: u16,
-    g: GroupNo,
-    k: u16,
+    least: u16,
+    most: u16,
     sizes: &mut [u32],
     marks: &mut [u8],
 ) -> bool
     requires { ⌜ Asking (now groups) size (now sizes) (now marks) × (1 ≤ g .0) × (g .0 ≤ size) ⌝ }
-    ensures { λ r. ⌜ Sized (sheetIn (now (groups .entry)) size) (Many (g .0) k) (now (sizes .exit)) (now (marks .exit)) r ⌝ }
+    ensures { λ r. ⌜ Sized (sheetIn (now (groups .entry)) size) (Between (g .0) least (endOf noEnd most)) (now (sizes .exit)) (now
+        (marks .exit)) r ⌝ }
     ensures { λ _. ⌜ now (groups .exit) ≡ now (groups .entry) ⌝ }
 {
-    let old = lo_of(groups, g);
-    set_lo(groups, g, larger(old, k));
+    let lo = lo_of(groups, g);
+    set_lo(groups, g, larger(lo as u32, least as u32) as u16);
+    let hi = hi_of(groups, g);
+    set_hi(groups, g, smaller(hi as u32, most as u32) as u16);
     let r = any_sets(groups, size, sizes, marks);
-    set_lo(groups, g, old);
+    set_hi(groups, g, hi);
+    set_lo(groups, g, lo);
     r
 }
 
@@ -89,13 +64,13 @@ fn under(
     marks: &mut [u8],
 ) -> bool
     requires { ⌜ Asking (now groups) size (now sizes) (now marks) × (1 ≤ g .0) × (g .0 ≤ size) ⌝ }
-    ensures { λ r. ⌜ Sized (sheetIn (now (groups .entry)) size) (Under (g .0) lo) (now (sizes .exit)) (now (marks .exit)) r ⌝ }
+    ensures { λ r. ⌜ Sized (sheetIn (now (groups .entry)) size) (CountUnder (g .0) lo) (now (sizes .exit)) (now (marks .exit)) r ⌝ }
     ensures { λ _. ⌜ now (groups .exit) ≡ now (groups .entry) ⌝ }
 {
     if lo == 0 {
         return false;
     }
-    few_sets(groups, size, g, lo - 1, sizes, marks)
+    sets_between(groups, size, g, 0, lo - 1, sizes, marks)
 }
 
 // whether some sets that fit have more members in a group than hi, `NO_END` for no upper end
@@ -108,14 +83,14 @@ fn over(
     marks: &mut [u8],
 ) -> bool
     requires { ⌜ Asking (now groups) size (now sizes) (now marks) × (1 ≤ g .0) × (g .0 ≤ size) ⌝ }
-    ensures { λ r. ⌜ Sized (sheetIn (now (groups .entry)) size) (Over (g .0) (endOf noEnd hi)) (now (sizes .exit)) (now
+    ensures { λ r. ⌜ Sized (sheetIn (now (groups .entry)) size) (CountOver (g .0) (endOf noEnd hi)) (now (sizes .exit)) (now
         (marks .exit)) r ⌝ }
     ensures { λ _. ⌜ now (groups .exit) ≡ now (groups .entry) ⌝ }
 {
     if hi == NO_END {
         return false;
     }
-    many_sets(groups, size, g, hi + 1, sizes, marks)
+    sets_between(groups, size, g, hi + 1, NO_END, sizes, marks)
 }
 
 // Whether some sets that fit break the claim that a group has from lo to hi members.

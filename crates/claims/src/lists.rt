@@ -3,7 +3,7 @@
 use crate::places::ask_place;
 use crate::places::group_at;
 use reading::tables::GroupNo;
-ghost use mathlib.Core.Bool.{true, false};
+ghost use mathlib.Core.Bool.{true};
 ghost use mathlib.Core.List.{[], _∷_};
 ghost use Prim.Native.Nat.{_≤_};
 ghost use lib.ListN.{take};
@@ -13,25 +13,6 @@ ghost use Rattle.choosing.specs.Chosen.{Asking};
 ghost use Rattle.claims.specs.Groups.{Listed};
 ghost use Rattle.claims.specs.Judged.{Judged};
 ghost use Rattle.claims.specs.Ways.{Tried};
-
-// whether some sets that fit have a member in group g and in no group of a list
-fn ask_inside(
-    groups: &[u16],
-    size: u16,
-    g: GroupNo,
-    right: &[u16],
-    n: usize,
-    sizes: &mut [u32],
-    marks: &mut [u8],
-) -> bool
-    requires { ⌜ Asking (now groups) size (now sizes) (now marks) × Listed (now right) n size ⌝ }
-    requires { ⌜ (1 ≤ g .0) × (g .0 ≤ size) ⌝ }
-    ensures { λ r. ⌜ Tried (sheetIn (now (groups .entry)) size) false (g .0 ∷ []) (take n (now (right .entry)))
-        (now (sizes .exit)) (now (marks .exit)) r ⌝ }
-{
-    let one = [g.0];
-    ask_place(groups, size, &one, 1, right, n, sizes, marks)
-}
 
 // whether some sets that fit have a member in both groups
 fn ask_both(
@@ -52,30 +33,8 @@ fn ask_both(
     ask_place(groups, size, &both, 2, &none, 0, sizes, marks)
 }
 
-// whether some sets that fit have a member in group g and in some group of a list
-fn ask_apart(
-    groups: &[u16],
-    size: u16,
-    g: GroupNo,
-    right: &[u16],
-    n: usize,
-    sizes: &mut [u32],
-    marks: &mut [u8],
-) -> bool
-    requires { ⌜ Asking (now groups) size (now sizes) (now marks) × Listed (now right) n size ⌝ }
-    requires { ⌜ (1 ≤ g .0) × (g .0 ≤ size) ⌝ }
-    ensures { λ r. ⌜ Tried (sheetIn (now (groups .entry)) size) true (g .0 ∷ []) (take n (now (right .entry)))
-        (now (sizes .exit)) (now (marks .exit)) r ⌝ }
-{
-    for j in 0..n {
-        if ask_both(groups, size, g, group_at(right, j), sizes, marks) {
-            return true;
-        }
-    }
-    false
-}
-
-// the one or the other, by the kind
+// whether some sets that fit have a member in group g that breaks the claim: one in some group of the right list (apart), or in
+// none of it (inside)
 fn ask_left(
     apart: bool,
     groups: &[u16],
@@ -92,9 +51,15 @@ fn ask_left(
         (now (sizes .exit)) (now (marks .exit)) r ⌝ }
 {
     if apart {
-        return ask_apart(groups, size, g, right, n, sizes, marks);
+        for j in 0..n {
+            if ask_both(groups, size, g, group_at(right, j), sizes, marks) {
+                return true;
+            }
+        }
+        return false;
     }
-    ask_inside(groups, size, g, right, n, sizes, marks)
+    let one = [g.0];
+    ask_place(groups, size, &one, 1, right, n, sizes, marks)
 }
 
 // Whether some sets that fit break the claim on m left groups and n right groups.

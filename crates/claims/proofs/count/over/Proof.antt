@@ -10,11 +10,11 @@ returns c =
     let s = c .before .before .before .before in
     (over-never (s .args .g .0) (s .args .hi) (c .if1 .taken), refl)
 
-add-many-sets : tie.Need-add-many-sets
-add-many-sets c = search needs
+add-sets-between : tie.Need-add-sets-between
+add-sets-between c = search needs
 
-many-sets-requires : tie.Need-many-sets-requires
-many-sets-requires c κs = search needs
+sets-between-requires : tie.Need-sets-between-requires
+sets-between-requires c κs = search needs
 
 same-length : tie.Need-same-length
 same-length c = search needs
@@ -30,7 +30,7 @@ returns-2 c =
     let c6 = c .before .before .before .before .before .before in
     let c10 = c6 .before .before .before .before in
     let s = c10 .before .before .before .before in
-    let f = c6 .many-sets .ensures in
+    let f = c6 .sets-between .ensures in
     (sized-over (s .args .g .0) (s .args .hi) (c10 .if1 .left) (f .0), f .1)
 
 pub over-spec : {M : Type 1} → statement M
@@ -38,8 +38,8 @@ over-spec =
     tie.close
     (tie.spec
     returns
-    add-many-sets
-    many-sets-requires
+    add-sets-between
+    sets-between-requires
     same-length
     same-length-2
     same-length-3

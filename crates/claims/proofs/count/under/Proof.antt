@@ -10,11 +10,11 @@ use Rattle.claims.proofs.count.under.Tie as tie
 returns : tie.Need-returns
 returns c = (sized-never (λ f p. omega arith), refl)
 
-sub-few-sets : tie.Need-sub-few-sets
-sub-few-sets c = search needs
+sub-sets-between : tie.Need-sub-sets-between
+sub-sets-between c = search needs
 
-few-sets-requires : tie.Need-few-sets-requires
-few-sets-requires c κs = search needs
+sets-between-requires : tie.Need-sets-between-requires
+sets-between-requires c κs = search needs
 
 same-length : tie.Need-same-length
 same-length c = search needs
@@ -29,16 +29,16 @@ returns-2 : tie.Need-returns-2
 returns-2 c =
     let c6 = c .before .before .before .before .before .before in
     let s = c6 .before .before .before .before .before .before .before .before in
-    let f = c6 .few-sets .ensures in
-    (sized-under (s .args .g .0) (s .args .lo) (s .args .lo - 1) (omega arith) (f .0), f .1)
+    let f = c6 .sets-between .ensures in
+    (sized-under (s .args .g .0) (s .args .lo) (s .args .lo - 1) (omega arith) (omega arith) (f .0), f .1)
 
 pub under-spec : {M : Type 1} → statement M
 under-spec =
     tie.close
     (tie.spec
     returns
-    sub-few-sets
-    few-sets-requires
+    sub-sets-between
+    sets-between-requires
     same-length
     same-length-2
     same-length-3

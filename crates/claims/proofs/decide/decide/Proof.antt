@@ -25,8 +25,8 @@ place-runs-requires c κs =
       sizes-long = omega (arith, w .sizes-long, j .kept .1 .1 .1 .1 .1 .0);
       firsts-long = s .pre .2;
       ends-long = omega (arith, w .grown .small);
-      balanced = d .fitting .choice .others;
-      top = d .fitting .top;
+      balanced = d .fitting .found .choice .others;
+      top = d .fitting .found .top;
     })
 
 same-length : tie.Need-same-length

@@ -6,7 +6,7 @@ use lib.ListN.{length, take}
 use Rattle.reading.specs.SheetIn.{sheetIn, size-in}
 use Rattle.claims.specs.Witnessed.{witnessed-no}
 use Rattle.claims.specs.Groups.{listed-group, listed-known, listed-in}
-use Rattle.claims.specs.Ways.{WayHad, tried-judged, left-none, left-more, left-found}
+use Rattle.claims.specs.Ways.{WayHad, tried-judged, left-way-none, left-way-more, left-way-found}
 use borrow.Author.Needs.{needs}
 use Rattle.claims.proofs.lists.judge_lists.Statement.{statement}
 use Rattle.claims.proofs.lists.judge_lists.Tie as tie
@@ -22,7 +22,7 @@ abbrev μ-loop : tie.MeasureT-loop
 loop-holds : tie.Need-loop-holds Inv-loop μ-loop
 loop-holds c =
     let s = c .before .before .before .before .before in
-    (omega arith, refl, refl, left-none (s .args .apart) (s .args .left .now) (take (s .args .n) (s .args .right .now)))
+    (omega arith, refl, refl, left-way-none (s .args .apart) (s .args .left .now) (take (s .args .n) (s .args .right .now)))
 
 group-at-requires : tie.Need-group-at-requires Inv-loop μ-loop
 group-at-requires c κs = let s = c .before .before .before .before .before .before .before in omega (arith, s .pre .1 .0 .long)
@@ -64,7 +64,7 @@ returns c =
     let n = size-in (a .groups .now) (a .size) in
     tried-judged (a .apart) (s .pre .0 .grown .tree) (listed-known (listed-in (omega (arith, n)) (s .pre .1 .0)))
     (listed-known (listed-in (omega (arith, n)) (s .pre .1 .1)))
-    (left-found (a .apart) (a .left .now) (take (a .n) (a .right .now)) (a .m) (at .loop .i) (omega arith) (s .pre .1 .0 .long)
+    (left-way-found (a .apart) (a .left .now) (take (a .n) (a .right .now)) (a .m) (at .loop .i) (omega arith) (s .pre .1 .0 .long)
     (rw g at (c5 .ask-left .ensures)) (c .if1 .taken))
 
 add-i : tie.Need-add-i Inv-loop μ-loop
@@ -84,7 +84,7 @@ loop-again c =
       omega arith,
       c5 .ask-left .kept .1 .1 .1 .1 .1 .1 .0 ∙ v .1,
       c5 .ask-left .kept .1 .1 .1 .1 .1 .1 .1 .0 ∙ v .2,
-      left-more (a .apart) (a .left .now) (take (a .n) (a .right .now)) (at .loop .i)
+      left-way-more (a .apart) (a .left .now) (take (a .n) (a .right .now)) (at .loop .i)
           (omega (arith, s .pre .1 .0 .long)) (v .3) (rw g at (c5 .ask-left .ensures)) (c .if1 .left),
     )
 

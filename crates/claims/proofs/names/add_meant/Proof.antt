@@ -4,7 +4,7 @@ use mathlib.Core.List.{append-nil}
 use native.Mathlib.Omega.{arith}
 use native.Mathlib.Numerals.{add-one}
 use lib.Seq.{take-suc-set}
-use Rattle.claims.specs.Groups.{groups-zero, groups-one}
+use Rattle.claims.specs.Groups.{among-zero, among-one}
 use borrow.Author.Needs.{needs}
 use Rattle.claims.proofs.names.add_meant.Statement.{statement}
 use Rattle.claims.proofs.names.add_meant.Tie as tie
@@ -27,7 +27,7 @@ add-result c = search needs
 returns : tie.Need-returns
 returns c = (
   omega arith,
-  rw (c .enum-told .given .1, groups-zero) (sym (append-nil _)),
+  rw (c .enum-told .given .1, among-zero) (sym (append-nil _)),
 )
 
 same-length : tie.Need-same-length
@@ -38,7 +38,7 @@ returns-2 c =
     let s = c .before .before .before in
     let e = c .before .m .given .1 in (
       omega arith,
-      rw (e, groups-one _ (rw e at (s .pre .1)), add-one) (take-suc-set _ _ _ (s .pre .0)),
+      rw (e, among-one _ (rw e at (s .pre .1)), add-one) (take-suc-set _ _ _ (s .pre .0)),
     )
 
 pub add-meant-spec : {M : Type 1} → statement M
