@@ -6,13 +6,9 @@ use ranging::arrange::arrange;
 use ranging::narrow::narrow;
 use ranging::tables::SPAN_TABLE;
 use reading::load::Loaded;
-use reading::load::load_sheet;
-use reading::tables::CLAIM_TABLE;
+use reading::load::load_tree;
 use reading::tables::GROUP_CAPACITY;
 use reading::tables::GROUP_TABLE;
-use reading::tables::LABEL_TABLE;
-use reading::tables::NAME_TABLE;
-use reading::tables::PLACE_TABLE;
 use replies::RANGE_BYTES;
 use replies::put_ranges;
 ghost use Rattle.reading.specs.SheetIn.{sheetIn, Tabled};
@@ -66,18 +62,7 @@ pub extern "C" fn sheet_ranges(sheet: &[u8], reply: &mut [u8]) -> u64
     ensures { λ r. ⌜ Ranges (now (sheet .entry)) (call (now (reply .entry)) r (now (reply .exit))) ⌝ }
 {
     let mut groups = [0u16; GROUP_TABLE];
-    let mut names = [0u16; NAME_TABLE];
-    let mut labels = [0usize; LABEL_TABLE];
-    let mut claims = [0u16; CLAIM_TABLE];
-    let mut places = [0usize; PLACE_TABLE];
-    match load_sheet(
-        sheet,
-        &mut groups,
-        &mut names,
-        &mut labels,
-        &mut claims,
-        &mut places,
-    ) {
+    match load_tree(sheet, &mut groups) {
         Loaded::Refused(n, record) => pack(n, record),
         Loaded::Sheet(head) => answer(&groups, head.groups, reply),
     }

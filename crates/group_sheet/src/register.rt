@@ -1,12 +1,8 @@
 // The check of a register.
 use crate::pairs::pack;
 use reading::load::Loaded;
-use reading::load::load_sheet;
-use reading::tables::CLAIM_TABLE;
+use reading::load::load_tree;
 use reading::tables::GROUP_TABLE;
-use reading::tables::LABEL_TABLE;
-use reading::tables::NAME_TABLE;
-use reading::tables::PLACE_TABLE;
 use registers::check::Check;
 use registers::check::check_register;
 use replies::ANSWER_BYTES;
@@ -32,18 +28,7 @@ pub extern "C" fn sheet_register(sheet: &[u8], register: &[u8], reply: &mut [u8]
     ensures { λ r. ⌜ Register (now (sheet .entry)) (now (register .entry)) (call (now (reply .entry)) r (now (reply .exit))) ⌝ }
 {
     let mut groups = [0u16; GROUP_TABLE];
-    let mut names = [0u16; NAME_TABLE];
-    let mut labels = [0usize; LABEL_TABLE];
-    let mut claims = [0u16; CLAIM_TABLE];
-    let mut places = [0usize; PLACE_TABLE];
-    match load_sheet(
-        sheet,
-        &mut groups,
-        &mut names,
-        &mut labels,
-        &mut claims,
-        &mut places,
-    ) {
+    match load_tree(sheet, &mut groups) {
         Loaded::Refused(n, record) => pack(n, record),
         Loaded::Sheet(head) => match check_register(&groups, head.groups, register) {
             Check::Refused(n, row) => pack(n, row),

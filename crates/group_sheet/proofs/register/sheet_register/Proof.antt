@@ -13,23 +13,11 @@ use borrow.Author.Needs.{needs}
 use Rattle.group_sheet.proofs.register.sheet_register.Statement.{statement}
 use Rattle.group_sheet.proofs.register.sheet_register.Tie as tie
 
-slice-aggregate-load-sheet : tie.Need-slice-aggregate-load-sheet
-slice-aggregate-load-sheet c = search needs
+slice-aggregate-load-tree : tie.Need-slice-aggregate-load-tree
+slice-aggregate-load-tree c = search needs
 
-slice-aggregate-load-sheet-2 : tie.Need-slice-aggregate-load-sheet-2
-slice-aggregate-load-sheet-2 c = search needs
-
-slice-aggregate-load-sheet-3 : tie.Need-slice-aggregate-load-sheet-3
-slice-aggregate-load-sheet-3 c = search needs
-
-slice-aggregate-load-sheet-4 : tie.Need-slice-aggregate-load-sheet-4
-slice-aggregate-load-sheet-4 c = search needs
-
-slice-aggregate-load-sheet-5 : tie.Need-slice-aggregate-load-sheet-5
-slice-aggregate-load-sheet-5 c = search needs
-
-load-sheet-requires : tie.Need-load-sheet-requires
-load-sheet-requires c κs = search needs
+load-tree-requires : tie.Need-load-tree-requires
+load-tree-requires c κs = search needs
 
 enum-known-n : tie.Need-enum-known-n
 enum-known-n c = search needs
@@ -45,7 +33,7 @@ slice-aggregate-check-register c = search needs
 
 check-register-requires : tie.Need-check-register-requires
 check-register-requires c κs =
-    let w = c .before .before .before .before .before .before .before .before .before .load-sheet .ensures in
+    let w = c .before .before .before .before .before .load-tree .ensures .loads in
     let e = c .before .before .head .given .1 in
     checkable _ _ _ _ (loaded-sheet w _ e) refl (omega (arith, loaded-held w _ e .limits .fewGroups))
 
@@ -69,7 +57,7 @@ give-answer-requires-2 c κs = search needs
 
 returns : tie.Need-returns
 returns c =
-    let e = loaded-refused (c .before .before .before .before .before .before .before .before .before .load-sheet .ensures) _ _ (c .before .before .n .given .1) in
+    let e = loaded-refused (c .before .before .before .before .before .load-tree .ensures .loads) _ _ (c .before .before .n .given .1) in
     record {
       turned = turned-back e (c .pack .ensures);
       passed = λ d f. absurd (read-not-refused f e);
@@ -78,7 +66,7 @@ returns c =
 returns-2 : tie.Need-returns-2
 unfolding editionOf sheetIn
 returns-2 c =
-    let e = loaded-sheet (c .before .before .before .before .before .before .before .before .before .before .before .before .before .before .load-sheet .ensures) _ (c .before .before .before .before .before .before .before .head .given .1) in
+    let e = loaded-sheet (c .before .before .before .before .before .before .before .before .before .before .load-tree .ensures .loads) _ (c .before .before .before .before .before .before .before .head .given .1) in
     let w = c .before .before .before .before .check-register .ensures in
     let g = ap checkGives (c .before .before .n2 .given .1) in
     record {
@@ -95,7 +83,7 @@ same-length c = search needs
 returns-3 : tie.Need-returns-3
 unfolding editionOf sheetIn
 returns-3 c =
-    let e = loaded-sheet (c .before .before .before .before .before .before .before .before .before .before .before .before .before .before .before .before .before .load-sheet .ensures) _ (c .before .before .before .before .before .before .before .before .before .before .head .given .1) in
+    let e = loaded-sheet (c .before .before .before .before .before .before .before .before .before .before .before .before .before .load-tree .ensures .loads) _ (c .before .before .before .before .before .before .before .before .before .before .head .given .1) in
     let w = c .before .before .before .before .before .before .before .check-register .ensures in
     let g = ap checkGives (c .before .before .before .before .before .group .given .1) in
     record {
@@ -112,7 +100,7 @@ same-length-2 c = search needs
 returns-4 : tie.Need-returns-4
 unfolding editionOf sheetIn
 returns-4 c =
-    let e = loaded-sheet (c .before .before .before .before .before .before .before .before .before .before .before .before .before .before .before .before .load-sheet .ensures) _ (c .before .before .before .before .before .before .before .before .before .head .given .1) in
+    let e = loaded-sheet (c .before .before .before .before .before .before .before .before .before .before .before .before .load-tree .ensures .loads) _ (c .before .before .before .before .before .before .before .before .before .head .given .1) in
     let w = c .before .before .before .before .before .before .check-register .ensures in
     let g = ap checkGives (c .before .before .before .before .enum-told .given .1) in
     record {
@@ -127,12 +115,8 @@ pub sheet-register-spec : {M : Type 1} → statement M
 sheet-register-spec =
     tie.close
     (tie.spec
-    slice-aggregate-load-sheet
-    slice-aggregate-load-sheet-2
-    slice-aggregate-load-sheet-3
-    slice-aggregate-load-sheet-4
-    slice-aggregate-load-sheet-5
-    load-sheet-requires
+    slice-aggregate-load-tree
+    load-tree-requires
     enum-known-n
     pack-requires
     enum-known-head
