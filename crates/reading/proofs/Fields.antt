@@ -96,15 +96,13 @@ module _ {s : List ℕ} {at first last len : ℕ} (l : at ≤ length s) (f : Fra
       (λ e. cut e (rw e at (f .says)))
 
 -- one kind only
-pub kind : {s : List ℕ} {at k len : ℕ} → Led s at k k len → u16At (drop at s) 2 ≡ k
-kind w = omega arith
+pub led-kind : {s : List ℕ} {at k len : ℕ} → Led s at k k len → u16At (drop at s) 2 ≡ k
+led-kind w = omega arith
 
 pub one-kind : (k x : ℕ) → eqb x k ≡ (leb k x && leb x k)
 one-kind k x =
     compare-eq x k (λ e. rw (e, eq-eqb k k refl, le-leb k k (omega arith)))
-    (λ h. compare-le k x
-    (λ a. let b : x ≤ k → ⊥ = λ b. h (omega arith) in rw (ne-eqb x k h, le-leb k x a, lt-leb x k (omega arith)))
-    (λ a. rw (ne-eqb x k h, lt-leb k x a)))
+    (λ h. compare-le k x (λ a. rw (ne-eqb x k h, le-leb k x a, lt-leb x k (omega arith))) (λ a. rw (ne-eqb x k h, lt-leb k x a)))
 
 pub whole-length : (s : List ℕ) (at len : ℕ) → Whole s at len → u16At (drop at s) 0 ≡ len
 whole-length s at len w = length-at s at ∙ w .says

@@ -69,7 +69,7 @@ pub fn refusal_of(a: Answer) -> u32
 }
 
 // The length of the record at a place, whose kind is to be from `first` to `last`: 0 where it is cut or too short to be one, 1
-// where it has another kind.
+// where it has another kind, each the refusal's number less one.
 fn frame(s: &[u8], at: usize, first: u16, last: u16) -> u16
     requires { ⌜ at ≤ length (now s) ⌝ }
     ensures { λ r. ⌜ FrameAt (now (s .entry)) at first last r ⌝ }

@@ -11,7 +11,7 @@ use Rattle.wire.specs.Bytes.{u16At}
 use Rattle.wire.specs.Record.{framed, refusal}
 use Rattle.wire.specs.SheetFormat.{GroupRecord, groupTests, groupOf}
 use Rattle.reading.specs.Answers.{recordAs}
-use Rattle.reading.proofs.Fields.{frame-led, frame-refused, one-kind, read-at, whole-length}
+use Rattle.reading.proofs.Fields.{frame-led, frame-refused, one-kind, led-kind, read-at, whole-length}
 use Rattle.reading.proofs.Carried.{answer-refused, answer-record}
 use borrow.Author.Needs.{needs}
 use Rattle.reading.proofs.records.read_group.Statement.{statement}
@@ -21,7 +21,7 @@ use Rattle.reading.proofs.records.read_group.Tie as tie
 lead : (c : tie.Else2) → let a = c .before .before .before .before .args in
     let r = drop (a .at) (now (a .s)) in (framed r ≡ true) × ((u16At r 2 ≡ 2) × (u16At r 0 ≡ 10))
 lead c = let w = frame-led (c .before .before .before .before .pre) (c .before .before .frame .ensures) (c .before .if1 .left) in
-    (w .frame, (omega arith, whole-length _ _ _ (w .whole) ∙ c .if2 .left))
+    (w .frame, (led-kind w, whole-length _ _ _ (w .whole) ∙ c .if2 .left))
 
 frame-requires : tie.Need-frame-requires
 frame-requires c κs = search needs
@@ -40,7 +40,7 @@ returns c = λ gs e. answer-refused (λ z. omega arith) (frame-refused (c .befor
 returns-2 : tie.Need-returns-2
 unfolding refusal groupTests
 returns-2 c = λ gs e. let w = frame-led (c .before .before .before .before .pre) (c .before .before .frame .ensures) (c .before .if1 .left) in
-    answer-refused (λ z. omega arith) (simp (w .frame, one-kind 2, le-leb _ _ (w .least), le-leb _ _ (w .most), whole-length _ _ _ (w .whole), ne-eqb _ _ (c .if2 .taken)))
+    answer-refused (λ z. omega arith) (simp (w .frame, led-kind w, whole-length _ _ _ (w .whole), ne-eqb _ _ (c .if2 .taken)))
 
 add-word : tie.Need-add-word
 add-word c = search needs

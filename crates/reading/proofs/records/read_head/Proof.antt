@@ -2,14 +2,14 @@
 use mathlib.Core.Path.{_≡_, sym, _∙_}
 use mathlib.Core.Bool.{true, cond}
 use native.Mathlib.Omega.{arith}
-use borrow.Author.Tests.{le-leb, ne-eqb}
+use borrow.Author.Tests.{ne-eqb}
 use denote.Ref.{now}
 use lib.ListN.{drop}
 use Rattle.wire.specs.Bytes.{u16At}
 use Rattle.wire.specs.Record.{framed, refusal}
 use Rattle.wire.specs.SheetFormat.{headTests, headOf}
 use Rattle.reading.specs.Answers.{recordAs}
-use Rattle.reading.proofs.Fields.{frame-led, frame-refused, one-kind, read-at, whole-length}
+use Rattle.reading.proofs.Fields.{frame-led, frame-refused, one-kind, led-kind, read-at, whole-length}
 use Rattle.reading.proofs.Carried.{answer-refused, answer-record}
 use borrow.Author.Needs.{needs}
 use Rattle.reading.proofs.records.read_head.Statement.{statement}
@@ -19,7 +19,7 @@ use Rattle.reading.proofs.records.read_head.Tie as tie
 lead : (c : tie.Else2) → let a = c .before .before .before .before .args in
     let r = drop (a .at) (now (a .s)) in (framed r ≡ true) × ((u16At r 2 ≡ 1) × (u16At r 0 ≡ 10))
 lead c = let w = frame-led (c .before .before .before .before .pre) (c .before .before .frame .ensures) (c .before .if1 .left) in
-    (w .frame, (omega arith, whole-length _ _ _ (w .whole) ∙ c .if2 .left))
+    (w .frame, (led-kind w, whole-length _ _ _ (w .whole) ∙ c .if2 .left))
 
 frame-requires : tie.Need-frame-requires
 frame-requires c κs = search needs
@@ -38,7 +38,7 @@ returns c = answer-refused (λ z. omega arith) (frame-refused (c .before .before
 returns-2 : tie.Need-returns-2
 unfolding refusal headTests
 returns-2 c = let w = frame-led (c .before .before .before .before .pre) (c .before .before .frame .ensures) (c .before .if1 .left) in
-    answer-refused (λ z. omega arith) (simp (w .frame, one-kind 1, le-leb _ _ (w .least), le-leb _ _ (w .most), whole-length _ _ _ (w .whole), ne-eqb _ _ (c .if2 .taken)))
+    answer-refused (λ z. omega arith) (simp (w .frame, led-kind w, whole-length _ _ _ (w .whole), ne-eqb _ _ (c .if2 .taken)))
 
 add-word : tie.Need-add-word
 add-word c = search needs

@@ -1,17 +1,13 @@
 -- `read_name` meets its contract: the tests in the code's order are those of the format, and no label was used before.
 use Prim.Native.Nat.{_+_, _-_, _≤_, _<_}
-use mathlib.Core.Path.{_≡_, sym, ap, _∙_}
-use mathlib.Core.Bool.{true}
+use mathlib.Core.Path.{sym, ap, _∙_}
 use native.Mathlib.Omega.{arith}
-use borrow.Author.Tests.{le-leb, lt-leb, ne-eqb}
+use borrow.Author.Tests.{le-leb, lt-leb, not-true, not-false}
 use denote.Ref.{now}
-use lib.ListN.{drop}
-use Rattle.wire.specs.Record.{framed, refusal}
-use borrow.Author.Tests.{not-true, not-false}
-use Rattle.wire.specs.Bytes.{u16At}
+use Rattle.wire.specs.Record.{refusal}
 use Rattle.wire.specs.Edition.{editionOf, labelLimit}
 use Rattle.wire.specs.SheetFormat.{nameTests, used}
-use Rattle.reading.proofs.Fields.{Led, frame-led, frame-refused, one-kind, kind, read-at, whole-length}
+use Rattle.reading.proofs.Fields.{Led, frame-led, frame-refused, one-kind, led-kind, read-at, whole-length}
 use Rattle.reading.proofs.Carried.{answer-refused, answer-record, name-made}
 use Rattle.reading.proofs.Strings.{label-at}
 use borrow.Author.Needs.{needs}
@@ -47,7 +43,7 @@ returns c = answer-refused (λ z. omega arith) (frame-refused (c .before .before
 
 returns-2 : tie.Need-returns-2
 unfolding refusal nameTests
-returns-2 c = let l = led (c .before) in answer-refused (λ z. omega arith) (simp (l .frame, kind l, whole-length _ _ _ (l .whole), lt-leb _ _ (c .if2 .taken)))
+returns-2 c = let l = led (c .before) in answer-refused (λ z. omega arith) (simp (l .frame, led-kind l, whole-length _ _ _ (l .whole), lt-leb _ _ (c .if2 .taken)))
 
 label-limit-requires : tie.Need-label-limit-requires
 label-limit-requires c κs = search needs
@@ -58,7 +54,7 @@ sub-if3 c = search needs
 returns-3 : tie.Need-returns-3
 unfolding refusal nameTests
 returns-3 c = let l = led (c .before .before .before) in answer-refused (λ z. omega arith) (simp
-    (l .frame, kind l, whole-length _ _ _ (l .whole), le-leb _ _ (c .before .before .if2 .left), lt-leb _ _ (long c)))
+    (l .frame, led-kind l, whole-length _ _ _ (l .whole), le-leb _ _ (c .before .before .if2 .left), lt-leb _ _ (long c)))
 
 sub-label : tie.Need-sub-label
 sub-label c = search needs
@@ -75,7 +71,7 @@ returns-4 c = let l = led (c .before .before .before .before .before) in
     let a = c .before .before .before .before .before .before .before .before .args in
     answer-refused (λ z. omega arith) (simp (
       l .frame,
-      kind l,
+      led-kind l,
       whole-length _ _ _ (l .whole),
       le-leb _ _ (c .before .before .before .before .if2 .left),
       le-leb _ _ (short (c .before .before)),
@@ -96,7 +92,7 @@ returns-5 c = let l = led (c .before .before .before .before .before .before .be
     let a = c .before .before .before .before .before .before .before .before .before .before .args in
     answer-refused (λ z. omega arith) (simp (
       l .frame,
-      kind l,
+      led-kind l,
       whole-length _ _ _ (l .whole),
       le-leb _ _ (c .before .before .before .before .before .before .if2 .left),
       le-leb _ _ (short (c .before .before .before .before)),
@@ -120,7 +116,7 @@ returns-6 c = let l = led (c .before .before .before .before .before .before .be
     answer-record
     (simp (
       l .frame,
-      kind l,
+      led-kind l,
       whole-length _ _ _ (l .whole),
       le-leb _ _ (c .before .before .before .before .before .before .before .if2 .left),
       le-leb _ _ (short (c .before .before .before .before .before)),
@@ -130,7 +126,7 @@ returns-6 c = let l = led (c .before .before .before .before .before .before .be
       group,
       le-leb _ _ (c .before .if5 .left),
     ))
-    (name-made s (a .at) _ _ (kind l) (c .meaning-of .ensures .number ∙ sym group) (ap (λ n. n - 4) (sym (l .whole .says))) (omega arith))
+    (name-made s (a .at) _ _ (led-kind l) (c .meaning-of .ensures .number ∙ sym group) (ap (λ n. n - 4) (sym (l .whole .says))) (omega arith))
 
 pub read-name-spec : {M : Type 1} → statement M
 read-name-spec =
