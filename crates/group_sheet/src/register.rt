@@ -1,11 +1,7 @@
 // The check of a register.
 use reading::load::Loaded;
-use reading::load::load_sheet;
-use reading::tables::CLAIM_TABLE;
+use reading::load::load_tree;
 use reading::tables::GROUP_TABLE;
-use reading::tables::LABEL_TABLE;
-use reading::tables::NAME_TABLE;
-use reading::tables::PLACE_TABLE;
 use register_reply::give_check;
 use replies::pairs::pack;
 ghost use Rattle.meaning.specs.OfRecords.{sheetOf};
@@ -17,18 +13,7 @@ pub extern "C" fn sheet_register(sheet: &[u8], register: &[u8], reply: &mut [u8]
     ensures { λ r. ⌜ OnceSheet (now (sheet .entry)) (λ d. Register (now (register .entry)) (d .edition) (sheetOf (d .groups))) (call (now (reply .entry)) r (now (reply .exit))) ⌝ }
 {
     let mut groups = [0u16; GROUP_TABLE];
-    let mut names = [0u16; NAME_TABLE];
-    let mut labels = [0usize; LABEL_TABLE];
-    let mut claims = [0u16; CLAIM_TABLE];
-    let mut places = [0usize; PLACE_TABLE];
-    match load_sheet(
-        sheet,
-        &mut groups,
-        &mut names,
-        &mut labels,
-        &mut claims,
-        &mut places,
-    ) {
+    match load_tree(sheet, &mut groups) {
         Loaded::Refused(n, record) => pack(n, record),
         Loaded::Sheet(head) => give_check(&groups, head.groups, register, reply),
     }

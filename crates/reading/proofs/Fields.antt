@@ -5,12 +5,12 @@ use mathlib.Core.Bool.{Bool, true, false, cond, not, _&&_}
 use mathlib.Core.List.{List, [], _∷_}
 use native.Mathlib.Omega.{arith}
 use native.Mathlib.Nat.{add-zero}
-use borrow.Author.Tests.{le-leb, eqb-true}
+use borrow.Author.Tests.{le-leb, lt-leb, leb-true, eq-eqb, ne-eqb, eqb-true}
 use lib.ListN.{length, drop, length-drop}
 use lib.Dec.{leb, eqb}
 use Rattle.wire.specs.Fields.{u16-drop, u16s-drop}
 use Rattle.wire.specs.Passing.{passed}
-use Rattle.laws.specs.Cases.{split, and-true}
+use Rattle.laws.specs.Cases.{split, and-true, compare-le, compare-eq}
 use Rattle.wire.specs.Sorts.{Framed, framed-true, framed-of, group-nonzero, group-frame, name-nonzero, name-frame}
 use Rattle.wire.specs.Sorts.{claim-nonzero, claim-frame}
 use Rattle.wire.specs.Edition.{Edition, labelLimit}
@@ -18,7 +18,7 @@ use Rattle.wire.specs.Bytes.{u16At}
 use Rattle.wire.specs.Record.{framed, Test, test, refusal}
 use Rattle.wire.specs.SheetFormat.{GroupRecord, NameRecord, ClaimRecord, u16s}
 use Rattle.wire.specs.SheetFormat.{groupTests, nameOf, nameTests, used, claimTests}
-use Rattle.reading.specs.Answers.{FrameAt, Whole, WholeName, claimBody}
+use Rattle.reading.specs.Answers.{kindIn, FrameAt, Whole, WholeName, claimBody}
 
 pub field-at : (s : List ℕ) (at i : ℕ) → u16At (drop at s) i ≡ u16At s (at + i)
 field-at s at i = u16-drop at s i
@@ -43,33 +43,66 @@ whole-framed s at h k =
 framed-whole : (s : List ℕ) (at : ℕ) → Framed (drop at s) → (2 ≤ u16At s at) × (at + 2 + u16At s at ≤ length s)
 framed-whole s at f = omega (arith, length-at s at, length-drop at s)
 
-pub framed-none : (s : List ℕ) (at : ℕ) → at ≤ length s → (2 ≤ u16At s at → at + 2 + u16At s at ≤ length s → ⊥) → FrameAt s at 0
-framed-none s at l h =
-    let e : framed (drop at s) ≡ false = split (framed (drop at s))
-    (λ t. let g = framed-whole s at (framed-true (drop at s) t) in absurd (h (g .0) (g .1))) (λ t. t) in
-    record { says = rw e; room = zero-le }
+module _ (s : List ℕ) (at : ℕ) {first last : ℕ} where
+  pub framed-none : at ≤ length s → (2 ≤ u16At s at → at + 2 + u16At s at ≤ length s → ⊥) → FrameAt s at first last 0
+  framed-none l h =
+      let e : framed (drop at s) ≡ false = split (framed (drop at s))
+      (λ t. let g = framed-whole s at (framed-true (drop at s) t) in absurd (h (g .0) (g .1))) (λ t. t) in
+      record { says = rw e; room = zero-le }
 
-pub framed-some : (s : List ℕ) (at len : ℕ) → len ≡ u16At s at → 2 ≤ len → at + 2 + len ≤ length s → FrameAt s at len
-framed-some s at len e h k = record {
-  says = rw (whole-framed s at (omega arith) (omega arith), length-at s at) e;
-  room = omega arith;
-}
+  pub framed-other : (kind : ℕ) → kind ≡ u16At s (at + 2) → 2 ≤ u16At s at → at + 2 + u16At s at ≤ length s →
+      (leb first kind && leb kind last) ≡ false → FrameAt s at first last 1
+  framed-other kind k h l e = record { says = rw (whole-framed s at h l, read-at s at 2 kind k, e); room = omega arith }
+
+  pub framed-some : (len kind : ℕ) → len ≡ u16At s at → kind ≡ u16At s (at + 2) → 2 ≤ len → at + 2 + len ≤ length s →
+      first ≤ kind → kind ≤ last → FrameAt s at first last len
+  framed-some len kind e k h l a b = record {
+    says = rw (whole-framed s at (omega arith) (omega arith), read-at s at 2 kind k, le-leb _ _ a, le-leb _ _ b, length-at s at) e;
+    room = omega arith;
+  }
+
+-- a whole record of that length stands at a place, and its kind is from `first` to `last`
+pub record Led (s : List ℕ) (at first last len : ℕ) : Type 0 where
+  pub frame : framed (drop at s) ≡ true
+  pub least : first ≤ u16At (drop at s) 2
+  pub most : u16At (drop at s) 2 ≤ last
+  pub whole : Whole s at len
 
 -- what the frame's length says
-pub frame-whole : (s : List ℕ) (at len : ℕ) → at ≤ length s → FrameAt s at len → 2 ≤ len →
-    (framed (drop at s) ≡ true) × Whole s at len
-frame-whole s at len l f h =
-    split (framed (drop at s))
-    (λ e. let z : len ≡ u16At s at = (rw e at (f .says)) ∙ length-at s at in
-    let g = framed-whole s at (framed-true (drop at s) e) in
-    (e, record { says = sym z; least = h; room = omega arith }))
-    (λ e. let z : len ≡ 0 = rw e at (f .says) in absurd (omega arith))
+module _ {s : List ℕ} {at first last len : ℕ} (l : at ≤ length s) (f : FrameAt s at first last len) where
+  framed-length : framed (drop at s) ≡ true → kindIn first last (drop at s) ≡ true → Whole s at len
+  framed-length e t =
+      let z : len ≡ u16At s at = (rw (e, t) at (f .says)) ∙ length-at s at in
+      let g = framed-whole s at (framed-true (drop at s) e) in
+      record { says = sym z; least = omega arith; room = omega arith }
 
-pub frame-cut : (s : List ℕ) (at len : ℕ) → at ≤ length s → FrameAt s at len → len < 2 → framed (drop at s) ≡ false
-frame-cut s at len l f h =
-    split (framed (drop at s))
-    (λ e. let z : len ≡ u16At s at = (rw e at (f .says)) ∙ length-at s at in let g = framed-whole s at (framed-true (drop at s) e) in absurd (omega arith))
-    (λ e. e)
+  pub frame-led : 2 ≤ len → Led s at first last len
+  frame-led h =
+      split (framed (drop at s))
+      (λ e. split (kindIn first last (drop at s))
+      (λ t. let a = and-true _ _ t in
+      record { frame = e; least = leb-true _ _ (a .0); most = leb-true _ _ (a .1); whole = framed-length e t })
+      (λ t. let z : len ≡ 1 = rw (e, t) at (f .says) in absurd (omega arith)))
+      (λ e. let z : len ≡ 0 = rw e at (f .says) in absurd (omega arith))
+
+  -- the record is cut, or has another kind
+  pub frame-refused : {C : Type 0} → len < 2 → (framed (drop at s) ≡ false → len ≡ 0 → C) →
+      (framed (drop at s) ≡ true → kindIn first last (drop at s) ≡ false → len ≡ 1 → C) → C
+  frame-refused h cut other =
+      split (framed (drop at s))
+      (λ e. split (kindIn first last (drop at s))
+      (λ t. let w = framed-length e t in absurd (omega arith))
+      (λ t. other e t (rw (e, t) at (f .says))))
+      (λ e. cut e (rw e at (f .says)))
+
+-- one kind only
+pub led-kind : {s : List ℕ} {at k len : ℕ} → Led s at k k len → u16At (drop at s) 2 ≡ k
+led-kind w = omega arith
+
+pub one-kind : (k x : ℕ) → eqb x k ≡ (leb k x && leb x k)
+one-kind k x =
+    compare-eq x k (λ e. rw (e, eq-eqb k k refl, le-leb k k (omega arith)))
+    (λ h. compare-le k x (λ a. rw (ne-eqb x k h, le-leb k x a, lt-leb x k (omega arith))) (λ a. rw (ne-eqb x k h, lt-leb k x a)))
 
 pub whole-length : (s : List ℕ) (at len : ℕ) → Whole s at len → u16At (drop at s) 0 ≡ len
 whole-length s at len w = length-at s at ∙ w .says
@@ -81,10 +114,10 @@ unfolding claimTests
 claim-alone names cs b = refl
 
 -- the tests of a claim after its frame and kind
-pub claim-past : (names : ℕ) (b : List ℕ) (kind : ℕ) → framed b ≡ true → u16At b 2 ≡ kind → 4 ≤ kind → kind ≤ 6 →
-    refusal (claimTests names [] b) ≡ refusal (claimBody names b)
+pub claim-past : (names : ℕ) {s : List ℕ} {at len : ℕ} → Led s at 4 6 len →
+    refusal (claimTests names [] (drop at s)) ≡ refusal (claimBody names (drop at s))
 unfolding refusal claimTests claimBody
-claim-past names b kind f k l h = simp (f, k, le-leb _ _ l, le-leb _ _ h)
+claim-past names w = simp (w .frame, le-leb _ _ (w .least), le-leb _ _ (w .most))
 
 pub sides-end : (m n len : ℕ) → (leb 1 m && leb m 8 && leb 1 n && leb n 8 && eqb (6 + 2 * (m + n)) len) ≡ true →
     6 + 2 * (m + n) ≡ len

@@ -1,9 +1,10 @@
 -- What the reader of one record answers. Document 01: "a record with what it carries, or a refusal with its number".
 use Prim.Native.Nat.{ℕ, _+_, _-_, _≤_}
 use mathlib.Core.Path.{_≡_}
-use mathlib.Core.Bool.{cond}
+use mathlib.Core.Bool.{Bool, cond, _&&_}
 use mathlib.Core.List.{List, [], _∷_}
 use lib.ListN.{length, getD, drop}
+use lib.Dec.{leb}
 use Rattle.wire.specs.Bytes.{u16At}
 use Rattle.wire.specs.Edition.{editionOf}
 use Rattle.wire.specs.Record.{lengthOf, kindOf, framed, Test, test, refusal, Reading, read, refused, onward}
@@ -54,9 +55,14 @@ refusalIn (refused n r) = n
 pub record AnswerOf (tests : List ℕ → List Test) (value : List ℕ → Value) (s : List ℕ) (at : ℕ) (r : Answer) : Type 0 where
   pub says : (k : ℕ) → answerAs s at k r ≡ onward (refusal (tests (drop at s))) k (read (kindOf (drop at s), value (drop at s)))
 
--- len is the length of the record at a place, 0 where there is none; the record ends within the bytes
-pub record FrameAt (s : List ℕ) (at len : ℕ) : Type 0 where
-  pub says : len ≡ cond (framed (drop at s)) (lengthOf (drop at s)) 0
+-- a kind from `first` to `last`
+abbrev pub kindIn : ℕ → ℕ → List ℕ → Bool
+kindIn first last b = leb first (kindOf b) && leb (kindOf b) last
+
+-- len is the length of the record at a place, 0 where there is none and 1 where its kind is not from `first` to `last`; the
+-- record ends within the bytes
+pub record FrameAt (s : List ℕ) (at first last len : ℕ) : Type 0 where
+  pub says : len ≡ cond (framed (drop at s)) (cond (kindIn first last (drop at s)) (lengthOf (drop at s)) 1) 0
   pub room : len ≤ length s - at - 2
 
 -- a whole record of that length stands at a place

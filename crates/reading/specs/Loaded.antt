@@ -112,6 +112,14 @@ pub record Loads (r : Loaded) (whole : Reading Records) (s groups names labels c
   pub reads : goesOn (loadedAs r) (λ h. read (recordsOf h s groups labels claims places)) ≡ whole
   pub held : Then (loadedAs r) (λ h. Held h s names labels claims places)
 
+-- the same of the groups alone, with some tables of names and claims
+pub record LoadsTree (r : Loaded) (whole : Reading Records) (s groups : List ℕ) : Type 0 where
+  pub names : List ℕ
+  pub labels : List ℕ
+  pub claims : List ℕ
+  pub places : List ℕ
+  pub loads : Loads r whole s groups names labels claims places
+
 -- what that says for each of the two answers
 module _ {r : Loaded} {whole : Reading Records} {s groups names labels claims places : List ℕ}
     (w : Loads r whole s groups names labels claims places) where

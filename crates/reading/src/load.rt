@@ -10,8 +10,12 @@ use crate::records::read_group;
 use crate::records::read_head;
 use crate::records::read_name;
 use crate::records::refusal_of;
+use crate::tables::CLAIM_TABLE;
 use crate::tables::GROUP_FIELDS;
 use crate::tables::GroupNo;
+use crate::tables::LABEL_TABLE;
+use crate::tables::NAME_TABLE;
+use crate::tables::PLACE_TABLE;
 use crate::tables::number_meant;
 use crate::tables::put_four;
 ghost use mathlib.Core.Path.{_≡_};
@@ -25,7 +29,7 @@ ghost use Rattle.wire.specs.SheetFormat.{groupOf, groupTests, readGroups, readS
 ghost use Rattle.reading.specs.Tables.{groupFields, groupsIn};
 ghost use Rattle.reading.specs.ClaimTable.{claimSlots};
 ghost use Rattle.reading.specs.Answers.{headRecord};
-ghost use Rattle.reading.specs.Loaded.{goesOn, passedAs, loadedAs, Goes, NamesGo, ClaimsGo, Loads, Capacity, HeadLimits};
+ghost use Rattle.reading.specs.Loaded.{goesOn, passedAs, loadedAs, Goes, NamesGo, ClaimsGo, Loads, LoadsTree, Capacity, HeadLimits};
 
 // The place after the last of some records, or a refusal's number with the record's number.
 pub enum Passed {
@@ -188,4 +192,23 @@ pub fn load_sheet(
         return Loaded::Refused(2, 1);
     };
     load_records(sheet, h, groups, names, labels, claims, places)
+}
+
+// for operations that need the groups only: names and claims are read, and not kept
+pub fn load_tree(sheet: &[u8], groups: &mut [u16]) -> Loaded
+    requires { ⌜ groupFields * groupCapacity ≤ length (now groups) ⌝ }
+    ensures { λ r. ⌜ LoadsTree r (readSheet (now (sheet .entry))) (now (sheet .entry)) (now (groups .exit)) ⌝ }
+{
+    let mut names = [0u16; NAME_TABLE];
+    let mut labels = [0usize; LABEL_TABLE];
+    let mut claims = [0u16; CLAIM_TABLE];
+    let mut places = [0usize; PLACE_TABLE];
+    load_sheet(
+        sheet,
+        groups,
+        &mut names,
+        &mut labels,
+        &mut claims,
+        &mut places,
+    )
 }

@@ -68,10 +68,11 @@ pub fn refusal_of(a: Answer) -> u32
     }
 }
 
-// the length of the record at a place, 0 where it is cut or too short to be one
-pub fn frame(s: &[u8], at: usize) -> u16
+// The length of the record at a place, whose kind is to be from `first` to `last`: 0 where it is cut or too short to be one, 1
+// where it has another kind, each the refusal's number less one.
+fn frame(s: &[u8], at: usize, first: u16, last: u16) -> u16
     requires { ⌜ at ≤ length (now s) ⌝ }
-    ensures { λ r. ⌜ FrameAt (now (s .entry)) at r ⌝ }
+    ensures { λ r. ⌜ FrameAt (now (s .entry)) at first last r ⌝ }
 {
     let left = s.len() - at;
     if left < 4 {
@@ -83,6 +84,13 @@ pub fn frame(s: &[u8], at: usize) -> u16
     }
     if left - 2 < len as usize {
         return 0;
+    }
+    let kind = bytes::word(s, at + 2);
+    if kind < first {
+        return 1;
+    }
+    if last < kind {
+        return 1;
     }
     len
 }
@@ -113,12 +121,9 @@ pub fn read_head(s: &[u8], at: usize) -> Answer
     requires { ⌜ at ≤ length (now s) ⌝ }
     ensures { λ r. ⌜ AnswerOf headTests (λ b. head (headOf b)) (now (s .entry)) at r ⌝ }
 {
-    let len = frame(s, at);
+    let len = frame(s, at, 1, 1);
     if len < 2 {
-        return Answer::Refused(1);
-    }
-    if bytes::word(s, at + 2) != 1 {
-        return Answer::Refused(2);
+        return Answer::Refused(1 + len as u32);
     }
     if len != 10 {
         return Answer::Refused(3);
@@ -155,12 +160,9 @@ pub fn read_group(s: &[u8], at: usize, number: GroupNo) -> Answer
     ensures { λ r. ⌜ ((gs : List GroupRecord) → length gs + 1 ≡ number .0 →
         AnswerOf (groupTests gs) (λ b. group (groupOf b)) (now (s .entry)) at r) ⌝ }
 {
-    let len = frame(s, at);
+    let len = frame(s, at, 2, 2);
     if len < 2 {
-        return Answer::Refused(1);
-    }
-    if bytes::word(s, at + 2) != 2 {
-        return Answer::Refused(2);
+        return Answer::Refused(1 + len as u32);
     }
     if len != 10 {
         return Answer::Refused(3);
@@ -198,12 +200,9 @@ pub fn read_name(s: &[u8], at: usize, edition: u16, groups: u16) -> Answer
     requires { ⌜ at ≤ length (now s) ⌝ }
     ensures { λ r. ⌜ AnswerOf (nameTests (editionOf edition) groups []) (λ b. name (nameOf b)) (now (s .entry)) at r ⌝ }
 {
-    let len = frame(s, at);
+    let len = frame(s, at, 3, 3);
     if len < 2 {
-        return Answer::Refused(1);
-    }
-    if bytes::word(s, at + 2) != 3 {
-        return Answer::Refused(2);
+        return Answer::Refused(1 + len as u32);
     }
     if len < 5 {
         return Answer::Refused(3);
@@ -229,17 +228,11 @@ pub fn read_claim(s: &[u8], at: usize, names: u16) -> Answer
     requires { ⌜ at ≤ length (now s) ⌝ }
     ensures { λ r. ⌜ ClaimAnswer names (now (s .entry)) at r ⌝ }
 {
-    let len = frame(s, at);
+    let len = frame(s, at, 4, 6);
     if len < 2 {
-        return Answer::Refused(1);
+        return Answer::Refused(1 + len as u32);
     }
     let kind = bytes::word(s, at + 2);
-    if kind < 4 {
-        return Answer::Refused(2);
-    }
-    if 6 < kind {
-        return Answer::Refused(2);
-    }
     let n = claims::body_refusal(s, at, len, kind, names);
     if n != 0 {
         return Answer::Refused(n);

@@ -12,23 +12,11 @@ use Rattle.group_sheet.proofs.TabledLaws.{checkable}
 use Rattle.group_sheet.proofs.register.sheet_register.Statement.{statement}
 use Rattle.group_sheet.proofs.register.sheet_register.Tie as tie
 
-slice-aggregate-load-sheet : tie.Need-slice-aggregate-load-sheet
-slice-aggregate-load-sheet c = search needs
+slice-aggregate-load-tree : tie.Need-slice-aggregate-load-tree
+slice-aggregate-load-tree c = search needs
 
-slice-aggregate-load-sheet-2 : tie.Need-slice-aggregate-load-sheet-2
-slice-aggregate-load-sheet-2 c = search needs
-
-slice-aggregate-load-sheet-3 : tie.Need-slice-aggregate-load-sheet-3
-slice-aggregate-load-sheet-3 c = search needs
-
-slice-aggregate-load-sheet-4 : tie.Need-slice-aggregate-load-sheet-4
-slice-aggregate-load-sheet-4 c = search needs
-
-slice-aggregate-load-sheet-5 : tie.Need-slice-aggregate-load-sheet-5
-slice-aggregate-load-sheet-5 c = search needs
-
-load-sheet-requires : tie.Need-load-sheet-requires
-load-sheet-requires c κs = search needs
+load-tree-requires : tie.Need-load-tree-requires
+load-tree-requires c κs = search needs
 
 enum-known-n : tie.Need-enum-known-n
 enum-known-n c = search needs
@@ -44,13 +32,13 @@ slice-aggregate-give-check c = search needs
 
 give-check-requires : tie.Need-give-check-requires
 give-check-requires c κs =
-    let w = c .before .before .before .before .before .before .before .before .before .before .load-sheet .ensures in
+    let w = c .before .before .before .before .before .before .load-tree .ensures .loads in
     let e = c .before .before .before .head .given .1 in
     checkable _ _ _ _ (loaded-sheet w _ e) refl (omega (arith, loaded-held w _ e .limits .fewGroups))
 
 returns : tie.Need-returns
 returns c =
-    let e = loaded-refused (c .before .before .before .before .before .before .before .before .before .load-sheet .ensures) _ _ (c .before .before .n .given .1) in
+    let e = loaded-refused (c .before .before .before .before .before .load-tree .ensures .loads) _ _ (c .before .before .n .given .1) in
     record {
       turned = turned-back e (c .pack .ensures);
       passed = λ d f. absurd (read-not-refused f e);
@@ -62,7 +50,7 @@ same-length c = search needs
 returns-2 : tie.Need-returns-2
 unfolding editionOf sheetIn
 returns-2 c =
-    let e = loaded-sheet (c .before .before .before .before .before .before .before .before .before .before .before .before .before .load-sheet .ensures) _ (c .before .before .before .before .before .before .head .given .1) in
+    let e = loaded-sheet (c .before .before .before .before .before .before .before .before .before .load-tree .ensures .loads) _ (c .before .before .before .before .before .before .head .given .1) in
     record {
       turned = λ n k f. absurd (read-not-refused e f);
       passed = as-read (λ d. Register _ (d .edition) (sheetOf (d .groups)) _) e (c .before .before .give-check .ensures);
@@ -72,12 +60,8 @@ pub sheet-register-spec : {M : Type 1} → statement M
 sheet-register-spec =
     tie.close
     (tie.spec
-    slice-aggregate-load-sheet
-    slice-aggregate-load-sheet-2
-    slice-aggregate-load-sheet-3
-    slice-aggregate-load-sheet-4
-    slice-aggregate-load-sheet-5
-    load-sheet-requires
+    slice-aggregate-load-tree
+    load-tree-requires
     enum-known-n
     pack-requires
     enum-known-head

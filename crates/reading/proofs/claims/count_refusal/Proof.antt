@@ -1,5 +1,6 @@
 -- `count_refusal` meets its contract: the tests in the code's order are those of a count.
 use mathlib.Core.Path.{_≡_, sym, _∙_}
+use mathlib.Core.Bool.{cond}
 use borrow.Author.Tests.{le-leb, lt-leb, eq-eqb, ne-eqb, not-true, not-false}
 use denote.Ref.{now}
 use lib.ListN.{drop}
@@ -44,35 +45,28 @@ add-names-allowed c = search needs
 names-allowed-requires : tie.Need-names-allowed-requires
 names-allowed-requires c κs = search needs
 
-returns-3 : tie.Need-returns-3
+-- length and fields passed
+past : (c : tie.After-names-allowed) → let a = c .before .before .before .before .before .args in
+    refusal (claimBody (a .names) (drop (a .at) (now (a .s)))) ≡ cond (c .names-allowed .result) 0 5
 unfolding refusal claimBody claimLength claimFields claimNames u16s
-returns-3 c = let l = lead (c .before .before .before .before .before .before) in
-    let a = c .before .before .before .before .before .before .args in
+past c =
+    let l = lead (c .before .before .before .before .before) in
+    let a = c .before .before .before .before .before .args in
     simp (
       l .0,
       l .1,
-      eq-eqb _ _ (c .before .before .before .before .if1 .left),
-      read-at (now (a .s)) (a .at) 6 _ (c .before .before .before .word .ensures),
-      le-leb _ _ (c .before .before .if2 .left),
+      eq-eqb _ _ (c .before .before .before .if1 .left),
+      read-at (now (a .s)) (a .at) 6 _ (c .before .before .word .ensures),
+      le-leb _ _ (c .before .if2 .left),
       field-at (now (a .s)) (a .at) 4,
-      sym (c .before .names-allowed .ensures)
-          ∙ not-true (c .before .names-allowed .result) (c .if3 .taken),
+      sym (c .names-allowed .ensures),
     )
 
+returns-3 : tie.Need-returns-3
+returns-3 c = simp (past (c .before), not-true (c .before .names-allowed .result) (c .if3 .taken))
+
 returns-4 : tie.Need-returns-4
-unfolding refusal claimBody claimLength claimFields claimNames u16s
-returns-4 c = let l = lead (c .before .before .before .before .before .before) in
-    let a = c .before .before .before .before .before .before .args in
-    simp (
-      l .0,
-      l .1,
-      eq-eqb _ _ (c .before .before .before .before .if1 .left),
-      read-at (now (a .s)) (a .at) 6 _ (c .before .before .before .word .ensures),
-      le-leb _ _ (c .before .before .if2 .left),
-      field-at (now (a .s)) (a .at) 4,
-      sym (c .before .names-allowed .ensures)
-          ∙ not-false (c .before .names-allowed .result) (c .if3 .left),
-    )
+returns-4 c = simp (past (c .before), not-false (c .before .names-allowed .result) (c .if3 .left))
 
 pub count-refusal-spec : {M : Type 1} → statement M
 count-refusal-spec =

@@ -1,7 +1,7 @@
 -- `sides_refusal` meets its contract: the tests in the code's order are those of an inside or an apart.
 use Prim.Native.Nat.{_+_, _*_}
 use mathlib.Core.Path.{_≡_, sym, _∙_}
-use mathlib.Core.Bool.{false, cond, _&&_}
+use mathlib.Core.Bool.{true, false, cond, _&&_}
 use native.Mathlib.Omega.{arith}
 use native.Mathlib.Nat.{add-assoc}
 use borrow.Author.Tests.{le-leb, lt-leb, eq-eqb, ne-eqb, not-true, not-false}
@@ -25,33 +25,37 @@ lead c =
       whole-length _ _ _ (c .pre .0),
     )
 
+-- the fields passed
+allowed : (c : tie.Else4) → c .before .sides-allowed .result ≡ true
+allowed c = not-false (c .before .sides-allowed .result) (c .if4 .left)
+
 -- m and n give the length
 ends : (c : tie.Else4) → 6 + 2 * (c .before .before .before .word .result + c .before .before .word2 .result)
     ≡ c .before .before .before .before .before .before .before .before .args .len
-ends c = sides-end _ _ _ (sym (c .before .sides-allowed .ensures) ∙ not-false (c .before .sides-allowed .result) (c .if4 .left))
+ends c = sides-end _ _ _ (sym (c .before .sides-allowed .ensures) ∙ allowed c)
 
--- length and fields passed
-past : (c : tie.Else4) → let a = c .before .before .before .before .before .before .before .before .args in let s = now (a .s) in
+-- the length passed
+past : (c : tie.After-sides-allowed) → let a = c .before .before .before .before .before .before .before .args in let s = now (a .s) in
     refusal (claimBody (a .names) (drop (a .at) s))
-    ≡ cond (allWithin (a .names) (u16s s (a .at + 8) (c .before .before .before .word .result))
-    && allWithin (a .names) (u16s s (a .at + 8 + 2 * c .before .before .before .word .result)
-    (c .before .before .word2 .result))) 0 5
+    ≡ cond (c .sides-allowed .result)
+    (cond (allWithin (a .names) (u16s s (a .at + 8) (c .before .before .word .result))
+    && allWithin (a .names) (u16s s (a .at + 8 + 2 * c .before .before .word .result) (c .before .word2 .result))) 0 5) 4
 unfolding refusal claimBody claimLength claimFields claimNames leftOf rightOf
 past c =
-    let l = lead (c .before .before .before .before .before .before .before .before) in
-    let a = c .before .before .before .before .before .before .before .before .args in
+    let l = lead (c .before .before .before .before .before .before .before) in
+    let a = c .before .before .before .before .before .before .before .args in
     let s = now (a .s) in
     simp (
       l .0,
       l .1,
-      eq-eqb _ _ (c .before .before .before .before .before .before .if1 .left),
-      le-leb _ _ (c .before .before .before .before .before .if2 .left),
-      le-leb _ _ (c .before .before .before .before .if3 .left),
-      read-at s (a .at) 4 _ (c .before .before .before .word .ensures),
-      read-at s (a .at) 6 _ (c .before .before .word2 .ensures),
-      sym (c .before .sides-allowed .ensures) ∙ not-false (c .before .sides-allowed .result) (c .if4 .left),
+      eq-eqb _ _ (c .before .before .before .before .before .if1 .left),
+      le-leb _ _ (c .before .before .before .before .if2 .left),
+      le-leb _ _ (c .before .before .before .if3 .left),
+      read-at s (a .at) 4 _ (c .before .before .word .ensures),
+      read-at s (a .at) 6 _ (c .before .word2 .ensures),
+      sym (c .sides-allowed .ensures),
       fields-at,
-      sym (add-assoc (a .at) 8 (2 * c .before .before .before .word .result)),
+      sym (add-assoc (a .at) 8 (2 * c .before .before .word .result)),
     )
 
 returns : tie.Need-returns
@@ -93,20 +97,7 @@ sides-allowed-requires : tie.Need-sides-allowed-requires
 sides-allowed-requires c κs = search needs
 
 returns-4 : tie.Need-returns-4
-unfolding refusal claimBody claimLength claimFields
-returns-4 c = let l = lead (c .before .before .before .before .before .before .before .before) in
-    let a = c .before .before .before .before .before .before .before .before .args in
-    let s = now (a .s) in
-    simp (
-      l .0,
-      l .1,
-      eq-eqb _ _ (c .before .before .before .before .before .before .if1 .left),
-      le-leb _ _ (c .before .before .before .before .before .if2 .left),
-      le-leb _ _ (c .before .before .before .before .if3 .left),
-      read-at s (a .at) 4 _ (c .before .before .before .word .ensures),
-      read-at s (a .at) 6 _ (c .before .before .word2 .ensures),
-      sym (c .before .sides-allowed .ensures) ∙ not-true (c .before .sides-allowed .result) (c .if4 .taken),
-    )
+returns-4 c = simp (past (c .before), not-true (c .before .sides-allowed .result) (c .if4 .taken))
 
 add-names-allowed : tie.Need-add-names-allowed
 add-names-allowed c = search needs
@@ -116,7 +107,8 @@ names-allowed-requires c κs = let e = ends c in omega arith
 
 returns-5 : tie.Need-returns-5
 returns-5 c = simp (
-  past (c .before .before),
+  past (c .before .before .before),
+  allowed (c .before .before),
   sym (c .before .names-allowed .ensures)
       ∙ not-true (c .before .names-allowed .result) (c .if5 .taken),
 )
@@ -138,7 +130,8 @@ names-allowed-requires-2 c κs = let e = ends (c .before .before) in omega arith
 
 returns-6 : tie.Need-returns-6
 returns-6 c = simp (
-  past (c .before .before .before .before),
+  past (c .before .before .before .before .before),
+  allowed (c .before .before .before .before),
   sym (c .before .before .before .names-allowed .ensures)
       ∙ not-false (c .before .before .before .names-allowed .result) (c .before .before .if5 .left),
   sym (c .before .names-allowed2 .ensures) ∙ not-true (c .before .names-allowed2 .result) (c .if6 .taken),
@@ -146,7 +139,8 @@ returns-6 c = simp (
 
 returns-7 : tie.Need-returns-7
 returns-7 c = simp (
-  past (c .before .before .before .before),
+  past (c .before .before .before .before .before),
+  allowed (c .before .before .before .before),
   sym (c .before .before .before .names-allowed .ensures)
       ∙ not-false (c .before .before .before .names-allowed .result) (c .before .before .if5 .left),
   sym (c .before .names-allowed2 .ensures) ∙ not-false (c .before .names-allowed2 .result) (c .if6 .left),

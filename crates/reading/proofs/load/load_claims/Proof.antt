@@ -27,18 +27,15 @@ Inv-loop s from count names first claims₀ places₀ at₀ i₀ claims places a
 abbrev μ-loop : tie.MeasureT-loop
 μ-loop s from count names first claims₀ places₀ at₀ i₀ claims places at i = count - i
 
--- the places of the loop's head, of its test and of the entry, seen from after a record was taken; and where that was
+-- the place of the loop's head, the bytes and the number of names, seen from after a record was taken; and where that was
 abbrev head : tie.After-known-told Inv-loop μ-loop → tie.At-loop Inv-loop μ-loop
 head c = c .before .before .before .before .before
 
-abbrev turn : tie.After-known-told Inv-loop μ-loop → tie.In-loop Inv-loop μ-loop
-turn c = c .before .before .before .before
-
-abbrev entry : tie.After-known-told Inv-loop μ-loop → tie.Start Inv-loop μ-loop
-entry c = c .before .before .before .before .before .before .before .before .before
-
 abbrev bytes : tie.After-known-told Inv-loop μ-loop → List ℕ
-bytes c = now (entry c .args .s)
+bytes c = now (c .before .before .before .before .before .before .before .before .before .args .s)
+
+abbrev names : tie.After-known-told Inv-loop μ-loop → ℕ
+names c = c .before .before .before .before .before .before .before .before .before .args .names
 
 abbrev carried : tie.After-put-claim-arg2 Inv-loop μ-loop → tie.After-rec Inv-loop μ-loop
 carried c = c .before .before .before
@@ -53,7 +50,7 @@ asked c = c .read-claim .ensures .answers
 
 -- a record was handed up
 taken : (c : tie.After-known-told Inv-loop μ-loop) →
-    Handed (claimTests (entry c .args .names) []) (λ b. claim (claimOf b)) (bytes c) (head c .loop .at) (c .before .answer .given .0 .0)
+    Handed (claimTests (names c) []) (λ b. claim (claimOf b)) (bytes c) (head c .loop .at) (c .before .answer .given .0 .0)
 taken c = answered-record (asked (c .before .before .before)) (c .before .answer .given .1)
 
 -- the tables have room for it
@@ -66,7 +63,7 @@ next : (c : tie.After-claim-bytes Inv-loop μ-loop) → let l = head (told (c .b
 next c =
     let p = c .before .before .before .before .before .before in
     let e = claim-bytes _ (taken (told p)) (carried p .rec .given .1) (c .claim-bytes .ensures _) in
-    let r = claim-whole (bytes (told p)) (head (told p) .loop .at) (entry (told p) .args .names) [] (taken (told p) .pass) in
+    let r = claim-whole (bytes (told p)) (head (told p) .loop .at) (names (told p)) [] (taken (told p) .pass) in
     omega arith
 
 loop-holds : tie.Need-loop-holds Inv-loop μ-loop
@@ -147,9 +144,9 @@ loop-again c = let p = c .before .before .before .before .before .before in
         (
           (put .kept .0 ∙ l .inv .1 .1 .0 .0, put .kept .1 .0 ∙ l .inv .1 .1 .0 .1),
           (
-            claim-again _ (l .inv .1 .1 .1 .0) (turn (told p) .loop-test .taken) (room p) w (carried p .rec .given .1) (put .ensures)
+            claim-again _ (l .inv .1 .1 .1 .0) (told p .before .before .before .before .loop-test .taken) (room p) w (carried p .rec .given .1) (put .ensures)
                 (c .claim-bytes .ensures _),
-            held-more (room p) (put .ensures) (bytes (told p)) (entry (told p) .args .names) (l .inv .1 .1 .1 .1)
+            held-more (room p) (put .ensures) (bytes (told p)) (names (told p)) (l .inv .1 .1 .1 .1)
                 (told p .before .before .before .read-claim .ensures .held _
                 (told p .before .answer .given .1 ∙ ap answer.Record (carried p .rec .given .1))),
           ),

@@ -24,12 +24,9 @@ Inv-loop s from count groups₀ at₀ i₀ groups at i = (i ≤ count) ×
 abbrev μ-loop : tie.MeasureT-loop
 μ-loop s from count groups₀ at₀ i₀ groups at i = count - i
 
--- the places of the loop's head, of its test and of the entry, seen from after a record was taken; and where that was
+-- the place of the loop's head and the bytes, seen from after a record was taken; and where that was
 abbrev head : tie.After-known-told Inv-loop μ-loop → tie.At-loop Inv-loop μ-loop
 head c = c .before .before .before .before .before
-
-abbrev turn : tie.After-known-told Inv-loop μ-loop → tie.In-loop Inv-loop μ-loop
-turn c = c .before .before .before .before
 
 abbrev bytes : tie.After-known-told Inv-loop μ-loop → List ℕ
 bytes c = now (c .before .before .before .before .before .before .before .before .args .s)
@@ -118,7 +115,7 @@ loop-again c = let l = head (told c) .loop in (
     room (told c),
     (
       c .before .before .put-four .kept .0 ∙ l .inv .1 .1 .0,
-      group-again (l .groups) (l .inv .1 .1 .1) (turn (told c) .loop-test .taken) (omega arith) (taken (told c))
+      group-again (l .groups) (l .inv .1 .1 .1) (told c .before .before .before .before .loop-test .taken) (omega arith) (taken (told c))
           (c .before .before .before .before .before .rec .given .1) (c .before .before .put-four .ensures),
     ),
   ),
