@@ -1,2 +1,3 @@
 pub mod ShownAlike
 pub mod DenialLaws
+pub mod ClaimLaws

@@ -1,1 +1,2 @@
 pub mod ClaimReply
+pub mod Asked

@@ -1,24 +1,32 @@
-// The reply to `sheet_claim` on a claim of a possible sheet: the verdict, with sets where it is denied, or refusal 14.
+// The reply to `sheet_claim` under a sheet that was read: the verdict, with sets where it is denied, or a refusal.
 // `specs/ClaimReply` writes the operation down.
-// Document 01, "Meaning", "The arrangement" (denials), "Replies".
+// Document 01, "Meaning", "The arrangement" (denials), "Replies", refusals 8, 9 and 14.
 use claims::decide::decide;
 use claims::verdict::Verdict;
 use claims::verdict::verdict_number;
+use ranging::fitting::some_fit;
 use reading::claim::Claim;
+use reading::claim::claim_in;
+use reading::records::Head;
 use reading::tables::GROUP_CAPACITY;
 use replies::SHOWN_BYTES;
 use replies::VERDICT_BYTES;
 use replies::pairs::pack;
 use replies::put_sets;
 use replies::put_verdict;
+ghost use mathlib.Core.Path.{_≡_};
+ghost use Rattle.wire.specs.Record.{read};
+ghost use Rattle.wire.specs.SheetFormat.{Records, readSheet};
+ghost use Rattle.reading.specs.Answers.{headRecord};
 ghost use Rattle.reading.specs.ClaimHeld.{claimRecord};
 ghost use Rattle.reading.specs.SheetIn.{sheetIn, Tabled};
 ghost use Rattle.claims.specs.Named.{Askable, claimMeant};
 ghost use Rattle.replies.specs.Reply.{call};
-ghost use Rattle.claim_reply.specs.ClaimReply.{VerdictOn};
+ghost use Rattle.claim_reply.specs.ClaimReply.{VerdictOn, ClaimVerdict};
+ghost use Rattle.claim_reply.specs.Asked.{Asked};
 
 // The verdict on a claim, with sets where it is denied, into a buffer with room for this verdict.
-pub fn give_verdict(
+fn give_verdict(
     sheet: &[u8],
     c: Claim,
     names: &[u16],
@@ -62,4 +70,32 @@ pub fn give_verdict(
             pack(0, bytes as u32)
         }
     }
+}
+
+// The reply under a sheet whose records are in the tables.
+pub fn give_claim(
+    sheet: &[u8],
+    head: Head,
+    groups: &mut [u16],
+    names: &[u16],
+    claims: &[u16],
+    places: &[usize],
+    claim: u32,
+    reply: &mut [u8],
+) -> u64
+    requires { ⌜ Asked (headRecord head) (now sheet) (now groups) (now names) (now claims) (now places) ⌝ }
+    ensures { λ r. ⌜ (d : Records) → readSheet (now (sheet .entry)) ≡ read d → ClaimVerdict claim d (call (now (reply .entry)) r (now
+        (reply .exit))) ⌝ }
+{
+    if !some_fit(groups, head.groups) {
+        return pack(8, 0);
+    }
+    if claim == 0 {
+        return pack(9, 0); // there is no claim 0
+    }
+    if (head.claims as u32) < claim {
+        return pack(9, 0);
+    }
+    let c = claim_in(claims, places, claim as usize - 1);
+    give_verdict(sheet, c, names, groups, head.groups, reply)
 }

@@ -1,7 +1,5 @@
 // The verdict on one claim.
-use claim_reply::give_verdict;
-use ranging::fitting::some_fit;
-use reading::claim::claim_in;
+use claim_reply::give_claim;
 use reading::load::Loaded;
 use reading::load::load_sheet;
 use reading::tables::CLAIM_TABLE;
@@ -31,18 +29,15 @@ pub extern "C" fn sheet_claim(sheet: &[u8], claim: u32, reply: &mut [u8]) -> u64
         &mut places,
     ) {
         Loaded::Refused(n, record) => pack(n, record),
-        Loaded::Sheet(head) => {
-            if !some_fit(&groups, head.groups) {
-                return pack(8, 0);
-            }
-            if claim == 0 {
-                return pack(9, 0); // there is no claim 0
-            }
-            if (head.claims as u32) < claim {
-                return pack(9, 0);
-            }
-            let c = claim_in(&claims, &places, claim as usize - 1);
-            give_verdict(sheet, c, &names, &mut groups, head.groups, reply)
-        }
+        Loaded::Sheet(head) => give_claim(
+            sheet,
+            head,
+            &mut groups,
+            &names,
+            &claims,
+            &places,
+            claim,
+            reply,
+        ),
     }
 }
