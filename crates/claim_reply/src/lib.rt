@@ -84,8 +84,8 @@ pub fn give_claim(
     reply: &mut [u8],
 ) -> u64
     requires { ⌜ Asked (headRecord head) (now sheet) (now groups) (now names) (now claims) (now places) ⌝ }
-    ensures { λ r. ⌜ (d : Records) → readSheet (now (sheet .entry)) ≡ read d → ClaimVerdict claim d (call (now (reply .entry)) r (now
-        (reply .exit))) ⌝ }
+    ensures { λ r. ⌜ ((d : Records) → readSheet (now (sheet .entry)) ≡ read d → ClaimVerdict claim d (call (now (reply .entry)) r (now
+        (reply .exit)))) ⌝ }
 {
     if !some_fit(groups, head.groups) {
         return pack(8, 0);
