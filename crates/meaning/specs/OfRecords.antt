@@ -17,7 +17,7 @@ use Rattle.meaning.specs.Claim.{Claim, counted, within, separate}
 abbrev pub groupAt : List GroupRecord → ℕ → GroupRecord
 groupAt gs g = getD gs (g - 1) (record { parent = 0; lo = 0; hi = 0; mode = 0 })
 
--- "hi is 0 to 65,534, or 65,535 for no upper end"; "mode is a sum of 1 (disjoint), 2 (cover), 4 (same)"
+-- "hi is 0 to 65,534, or 65,535 for no upper end"; "Mode is a sum of 1 (disjoint), 2 (cover), 4 (same)"
 abbrev pub sheetOf : List GroupRecord → Sheet
 sheetOf gs = record {
   size = length gs;
