@@ -1,5 +1,5 @@
 // The three operations, exported to C: ranges with an arrangement, the verdict on one claim, the check of a register.
-// `specs/` writes each operation down: return value and every byte of the reply, for every input.
+// Each reads the sheet and calls the crate that has its own part; `proofs/Settled` says that the contracts settle every exit.
 // Document 01, "What it reads and gives" and "Replies".
 pub mod claim;
 pub mod ranges;

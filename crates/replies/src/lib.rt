@@ -1,6 +1,6 @@
-// Replies: the records of kinds 17 to 20, written into the lent buffer.
-// Each writer says what is read back from its bytes, and that no other byte changes.
-// Document 01, "Replies".
+// Replies: the records of kinds 17 to 20, written into the lent buffer, and the pair that a call returns (`pairs`).
+// Each writer says what is read back from its bytes, and that no other byte changes. `specs/Reply` has the refusals and their
+// order, for the contract of every operation. Document 01, "Replies" and "Turned back, in checking order".
 pub mod pairs;
 
 use crate::pairs::pack;
