@@ -170,10 +170,24 @@ static void show_register(const char *what, const struct bytes *sheet, const str
         printf("%s: group %u breaks rule %u\n", what, (unsigned)g, (unsigned)rule);
 }
 
+/* The sheet's bounds replaced by the ranges of its reply. Not where a finite end is above SHEET_MAX_BOUND: it has no field. */
+static int narrow(struct bytes *sheet, const uint8_t *reply, size_t groups)
+{
+    for (size_t g = 1; g <= groups; g++) {
+        const uint8_t *range = reply + SHEET_RANGES_REPLY(g - 1);
+        uint32_t least = sheet_get32(range + 4), greatest = sheet_get32(range + 8);
+        if (least > SHEET_MAX_BOUND || (greatest > SHEET_MAX_BOUND && greatest != SHEET_NO_GREATEST))
+            return 0;
+        sheet_put16(sheet->at + 12 * g + 6, least);
+        sheet_put16(sheet->at + 12 * g + 8, greatest == SHEET_NO_GREATEST ? SHEET_NO_UPPER_END : greatest);
+    }
+    return 1;
+}
+
 int main(void)
 {
     static struct bytes sheet, other, reg;
-    static uint8_t reply[SHEET_MAX_REPLY];
+    static uint8_t reply[SHEET_MAX_REPLY], again[SHEET_MAX_REPLY];
 
     clinic(&sheet);
     show_ranges("ranges", &sheet, reply, sizeof reply);
@@ -204,6 +218,14 @@ int main(void)
     show_ranges("impossible sheet", &other, reply, sizeof reply);
     sheet_put16(other.at + 12 + 8, 4);
     show_ranges("with one more", &other, reply, sizeof reply);
+
+    /* The ranges as bounds: the same reply, byte for byte. */
+    clinic(&other);
+    uint64_t got = sheet_ranges(other.at, other.len, reply, sizeof reply);
+    int done = narrow(&other, reply, 4);
+    uint64_t once_more = sheet_ranges(other.at, other.len, again, sizeof again);
+    printf("ranges as bounds: %s, %s\n", done && memcmp(other.at, sheet.at, sheet.len) != 0 ? "other bounds" : "the same sheet",
+           got == once_more && memcmp(reply, again, sheet_second_of(got)) == 0 ? "the same reply" : "another reply");
 
     refused("no bytes at all", sheet_ranges(NULL, 0, NULL, 0));
     refused("no bytes, a claim", sheet_claim(NULL, 0, 1, NULL, 0));

@@ -1,6 +1,7 @@
 // Holds the library to an independent implementation, through its C symbols.
 //
 //   oracle [--seed N] [--cases N] [--only I]   compare; I is one sheet's number from a report
+//          [--lo-above] [--lo-below] [--hi-above] [--hi-below]   with a replaced bound off by one
 //   oracle --self-test [--seed N]              hold the implementation's own methods together
 //
 // A case is one operation on one input (sheet, and claim number or register); it is called with
@@ -84,6 +85,7 @@ const GUARD: usize = 24;
 
 struct Run {
     seed: u64,
+    off: Off,
     number: u64,
     cases: u64,
     calls: u64,
@@ -280,6 +282,7 @@ impl Run {
             return;
         }
         self.met("sheets: possible");
+        let mut again = None;
         if HAS_RANGES {
             let mut reply = Vec::new();
             let runs = arrangement(sheet, &large.up);
@@ -298,7 +301,23 @@ impl Run {
             if broken_rule(sheet, &expand(&shown)) != (0, 0) {
                 self.fail(bytes, &Ask::Ranges, 0, "the oracle's arrangement doesn't fit");
             }
-            self.case(rng, bytes, &Ask::Ranges, Want::Bytes(reply));
+            // Document 02, card 13: no sets that fit have fewer members in the root, and no run leaves it.
+            let end = |r: (u64, u64)| r.0 + r.1;
+            if runs[0].1 != large.range(0).0
+                || runs.iter().any(|&r| r.1 > 0 && (r.0 < runs[0].0 || end(r) > end(runs[0])))
+            {
+                self.fail(bytes, &Ask::Ranges, 0, "the oracle's arrangement isn't the smallest");
+            }
+            self.case(rng, bytes, &Ask::Ranges, Want::Bytes(reply.clone()));
+            // And with its ranges as bounds a sheet keeps its reply.
+            again = replaced(bytes, &reply, self.off);
+            match &again {
+                None => self.met("replaced: an end above 65,534"),
+                Some(b) => {
+                    self.met(if b == bytes { "replaced: as it was" } else { "replaced: other bounds" });
+                    self.case(rng, b, &Ask::Ranges, Want::Bytes(reply));
+                }
+            }
         }
         if HAS_CLAIM {
             let bad = rng.pick(&[0, q + 1, q + 1, q + 2, 65537, u32::MAX]);
@@ -320,15 +339,45 @@ impl Run {
                 let size = if small.is_some() { "small" } else { "large" };
                 let verdict = if broken { "denied" } else { "holds" };
                 self.met(&format!("claim: {kind} {verdict}, {size}"));
-                let want = if broken {
+                let want = || if broken {
                     Want::Denial(sheet, claim)
                 } else {
                     Want::Bytes(vec![4, 0, 18, 0, 1, 0])
                 };
-                self.case(rng, bytes, &Ask::Claim(c + 1), want);
+                self.case(rng, bytes, &Ask::Claim(c + 1), want());
+                // The same sets fit the replaced sheet: what it shows of a denial fits this one.
+                if let (0, Some(b)) = (k, &again) {
+                    self.met(&format!("replaced: {kind} {verdict}"));
+                    self.case(rng, b, &Ask::Claim(c + 1), want());
+                }
             }
         }
     }
+}
+
+// What a replaced sheet's bounds are off by: nothing, but where `can-fail` asks for it.
+#[derive(Clone, Copy, Default)]
+struct Off {
+    lo: i64,
+    hi: i64,
+}
+
+// A sheet's bytes with the ranges of its reply in place of its bounds; none where a finite end is above 65,534.
+fn replaced(sheet: &[u8], reply: &[u8], off: Off) -> Option<Vec<u8>> {
+    let mut bytes = sheet.to_vec();
+    for (g, range) in reply.chunks(20).enumerate() {
+        let (least, greatest) = (dword(range, 4), dword(range, 8));
+        if least > 65534 || (greatest > 65534 && greatest != u32::MAX) {
+            return None;
+        }
+        let near = |end: u32, off: i64| (end as i64 + off).clamp(0, 65534) as u16;
+        let lo = near(least, off.lo);
+        let hi = if greatest == u32::MAX { 65535 } else { near(greatest, off.hi) };
+        let at = 12 * (g + 1);
+        bytes[at + 6..at + 8].copy_from_slice(&lo.to_le_bytes());
+        bytes[at + 8..at + 10].copy_from_slice(&hi.to_le_bytes());
+    }
+    Some(bytes)
 }
 
 // A denial's reply: its frames, and that the sets it shows fit and break the claim.
@@ -386,7 +435,15 @@ fn wanted() -> Vec<String> {
                 for size in ["small", "large"] {
                     all.push(format!("claim: {kind} {verdict}, {size}"));
                 }
+                if HAS_RANGES {
+                    all.push(format!("replaced: {kind} {verdict}"));
+                }
             }
+        }
+    }
+    if HAS_RANGES {
+        for what in ["other bounds", "as it was", "an end above 65,534"] {
+            all.push(format!("replaced: {what}"));
         }
     }
     all
@@ -396,6 +453,7 @@ const WORKERS: u64 = 2;
 
 fn main() {
     let (mut seed, mut cases, mut only, mut own) = (20_240_229u64, 1_000_000u64, None, false);
+    let mut off = Off::default();
     let mut args = std::env::args().skip(1);
     while let Some(a) = args.next() {
         let mut number = || -> u64 {
@@ -409,6 +467,10 @@ fn main() {
             "--cases" => cases = number(),
             "--only" => only = Some(number()),
             "--self-test" => own = true,
+            "--lo-above" => off.lo = 1,
+            "--lo-below" => off.lo = -1,
+            "--hi-above" => off.hi = 1,
+            "--hi-below" => off.hi = -1,
             _ => {
                 eprintln!("oracle [--seed N] [--cases N] [--only I] | --self-test [--seed N]");
                 exit(2)
@@ -419,7 +481,7 @@ fn main() {
         selftest::run(seed);
         return;
     }
-    let new = || Run { seed, number: 0, cases: 0, calls: 0, met: BTreeMap::new() };
+    let new = || Run { seed, off, number: 0, cases: 0, calls: 0, met: BTreeMap::new() };
     if let Some(i) = only {
         let mut run = new();
         run.sheet(i);

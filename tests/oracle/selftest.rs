@@ -3,7 +3,7 @@
 
 use crate::format::*;
 use crate::gen::Rng;
-use crate::large::Large;
+use crate::large::{arrangement, Large};
 use crate::small::Small;
 
 // Families over members 0..people; a set is the bits of its members.
@@ -97,7 +97,7 @@ fn random_sheet(rng: &mut Rng, n: usize, most: u64, endless: u64) -> Sheet {
 pub fn run(seed: u64) {
     // All finite, so that a few people are enough: the root's hi bounds them.
     let mut rng = Rng::new(seed);
-    let (mut sheets, mut possible, mut claims, mut denied) = (0u64, 0u64, 0u64, 0u64);
+    let (mut sheets, mut possible, mut claims, mut denied, mut other) = (0u64, 0u64, 0u64, 0u64, 0u64);
     while sheets < 12_000 {
         let n = 1 + rng.index(4);
         let people = if n == 4 { 3 } else { 4 };
@@ -110,8 +110,10 @@ pub fn run(seed: u64) {
         let mut some = false;
         let mut ranges = vec![(u64::MAX, 0); n];
         let mut deny = vec![false; sheet.claims.len()];
+        let mut fitting = Vec::new();
         families(&sheet, people, |f| {
             some = true;
+            fitting.push(f.to_vec());
             for g in 0..n {
                 let c = f[g].count_ones() as u64;
                 ranges[g] = (ranges[g].0.min(c), ranges[g].1.max(c));
@@ -134,6 +136,20 @@ pub fn run(seed: u64) {
             assert_eq!(want, small.ranges[g], "range of {}, enumeration\n{text}", g + 1);
             assert_eq!(want, large.range(g), "range of {}, closed forms\n{text}", g + 1);
         }
+        // Document 02, card 13: with its ranges as bounds the same families fit; the arrangement is one of them, none has
+        // fewer members in the root, and its runs lie in the root's.
+        let mut replaced = sheet.clone();
+        for g in 0..n {
+            (replaced.groups[g].lo, replaced.groups[g].hi) = (ranges[g].0, Some(ranges[g].1));
+        }
+        let mut again = Vec::new();
+        families(&replaced, people, |f| again.push(f.to_vec()));
+        assert_eq!(fitting, again, "families with the ranges as bounds\n{text}");
+        other += (replaced.groups.iter().zip(&sheet.groups)).any(|(a, b)| (a.lo, a.hi) != (b.lo, b.hi)) as u64;
+        let runs: Vec<u32> = arrangement(&sheet, &large.up).iter().map(|r| ((1 << r.1) - 1) << (r.0 - 1)).collect();
+        assert!(fitting.contains(&runs), "the arrangement\n{text}");
+        assert!(fitting.iter().all(|f| runs[0].count_ones() <= f[0].count_ones()), "the smallest\n{text}");
+        assert!(runs.iter().all(|r| r & !runs[0] == 0), "a run outside the root's\n{text}");
         for (c, claim) in sheet.claims.iter().enumerate() {
             claims += 1;
             denied += deny[c] as u64;
@@ -142,8 +158,42 @@ pub fn run(seed: u64) {
         }
     }
     println!(
-        "self-test, families of sets: {sheets} sheets ({possible} possible), {claims} claims ({denied} denied)"
+        "self-test, families of sets: {sheets} sheets ({possible} possible, {other} with other ranges than bounds), {claims} claims ({denied} denied)"
     );
+
+    // No sheet of up to three groups with bounds up to 2 gets other ranges or another arrangement from its ranges as
+    // bounds: all of them, by closed forms.
+    let (mut sheets, mut possible, mut other) = (0u64, 0u64, 0u64);
+    let kinds: Vec<Group> = (0..96)
+        .map(|k| Group { parent: None, lo: k % 3, hi: [Some(0), Some(1), Some(2), None][k as usize / 3 % 4], mode: k as u16 / 12 })
+        .collect();
+    for parents in [&[None][..], &[None, Some(0)], &[None, Some(0), Some(0)], &[None, Some(0), Some(1)]] {
+        for code in 0..kinds.len().pow(parents.len() as u32) {
+            let groups: Vec<Group> = (0..parents.len())
+                .map(|g| Group { parent: parents[g], ..kinds[code / kinds.len().pow(g as u32) % kinds.len()].clone() })
+                .collect();
+            let sheet = Sheet { sons: make_sons(&groups), groups, names: Vec::new(), claims: Vec::new() };
+            sheets += 1;
+            let large = Large::new(&sheet);
+            if !large.possible() {
+                continue;
+            }
+            possible += 1;
+            let mut replaced = sheet.clone();
+            for (g, group) in replaced.groups.iter_mut().enumerate() {
+                (group.lo, group.hi) = large.range(g);
+            }
+            if (replaced.groups.iter().zip(&sheet.groups)).all(|(a, b)| (a.lo, a.hi) == (b.lo, b.hi)) {
+                continue;
+            }
+            other += 1;
+            let again = Large::new(&replaced);
+            let text = show(&sheet);
+            assert!((0..parents.len()).all(|g| again.range(g) == large.range(g)), "ranges as bounds\n{text}");
+            assert_eq!(arrangement(&sheet, &large.up), arrangement(&replaced, &again.up), "arrangement\n{text}");
+        }
+    }
+    println!("self-test, ranges as bounds: {sheets} sheets ({possible} possible, {other} with other ranges than bounds)");
 
     // Enumeration against closed forms, also without upper ends.
     let (mut sheets, mut possible, mut claims, mut denied) = (0u64, 0u64, 0u64, 0u64);
@@ -172,5 +222,5 @@ pub fn run(seed: u64) {
     println!(
         "self-test, enumeration and closed forms: {sheets} sheets ({possible} possible), {claims} claims ({denied} denied)"
     );
-    println!("self-test: 2 passed, 0 failed");
+    println!("self-test: 3 passed, 0 failed");
 }

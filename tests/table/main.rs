@@ -1,4 +1,4 @@
-// Inputs and answers written by hand from document 01, through the exported operations.
+// Inputs and answers written by hand from documents 01 and 02, through the exported operations.
 #![allow(unexpected_cfgs)]
 #![allow(dead_code)]
 
@@ -267,6 +267,10 @@ impl Table {
             for len in [need, need + 1, need + 100] {
                 self.written(&format!("{what}, {len} bytes"), Op::Ranges, sheet, len, &bytes);
             }
+            // Document 02, card 13: with its ranges as bounds the sheet has the same reply.
+            if let Some(again) = replaced(sheet, want) {
+                self.written(&format!("{what}, ranges as bounds"), Op::Ranges, &again, need, &bytes);
+            }
         }
     }
 
@@ -357,6 +361,7 @@ fn main() {
     reading_pairs(&mut t);
     registers(&mut t);
     ranges(&mut t);
+    planners(&mut t);
     claims(&mut t);
     println!("table: {} passed, {} failed", t.passed, t.failed);
     if t.failed > 0 || t.passed == 0 {
@@ -673,6 +678,60 @@ fn star(n: u16) -> Bytes {
     let list: Vec<(u16, u16, u16, u16)> =
         (1..=n).map(|g| (if g == 1 { 0 } else { 1 }, 0, NO_END, 0)).collect();
     groups(&list)
+}
+
+// The sheet with these ranges in place of its bounds, 65,535 for no greatest; none where a finite end is above 65,534.
+fn replaced(sheet: &[u8], ranges: &[[u32; 4]]) -> Option<Bytes> {
+    let mut b = sheet.to_vec();
+    for (g, r) in ranges.iter().enumerate() {
+        if r[0] > 65534 || (r[1] > 65534 && r[1] != NONE) {
+            return None;
+        }
+        let at = 12 * (g + 1);
+        b[at + 6..at + 8].copy_from_slice(&(r[0] as u16).to_le_bytes());
+        b[at + 8..at + 10].copy_from_slice(&(if r[1] == NONE { NO_END } else { r[1] as u16 }).to_le_bytes());
+    }
+    Some(b)
+}
+
+// Document 02, card 13, by hand: sheets with their ranges as bounds, and the same with one bound off by one.
+fn planners(t: &mut Table) {
+    let printed = [[10, 11, 1, 10], [4, 5, 1, 5], [5, 6, 6, 5], [3, 5, 1, 3]];
+    t.ranges("planners, the printed case", &groups(&[(0, 10, 11, 3), (1, 4, 5, 0), (1, 5, 6, 0), (2, 3, 5, 0)]), &printed);
+    t.ranges(
+        "planners, LEFT's lo one higher",
+        &groups(&[(0, 10, 11, 3), (1, 5, 5, 0), (1, 5, 6, 0), (2, 3, 5, 0)]),
+        &[[10, 11, 1, 10], [5, 5, 1, 5], [5, 6, 6, 5], [3, 5, 1, 3]],
+    );
+    t.ranges(
+        "planners, RIGHT's hi one lower",
+        &groups(&[(0, 10, 11, 3), (1, 4, 5, 0), (1, 5, 5, 0), (2, 3, 5, 0)]),
+        &[[10, 10, 1, 10], [5, 5, 1, 5], [5, 5, 6, 5], [3, 5, 1, 3]],
+    );
+    t.ranges(
+        "planners, the root's lo one lower",
+        &groups(&[(0, 9, 11, 3), (1, 4, 5, 0), (1, 5, 6, 0), (2, 3, 5, 0)]),
+        &[[9, 11, 1, 9], [4, 5, 1, 4], [5, 6, 5, 5], [3, 5, 1, 3]],
+    );
+    t.impossible("planners, the root's lo above what its sons can have", &groups(&[(0, 12, 12, 3), (1, 4, 5, 0), (1, 5, 6, 0), (2, 3, 5, 0)]));
+    // The sheet's own bounds leave all to the cover; its ranges don't, and the arrangement is the same.
+    t.ranges(
+        "planners, cover with hi 3 and 2 under lo 4",
+        &groups(&[(0, 4, 5, 2), (1, 2, 3, 0), (1, 1, 2, 0)]),
+        &[[4, 5, 1, 4], [2, 3, 1, 3], [1, 2, 3, 2]],
+    );
+    t.ranges("planners, no greatest", &groups(&[(0, 2, NO_END, 0), (1, 2, NO_END, 0)]), &[[2, NONE, 1, 2], [2, NONE, 1, 2]]);
+    // An end of 65,535 has no field: the sheet with the nearest bound, 65,534, has other ranges.
+    t.ranges(
+        "planners, an end of 65,535",
+        &groups(&[(0, 0, NO_END, 3), (1, 0, 65534, 0), (1, 1, 1, 0)]),
+        &[[1, 65535, 1, 1], [0, 65534, 1, 0], [1, 1, 1, 1]],
+    );
+    t.ranges(
+        "planners, 65,534 in its place",
+        &groups(&[(0, 1, 65534, 3), (1, 0, 65534, 0), (1, 1, 1, 0)]),
+        &[[1, 65534, 1, 1], [0, 65533, 1, 0], [1, 1, 1, 1]],
+    );
 }
 
 fn ranges(t: &mut Table) {

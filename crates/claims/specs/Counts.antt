@@ -26,7 +26,8 @@ use Rattle.meaning.proofs.SonLaws.{son-of, son-is}
 use Rattle.sizes.specs.Runs.{above-runs}
 use Rattle.sizes.specs.Possible.{Sizes, nowhere, sizes-choice, possible}
 use Rattle.sizes.specs.ClaimsPlace.{isIn, placeIn, place}
-use Rattle.sizes.specs.ClaimsCount.{rebound, tree-rebound, narrowHi, narrowLo, narrowHi-sizes, narrowLo-sizes, narrowHi-choice, narrowLo-choice}
+use Rattle.sizes.specs.Rebound.{rebound, tree-rebound, rooted-rebound}
+use Rattle.sizes.specs.ClaimsCount.{narrowHi, narrowLo, narrowHi-sizes, narrowLo-sizes, narrowHi-choice, narrowLo-choice}
 use Rattle.sizes.specs.ClaimsMath.{MoreThan, breakable-size, breakable-empty, empty-breaks, shown-breaks-count}
 use Rattle.runs.specs.Told.{numberIn}
 use Rattle.reading.specs.SheetIn.{Tabled}
@@ -181,14 +182,6 @@ sized-narrow w n i o z =
     (λ y. (y .0, sizes-same (same-turned w) (o (y .0) (y .1) (y .2 .0)), y .2 .1))
     z
 
--- bounds do not bear on the root
-rooted-bound : (s : Sheet) (l : ℕ → ℕ) (h : ℕ → Top) → Rooted s → Rooted (rebound s l h)
-rooted-bound s l h t = record {
-  one = record { first = t .one .first; last = t .one .last };
-  top = t .top;
-  rest = λ g q i. t .rest g (record { first = q .first; last = q .last }) i;
-}
-
 -- the smaller of an upper end and a number that is one
 end-smaller : (h k : ℕ) → k < noEnd → endOf noEnd (min h k) ≡ smaller (endOf noEnd h) (fin k)
 unfolding endOf
@@ -286,7 +279,7 @@ module _ (t : List ℕ) (n g : ℕ) (a : 1 ≤ g) (b : g ≤ n) (l : 4 * n ≤ l
         small = v .small;
         long = omega (arith, v .long, length-set t (4 * (g - 1) + j) x);
         tree = tree-same w (tree-rebound (sheetIn t n) _ L _ H (v .tree));
-        rooted = rooted-same w (rooted-bound (sheetIn t n) L H (v .rooted));
+        rooted = rooted-same w (rooted-rebound (sheetIn t n) _ L _ H (v .rooted));
       })
 
 -- both bounds narrowed

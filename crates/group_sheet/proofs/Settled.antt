@@ -1,54 +1,35 @@
 -- The contracts of the three operations settle every exit: of two exits of one call that both meet its contract, the numbers
 -- returned are equal and so is every byte, but for the sets that a denial shows (document 01, "We agree on this").
 use Prim.Native.Nat.{ℕ, _+_, _*_}
-use mathlib.Core.Path.{_≡_, refl, sym, ap, _∙_}
+use mathlib.Core.Path.{_≡_, refl, sym, _∙_}
 use mathlib.Core.List.{List}
 use mathlib.Core.Logic.{_⊎_, inl, inr, ⊎-elim}
 use native.Mathlib.Omega.{arith}
-use borrow.Author.Tests.{eqb-true}
-use lib.Dec.{eqb}
 use lib.ListN.{length, drop}
-use Rattle.wire.specs.Limits.{noGreatest, rangeBytes, verdictBytes, shownBytes, answerBytes}
+use Rattle.wire.specs.Limits.{rangeBytes, verdictBytes, shownBytes, answerBytes}
 use Rattle.wire.specs.Record.{read}
 use Rattle.wire.specs.SheetFormat.{Records, readSheet}
 use Rattle.wire.specs.RegisterFormat.{Row, readRegister}
 use Rattle.wire.specs.Encoding.{Bytes}
-use Rattle.meaning.specs.Sheet.{Sheet, Group, Top, fin, inf, endOf}
+use Rattle.meaning.specs.Sheet.{Sheet, Group}
 use Rattle.meaning.specs.Sets.{count}
 use Rattle.meaning.specs.Fits.{Possible}
 use Rattle.meaning.specs.Claim.{Claim, Breakable}
 use Rattle.meaning.specs.OfRecords.{sheetOf, claimAt, listedSets}
-use Rattle.laws.specs.Cases.{split}
-use Rattle.sizes.specs.ArrangedOnce.{ends-once}
 use Rattle.sizes.specs.Readable.{readable-possible-or-not, readable-breakable-or-not, readable-arrangement-once}
 use Rattle.registers.specs.Settled.{answered-once}
 use Rattle.claims.specs.declared.verdict.Verdict.{Verdict}
 use Rattle.replies.specs.Reply.{call, packed, Replied, OnceSheet}
 use Rattle.range_reply.specs.RangesReply.{rangeAt, rangeLeast, rangeGreatest, runFirst, runCount, RangesIn, Ranges}
+use Rattle.range_reply.proofs.RangesOnce.{range-once}
 use Rattle.register_reply.specs.RegisterReply.{AnswerIn, Register}
 use Rattle.claim_reply.specs.ClaimReply.{shownAt, VerdictIn, DenialIn, ClaimVerdict}
 use Rattle.group_sheet.proofs.Alike.{Alike, alike-then, alike-many, u16-alike, u32-alike}
 use Rattle.group_sheet.proofs.Exits.{once-read, once-possible, once-numbered, once-room, replied-alike}
 
 -- Ranges.
--- the number that stands for an upper end
-numberOf : Top → ℕ
-numberOf (fin n) = n
-numberOf inf = noGreatest
-
-number-greatest : (n : ℕ) → numberOf (endOf noGreatest n) ≡ n
-unfolding numberOf endOf
-number-greatest n = split (eqb n noGreatest) (λ e. rw e (sym (eqb-true n noGreatest e))) (λ e. rw e)
-
 -- the record of a group, from its range and its run
 module _ (s : Sheet) {out out' : List ℕ} (x : Bytes out) (y : Bytes out') (v : RangesIn s out) (w : RangesIn s out') where
-  range-once : Possible s → (g : ℕ) → Group s g
-      → (rangeLeast out g ≡ rangeLeast out' g) × (rangeGreatest out g ≡ rangeGreatest out' g)
-  range-once p g q =
-      let e = ends-once (rangeLeast out g) (rangeLeast out' g) (endOf noGreatest (rangeGreatest out g))
-      (endOf noGreatest (rangeGreatest out' g)) (v .range g q) (w .range g q) (count (p .0) g) (p .0, p .1, refl) in
-      (e .0, sym (number-greatest (rangeGreatest out g)) ∙ ap numberOf (e .1) ∙ number-greatest (rangeGreatest out' g))
-
   ranges-alike : Possible s → ((g : ℕ) → Group s g → (runFirst out g ≡ runFirst out' g) × (runCount out g ≡ runCount out' g))
       → Alike out out' 0 (rangeBytes * s .size)
   ranges-alike p runs =
@@ -58,7 +39,8 @@ module _ (s : Sheet) {out out' : List ℕ} (x : Bytes out) (y : Bytes out') (v :
       let i = rangeAt g in
       let f = v .frame g q in
       let f' = w .frame g q in
-      let e = range-once p g q in
+      let e = range-once (rangeLeast out g) (rangeLeast out' g) (rangeGreatest out g) (rangeGreatest out' g) (v .range g q) (w .range g q)
+      (count (p .0) g) (p .0, p .1, refl) in
       let o = runs g q in
       alike-then (alike-then (alike-then (alike-then (alike-then
       (u16-alike x y i (f .0) (f' .0))

@@ -85,6 +85,15 @@ sum-prefix f (suc n) g l = below-suc g n l (λ e. rw e (omega arith)) (λ k. ome
 pub sum-longer : (f : ℕ → ℕ) (k n : ℕ) → k ≤ n → sum f k ≤ sum f n
 sum-longer f k n l = compare-eq k n (λ e. rw e (le-refl _)) (λ h. omega (arith, sum-prefix f n k (omega arith)))
 
+-- the terms after a number, in two sums of which one is not above the other
+pub sum-gap : (a b : ℕ → ℕ) (k n : ℕ) → ((m : ℕ) → m < n → a m ≤ b m) → k ≤ n → sum b k + sum a n ≤ sum b n + sum a k
+unfolding sum
+sum-gap a b k zero h l = let e : k ≡ 0 = omega arith in rw e (omega arith)
+sum-gap a b k (suc n) h l =
+    compare-le k n
+    (λ i. omega (arith, sum-gap a b k n (λ m j. h m (omega arith)) i, h n (le-refl (suc n))))
+    (λ i. let e : k ≡ suc n = omega arith in rw e (omega arith))
+
 -- terms that are not above, with a sum that is not below, are equal
 pub sum-tight : (f h : ℕ → ℕ) (n : ℕ) → ((m : ℕ) → m < n → f m ≤ h m) → sum h n ≤ sum f n
     → (m : ℕ) → m < n → f m ≡ h m

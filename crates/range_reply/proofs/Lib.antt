@@ -1,1 +1,5 @@
 pub mod RangesLaws
+pub mod RangesOnce
+pub mod Replaced
+pub mod InPlace
+pub mod Planned

@@ -1,2 +1,3 @@
 pub mod RangesReply
 pub mod RangesGiven
+pub mod Planning

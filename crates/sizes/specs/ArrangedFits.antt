@@ -1,6 +1,6 @@
 -- The arrangement of document 01 fits: its sizes are sizes that the sheet allows, and its starts are those of the runs that
 -- show them. For any bounds there is one, and one only.
-use Prim.Native.Nat.{ℕ, zero, suc, _+_, _-_, _≤_, _<_, zero-le, min}
+use Prim.Native.Nat.{ℕ, zero, suc, _+_, _-_, _≤_, zero-le, min}
 use mathlib.Core.Path.{_≡_, refl, sym, _∙_}
 use mathlib.Core.Bool.{Bool, true, false, _&&_}
 use native.Mathlib.Omega.{arith}
@@ -16,8 +16,8 @@ use Rattle.sizes.specs.Balanced.{isSon, only, sons, RuleAt}
 use Rattle.sizes.specs.Span.{Span, span, In, eq}
 use Rattle.sizes.specs.Fold.{joinKind, sonCount, shut, Measured}
 use Rattle.sizes.specs.Ranged.{free}
-use Rattle.laws.specs.Cases.{split, compare-le, below-suc, and-true, true-not-false}
-use Rattle.laws.specs.SumLaws.{bit-eq, sum-eq, sum-suc}
+use Rattle.laws.specs.Cases.{split, below-suc, and-true, true-not-false}
+use Rattle.laws.specs.SumLaws.{bit-eq, sum-eq, sum-suc, sum-gap}
 use Rattle.meaning.proofs.SonLaws.{son-of, son-is, son-parent, sons-le, sons-prefix}
 use Rattle.sizes.specs.Runs.{Starts}
 use Rattle.sizes.specs.RunsInWords.{told-starts}
@@ -39,15 +39,6 @@ shut-zero s p f e b (suc k) x u =
     let m = rw e at (w .2) in
     omega (arith, shut-zero s p f e b k (w .0) (w .1)))
     (λ o. shut-zero s p f e b k x (upto-skip s p f k x o .0 u))
-
--- the terms after a number, in two sums of which one is not above the other
-sum-gap : (a b : ℕ → ℕ) (k n : ℕ) → ((m : ℕ) → m < n → a m ≤ b m) → k ≤ n → sum b k + sum a n ≤ sum b n + sum a k
-unfolding sum
-sum-gap a b k zero h l = let e : k ≡ 0 = omega arith in rw e (omega arith)
-sum-gap a b k (suc n) h l =
-    compare-le k n
-    (λ i. omega (arith, sum-gap a b k n (λ m j. h m (omega arith)) i, h n (le-refl (suc n))))
-    (λ i. let e : k ≡ suc n = omega arith in rw e (omega arith))
 
 -- The sizes of the sons of p, compared with numbers f that keep the rule at p and the sons' bounds.
 module _ (s : Sheet) (L : ℕ → ℕ) (U : ℕ → Top) (size : ℕ → ℕ) (p : ℕ) (f : ℕ → ℕ) (r : RuleAt s p f) (e : f p ≡ size p)

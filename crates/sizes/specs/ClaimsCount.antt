@@ -7,24 +7,11 @@ use native.Mathlib.Omega.{arith}
 use borrow.Author.Tests.{eqb-true, eq-eqb}
 use lib.Dec.{eqb}
 use Rattle.laws.specs.Sum.{bit}
-use Rattle.meaning.specs.Sheet.{Sheet, Group, Son, Top, fin, inf, AtMost}
-use Rattle.meaning.specs.Tree.{Tree}
-use Rattle.meaning.specs.Sons.{isSon, sons}
-use Rattle.sizes.specs.Balanced.{Balanced, Choice}
+use Rattle.meaning.specs.Sheet.{Sheet, Group, Top, fin, inf, AtMost}
+use Rattle.sizes.specs.Balanced.{Choice}
 use Rattle.sizes.specs.Span.{smaller}
 use Rattle.sizes.specs.Possible.{Sizes, choice-sizes}
-
--- the sheet with other bounds
-abbrev pub rebound : Sheet → (ℕ → ℕ) → (ℕ → Top) → Sheet
-rebound s l h = record {
-  size = s .size;
-  parent = s .parent;
-  lo = l;
-  hi = h;
-  disjoint = s .disjoint;
-  cover = s .cover;
-  same = s .same;
-}
+use Rattle.sizes.specs.Rebound.{rebound, group-rebound, sizes-rebound, choice-rebound}
 
 -- the upper end of group g replaced by the smaller of it and k
 abbrev pub narrowHi : Sheet → ℕ → ℕ → Sheet
@@ -33,38 +20,6 @@ narrowHi s g k = rebound s (s .lo) (λ i. cond (eqb i g) (smaller (s .hi i) (fin
 -- the lower end of group g replaced by the larger of it and k
 abbrev pub narrowLo : Sheet → ℕ → ℕ → Sheet
 narrowLo s g k = rebound s (λ i. cond (eqb i g) (max (s .lo i) k) (s .lo i)) (s .hi)
-
--- the bounds bear neither on the tree nor on the rules
-group-rebound : (s : Sheet) (l l′ : ℕ → ℕ) (h h′ : ℕ → Top) {g : ℕ} → Group (rebound s l h) g → Group (rebound s l′ h′) g
-group-rebound s l l′ h h′ q = record { first = q .first; last = q .last }
-
-son-rebound : (s : Sheet) (l l′ : ℕ → ℕ) (h h′ : ℕ → Top) {p g : ℕ} → Son (rebound s l h) p g → Son (rebound s l′ h′) p g
-son-rebound s l l′ h h′ k = record { above = k .above; group = group-rebound s l l′ h h′ (k .group); under = k .under }
-
-pub tree-rebound : (s : Sheet) (l l′ : ℕ → ℕ) (h h′ : ℕ → Top) → Tree (rebound s l h) → Tree (rebound s l′ h′)
-tree-rebound s l l′ h h′ t = record { before = λ g q. t .before g (group-rebound s l′ l h′ h q) }
-
-pub balanced-rebound : (s : Sheet) (l l′ : ℕ → ℕ) (h h′ : ℕ → Top) {f : ℕ → ℕ} → Balanced (rebound s l h) f
-    → Balanced (rebound s l′ h′) f
-unfolding sons isSon
-balanced-rebound s l l′ h h′ b = record {
-  at = λ p q.
-      let r = b .at p (group-rebound s l′ l h′ h q) in
-      record {
-        inside = λ g k. r .inside g (son-rebound s l′ l h′ h k);
-        equal = λ g k e. r .equal g (son-rebound s l′ l h′ h k) e;
-        apart = r .apart;
-        covered = r .covered;
-      };
-}
-
-pub sizes-rebound : (s : Sheet) (l l′ : ℕ → ℕ) (h h′ : ℕ → Top) {f : ℕ → ℕ} → Sizes (rebound s l h) f
-    → ((g : ℕ) → Group s g → l′ g ≤ f g) → ((g : ℕ) → Group s g → AtMost (f g) (h′ g)) → Sizes (rebound s l′ h′) f
-sizes-rebound s l l′ h h′ z least most = record {
-  balanced = balanced-rebound s l l′ h h′ (z .balanced);
-  least = λ g q. least g (group-rebound s l′ (s .lo) h′ (s .hi) q);
-  most = λ g q. most g (group-rebound s l′ (s .lo) h′ (s .hi) q);
-}
 
 -- the narrowed end, where the test x is true
 narrowed-hi : (x : Bool) (n k : ℕ) (u : Top) → AtMost n (cond x (smaller u (fin k)) u) ↔ (AtMost n u × (x ≡ true → n ≤ k))
@@ -104,16 +59,6 @@ narrowLo-sizes {s} {f} g k q = (
 )
 
 -- the same for a choice
-choice-rebound : (s : Sheet) (l l′ : ℕ → ℕ) (h h′ : ℕ → Top) {may : ℕ → Bool → Bool} {f : ℕ → ℕ} {M : ℕ → Bool}
-    → Choice (rebound s l h) may f M → Sizes (rebound s l′ h′) (λ g. f g + bit (M g)) → Choice (rebound s l′ h′) may f M
-choice-rebound s l l′ h h′ c z = record {
-  others = balanced-rebound s l l′ h h′ (c .others);
-  one = balanced-rebound s l l′ h h′ (c .one);
-  least = z .least;
-  most = z .most;
-  allowed = λ g q. c .allowed g (group-rebound s l′ l h′ h q);
-}
-
 pub narrowHi-choice : {s : Sheet} {may : ℕ → Bool → Bool} {f : ℕ → ℕ} {M : ℕ → Bool} (g k : ℕ) → Group s g
     → Choice (narrowHi s g k) may f M ↔ (Choice s may f M × (f g + bit (M g) ≤ k))
 narrowHi-choice {s} g k q = (

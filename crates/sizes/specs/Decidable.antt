@@ -18,7 +18,7 @@ use Rattle.laws.specs.Cases.{compare-le, compare-eq}
 use Rattle.sizes.specs.SpanLaws.{Proper}
 use Rattle.sizes.specs.Possible.{Sizes, nowhere, sizes-choice, choice-sizes, possible}
 use Rattle.sizes.specs.ClaimsPlace.{placeIn}
-use Rattle.sizes.specs.ClaimsCount.{tree-rebound}
+use Rattle.sizes.specs.Rebound.{tree-rebound}
 use Rattle.sizes.specs.ClaimsMath.{one-or-all, Known, lists, Way, away, along, breakable-lists, High, breakable-counted, breakable-empty}
 use Rattle.sizes.specs.Exact.{sound, span-proper, had}
 use Rattle.sizes.specs.MeasuredLaws.{spansOf, spans-measured}

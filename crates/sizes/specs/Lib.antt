@@ -7,6 +7,7 @@ pub mod Renumbered
 pub mod Runs
 pub mod RunsInWords
 pub mod Possible
+pub mod Rebound
 pub mod ClaimsPlace
 pub mod ClaimsCount
 pub mod ClaimsMath
@@ -24,6 +25,8 @@ pub mod ArrangedFits
 pub mod Part
 pub mod ArrangedAlike
 pub mod ArrangedOnce
+pub mod Smallest
+pub mod RangesAsBounds
 pub mod Ends
 pub mod Widened
 pub mod Decidable

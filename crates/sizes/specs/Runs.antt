@@ -76,7 +76,7 @@ one-of true M R m r = m
 one-of false M R m r = r
 
 module _ {s : Sheet} {f st : ℕ → ℕ} (t : Tree s) (b : Balanced s f) (h : Starts s f st) where
-  run-inside : {p g : ℕ} → Son s p g → (st p ≤ st g) × (st g + f g ≤ st p + f p)
+  pub run-inside : {p g : ℕ} → Son s p g → (st p ≤ st g) × (st g + f g ≤ st p + f p)
   run-inside {p} {g} k =
       let r = b .at p (son-parent t k) in
       rw (h .under p g k)

@@ -16,14 +16,14 @@ use Rattle.wire.specs.Edition.{Edition, editionOf}
 use Rattle.wire.specs.Capacity.{nameBytes, sheetLimit}
 use Rattle.wire.specs.EditionFacts.{groups-within}
 use Rattle.wire.specs.Bytes.{u16At}
-use Rattle.wire.specs.Record.{lengthOf, after, test, read}
+use Rattle.wire.specs.Record.{lengthOf, after, test, refusal, read}
 use Rattle.wire.specs.SheetFormat.{headTests, groupTests, nameTests, claimTests, headOf, groupOf, nameOf, claimOf}
 use Rattle.wire.specs.SheetFormat.{HeadRecord, GroupRecord, NameRecord, ClaimRecord, count, inside, apart, Records}
 use Rattle.wire.specs.SheetFormat.{parentAllowed, allWithin, closing, readClaims, readNames, readGroups, readSheet}
 use Rattle.wire.specs.Encoding.{Bytes, Each, none, more, GroupRight, NameRight, Right, SheetWithin}
 use Rattle.laws.specs.Cases.{split, and-true}
-use Rattle.wire.specs.Passing.{Pass, Nonzero, onward-read}
-use Rattle.wire.specs.Many.{Reads, reads-same, empty-of-length, each-at, each-read, kept-read, reads-length, many-read}
+use Rattle.wire.specs.Passing.{Pass, Nonzero, Positive, onward-read, onward-positive}
+use Rattle.wire.specs.Many.{Reads, reads-same, empty-of-length, each-at, each-read, kept-read, reads-length, many-read, many-positive}
 use Rattle.wire.specs.Sorts.{HeadRight, head-nonzero, head-right, group-nonzero, group-frame, group-right, name-nonzero}
 use Rattle.wire.specs.Sorts.{name-frame, name-right, claim-nonzero, claim-cases, claim-right, claim-count}
 use Rattle.wire.specs.Sorts.{claim-inside, claim-apart}
@@ -86,6 +86,20 @@ sheet-read b d e =
       names = rw count (subst (λ v. Reads (nameTests v (u16At b 6)) nameOf [] (g .1) (d .names) (l .0)) (sym (l .1)) (l .5));
       claims = rw (l .3) (l .6);
     }
+
+-- a sheet is refused with no 0
+pub sheet-positive : (b : List ℕ) → Positive (readSheet b)
+unfolding readSheet readGroups readNames readClaims closing
+sheet-positive b =
+    let h = headOf b in
+    onward-positive (refusal (headTests b)) 1 _
+    (many-positive groupTests groupOf (readNames h)
+    (λ r gs c. many-positive (nameTests (h .edition) (h .groups)) nameOf (readClaims h gs)
+    (λ r ns c. many-positive (claimTests (h .names)) claimOf (closing (h .edition) gs ns)
+    (λ r cs c. onward-positive (refusal (test 7 (eqb (length c) 0) ∷ [])) r _ tt)
+    (h .claims) r [] c)
+    (h .names) r [] c)
+    (h .groups) 2 [] (after b))
 
 -- what was read meets the limits that the tests ensure
 pub read-right : (b : List ℕ) (d : Records) → readSheet b ≡ read d → Right d

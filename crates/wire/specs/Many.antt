@@ -6,10 +6,10 @@ use mathlib.Core.List.{List, [], _∷_, _++_, append-assoc, append-nil, flatMap}
 use native.Mathlib.Omega.{arith}
 use native.Mathlib.Nat.{add-zero}
 use lib.ListN.{length, take, getD, length-append, length-drop}
-use Rattle.wire.specs.Record.{lengthOf, after, Test, Reading, read}
+use Rattle.wire.specs.Record.{lengthOf, after, Test, refusal, Reading, read}
 use Rattle.wire.specs.SheetFormat.{readMany}
 use Rattle.wire.specs.Encoding.{Each, none, more}
-use Rattle.wire.specs.Passing.{Pass, Nonzero, onward-passed, onward-read}
+use Rattle.wire.specs.Passing.{Pass, Nonzero, Positive, onward-passed, onward-read, onward-positive}
 
 -- Behind xs the bytes b begin with records that pass their tests, of the values ys, and go on with the bytes c.
 pub data Reads {A : Type 0} (tests : List A → List ℕ → List Test) (value : List ℕ → A) :
@@ -91,6 +91,13 @@ module _ {A R : Type 0} (tests : List A → List ℕ → List Test) (value : Lis
       let m = many-read w n (r + 1) (xs ++ (value b ∷ [])) (after b) d (s .1) in
       let same : r + 1 + n ≡ r + suc n = omega arith in
       (value b ∷ m .0, m .1, ap suc (m .2), go (s .0) (m .3), rw (append-assoc, same) at (m .4))
+
+  -- no refusal is 0
+  pub many-positive : ((r : ℕ) (xs : List A) (b : List ℕ) → Positive (rest r xs b)) → (n r : ℕ) (xs : List A) (b : List ℕ)
+      → Positive (readMany tests value rest n r xs b)
+  unfolding readMany
+  many-positive p zero r xs b = p r xs b
+  many-positive p (suc n) r xs b = onward-positive (refusal (tests xs b)) r _ (many-positive p n (r + 1) _ (after b))
 
   -- what was encoded is read, each record and then the rest, where each record that is right is read with what follows it
   pub many-encoded : (encode : A → List ℕ) (P : List A → A → Type 0)

@@ -5,7 +5,7 @@ use mathlib.Core.Bool.{true, false}
 use mathlib.Core.List.{List, [], _∷_}
 use native.Mathlib.Omega.{arith}
 use lib.Dec.{eqb}
-use borrow.Author.Tests.{eqb-true}
+use borrow.Author.Tests.{eqb-true, eqb-false}
 use Rattle.laws.specs.Cases.{split}
 use Rattle.wire.specs.Record.{Test, test, refusal, Reading, read, refused, onward}
 
@@ -39,6 +39,15 @@ onward-passed ts r next p = rw (refusal-zero ts p)
 -- a refusal is no value
 pub never-read : {A C : Type 0} {n r : ℕ} {a : A} → refused n r ≡ read a → C
 never-read e = let z : _≡_ {A = ℕ} 0 1 = cc in absurd (omega arith)
+
+-- no refusal is 0
+abbrev pub Positive : {A : Type 0} → Reading A → Type 0
+Positive (read a) = Unit {0}
+Positive (refused n r) = 1 ≤ n
+
+pub onward-positive : {A : Type 0} (n r : ℕ) (next : Reading A) → Positive next → Positive (onward n r next)
+unfolding onward
+onward-positive n r next p = split (eqb n 0) (λ e. rw e p) (λ e. let h : n ≡ 0 → ⊥ = eqb-false n 0 e in rw e (omega arith))
 
 -- reading came to an end only past tests that passed
 pub onward-read : {A : Type 0} (ts : List Test) → Nonzero ts → (r : ℕ) (next : Reading A) (a : A)

@@ -51,7 +51,7 @@ fields-encoded kind {xs} k l f c =
           ∙ rw (body-encoded kind (flatMap le16 xs) c (omega arith) (omega arith)) (u16s-le16s f c);
     }
 
-fields-read : (b : List ℕ) → Bytes b → Framed b → (n : ℕ) → lengthOf b ≡ 2 * n + 2 → (kind : ℕ) → kindOf b ≡ kind
+pub fields-read : (b : List ℕ) → Bytes b → Framed b → (n : ℕ) → lengthOf b ≡ 2 * n + 2 → (kind : ℕ) → kindOf b ≡ kind
     → encodeRecord kind (flatMap le16 (u16s b 4 n)) ++ after b ≡ b
 unfolding after
 fields-read b k f n l kind e =
