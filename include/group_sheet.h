@@ -141,9 +141,10 @@ static inline void sheet_put32(uint8_t *at, uint32_t value)
    Refusals 1 to 8 and 14. Reply: G records of kind 17 (20 bytes each), the g-th for group g:
        at 4 least, at 8 greatest (SHEET_NO_GREATEST for none), at 12 first, at 16 count.
    In the arrangement group g has the members first, first + 1, .., first + count - 1. No sets that
-   fit have fewer members in group 1 than it, and every member of every group is in group 1's run.
-   Where every finite end is at most SHEET_MAX_BOUND, the ranges may be written into the sheet as lo
-   and hi (SHEET_NO_UPPER_END where there is no greatest): the same sets fit, and the reply is the same. */
+   fit have fewer members in group 1 than the arrangement, and every member of every group of it is in
+   group 1's run. Where every finite end, least or greatest, is at most SHEET_MAX_BOUND, the ranges may
+   be written into the sheet as lo and hi (SHEET_NO_UPPER_END where there is no greatest): the same sets
+   fit it, and the reply is the same. */
 uint64_t sheet_ranges(const uint8_t *sheet, size_t sheet_len,
                       uint8_t *reply, size_t reply_len);
 

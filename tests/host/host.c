@@ -224,8 +224,9 @@ int main(void)
     uint64_t got = sheet_ranges(other.at, other.len, reply, sizeof reply);
     int done = narrow(&other, reply, 4);
     uint64_t once_more = sheet_ranges(other.at, other.len, again, sizeof again);
-    printf("ranges as bounds: %s, %s\n", done && memcmp(other.at, sheet.at, sheet.len) != 0 ? "other bounds" : "the same sheet",
-           got == once_more && memcmp(reply, again, sheet_second_of(got)) == 0 ? "the same reply" : "another reply");
+    int same = sheet_refusal_of(got) == SHEET_OK && got == once_more && memcmp(reply, again, sheet_second_of(got)) == 0;
+    printf("ranges as bounds: %s, %s\n", !done ? "an end too large" : memcmp(other.at, sheet.at, sheet.len) != 0 ? "other bounds" : "the same bounds",
+           same ? "the same reply" : "another reply");
 
     refused("no bytes at all", sheet_ranges(NULL, 0, NULL, 0));
     refused("no bytes, a claim", sheet_claim(NULL, 0, 1, NULL, 0));

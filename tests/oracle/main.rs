@@ -1,7 +1,8 @@
 // Holds the library to an independent implementation, through its C symbols.
 //
 //   oracle [--seed N] [--cases N] [--only I]   compare; I is one sheet's number from a report
-//          [--lo-above] [--lo-below] [--hi-above] [--hi-below]   with a replaced bound off by one
+//          [--lo-above] [--lo-below] [--hi-above] [--hi-below]   with the bounds of replaced sheets off by one
+//          [--verdicts]                       of replaced sheets compare the verdicts alone
 //   oracle --self-test [--seed N]              hold the implementation's own methods together
 //
 // A case is one operation on one input (sheet, and claim number or register); it is called with
@@ -86,7 +87,9 @@ const GUARD: usize = 24;
 struct Run {
     seed: u64,
     off: Off,
+    verdicts: bool, // of replaced sheets compare the verdicts alone
     number: u64,
+    replaced: bool, // a replaced sheet is being compared
     cases: u64,
     calls: u64,
     met: BTreeMap<String, u64>,
@@ -114,6 +117,9 @@ impl Run {
                 format!("operation: register\nregister in hex: {}\n", hex(reg))
             }
         };
+        if self.replaced {
+            text += &format!("the sheet below is sheet {} with its ranges as bounds\n", self.number);
+        }
         text += &format!("reply buffer: {len} bytes\nsheet in hex: {}\n", hex(sheet));
         text += &match read_sheet(sheet) {
             Ok(s) => show(&s),
@@ -211,6 +217,13 @@ impl Run {
             self.met(&format!("{op}: refusal 14"));
             self.try_one(sheet, ask, len, &Want::Refused(14, 0));
         }
+    }
+
+    // One case of a sheet whose bounds are another's ranges.
+    fn of_replaced(&mut self, rng: &mut Rng, sheet: &[u8], ask: &Ask, want: Want) {
+        self.replaced = true;
+        self.case(rng, sheet, ask, want);
+        self.replaced = false;
     }
 
     fn sheet(&mut self, number: u64) {
@@ -315,7 +328,9 @@ impl Run {
                 None => self.met("replaced: an end above 65,534"),
                 Some(b) => {
                     self.met(if b == bytes { "replaced: as it was" } else { "replaced: other bounds" });
-                    self.case(rng, b, &Ask::Ranges, Want::Bytes(reply));
+                    if !self.verdicts {
+                        self.of_replaced(rng, b, &Ask::Ranges, Want::Bytes(reply));
+                    }
                 }
             }
         }
@@ -348,7 +363,7 @@ impl Run {
                 // The same sets fit the replaced sheet: what it shows of a denial fits this one.
                 if let (0, Some(b)) = (k, &again) {
                     self.met(&format!("replaced: {kind} {verdict}"));
-                    self.case(rng, b, &Ask::Claim(c + 1), want());
+                    self.of_replaced(rng, b, &Ask::Claim(c + 1), want());
                 }
             }
         }
@@ -453,7 +468,7 @@ const WORKERS: u64 = 2;
 
 fn main() {
     let (mut seed, mut cases, mut only, mut own) = (20_240_229u64, 1_000_000u64, None, false);
-    let mut off = Off::default();
+    let (mut off, mut verdicts) = (Off::default(), false);
     let mut args = std::env::args().skip(1);
     while let Some(a) = args.next() {
         let mut number = || -> u64 {
@@ -471,8 +486,10 @@ fn main() {
             "--lo-below" => off.lo = -1,
             "--hi-above" => off.hi = 1,
             "--hi-below" => off.hi = -1,
+            "--verdicts" => verdicts = true,
             _ => {
-                eprintln!("oracle [--seed N] [--cases N] [--only I] | --self-test [--seed N]");
+                eprintln!("oracle [--seed N] [--cases N] [--only I] [--lo-above] [--lo-below] [--hi-above] [--hi-below]");
+                eprintln!("       [--verdicts] | --self-test [--seed N]");
                 exit(2)
             }
         }
@@ -481,7 +498,7 @@ fn main() {
         selftest::run(seed);
         return;
     }
-    let new = || Run { seed, off, number: 0, cases: 0, calls: 0, met: BTreeMap::new() };
+    let new = || Run { seed, off, verdicts, number: 0, replaced: false, cases: 0, calls: 0, met: BTreeMap::new() };
     if let Some(i) = only {
         let mut run = new();
         run.sheet(i);

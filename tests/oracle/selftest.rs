@@ -157,6 +157,7 @@ pub fn run(seed: u64) {
             assert_eq!(deny[c], large.breaks(claim), "claim {}, closed forms\n{text}", c + 1);
         }
     }
+    assert!(other > 0 && denied > 0 && possible < sheets, "some case was never met");
     println!(
         "self-test, families of sets: {sheets} sheets ({possible} possible, {other} with other ranges than bounds), {claims} claims ({denied} denied)"
     );

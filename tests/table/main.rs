@@ -714,7 +714,7 @@ fn planners(t: &mut Table) {
         &[[9, 11, 1, 9], [4, 5, 1, 4], [5, 6, 5, 5], [3, 5, 1, 3]],
     );
     t.impossible("planners, the root's lo above what its sons can have", &groups(&[(0, 12, 12, 3), (1, 4, 5, 0), (1, 5, 6, 0), (2, 3, 5, 0)]));
-    // The sheet's own bounds leave all to the cover; its ranges don't, and the arrangement is the same.
+    // The ranges of "cover sons with hi 3 and 2, root lo 4" as bounds.
     t.ranges(
         "planners, cover with hi 3 and 2 under lo 4",
         &groups(&[(0, 4, 5, 2), (1, 2, 3, 0), (1, 1, 2, 0)]),

@@ -20,7 +20,7 @@ use Rattle.sizes.specs.Readable.{readable-possible-or-not, readable-breakable-o
 use Rattle.registers.specs.Settled.{answered-once}
 use Rattle.claims.specs.declared.verdict.Verdict.{Verdict}
 use Rattle.replies.specs.Reply.{call, packed, Replied, OnceSheet}
-use Rattle.range_reply.specs.RangesReply.{rangeAt, rangeLeast, rangeGreatest, runFirst, runCount, RangesIn, Ranges}
+use Rattle.range_reply.specs.RangesReply.{rangeAt, rangeLeast, rangeGreatest, runFirst, runCount, RangesIn, RangesCall}
 use Rattle.range_reply.proofs.RangesOnce.{range-once}
 use Rattle.register_reply.specs.RegisterReply.{AnswerIn, Register}
 use Rattle.claim_reply.specs.ClaimReply.{shownAt, VerdictIn, DenialIn, ClaimVerdict}
@@ -52,8 +52,8 @@ module _ (s : Sheet) {out out' : List ℕ} (x : Bytes out) (y : Bytes out') (v :
 
 -- Two exits of `sheet_ranges` that meet its contract for the same sheet and the same buffer at entry are the same: the number
 -- returned and every byte.
-pub ranges-settled : (sheet : List ℕ) {before after after' : List ℕ} {r r' : ℕ} → OnceSheet sheet (λ d. Ranges (sheetOf (d .groups))) (call before r after)
-    → OnceSheet sheet (λ d. Ranges (sheetOf (d .groups))) (call before r' after') → Bytes after → Bytes after' → (r ≡ r') × (after ≡ after')
+pub ranges-settled : (sheet : List ℕ) {before after after' : List ℕ} {r r' : ℕ} → RangesCall sheet (call before r after)
+    → RangesCall sheet (call before r' after') → Bytes after → Bytes after' → (r ≡ r') × (after ≡ after')
 ranges-settled sheet v w x y =
     once-read (λ z. z) (readSheet sheet) v w
     (λ d e v w. once-possible (λ z. z) (readable-possible-or-not sheet d e) v w

@@ -4,13 +4,12 @@ use reading::load::Loaded;
 use reading::load::load_tree;
 use reading::tables::GROUP_TABLE;
 use replies::pairs::pack;
-ghost use Rattle.meaning.specs.OfRecords.{sheetOf};
-ghost use Rattle.replies.specs.Reply.{call, OnceSheet};
-ghost use Rattle.range_reply.specs.RangesReply.{Ranges};
+ghost use Rattle.replies.specs.Reply.{call};
+ghost use Rattle.range_reply.specs.RangesReply.{RangesCall};
 
 #[no_mangle]
 pub extern "C" fn sheet_ranges(sheet: &[u8], reply: &mut [u8]) -> u64
-    ensures { λ r. ⌜ OnceSheet (now (sheet .entry)) (λ d. Ranges (sheetOf (d .groups))) (call (now (reply .entry)) r (now (reply .exit))) ⌝ }
+    ensures { λ r. ⌜ RangesCall (now (sheet .entry)) (call (now (reply .entry)) r (now (reply .exit))) ⌝ }
 {
     let mut groups = [0u16; GROUP_TABLE];
     match load_tree(sheet, &mut groups) {

@@ -1,6 +1,6 @@
 -- The arrangement of every reply is the smallest clinic that fits, and the ranges of every reply serve as bounds: document 02,
 -- card 13, as `specs/Planning` states it.
-use Prim.Native.Nat.{ℕ, _-_, _*_, _≤_, _<_}
+use Prim.Native.Nat.{ℕ, _*_, _≤_, _<_}
 use mathlib.Core.Path.{_≡_, refl, sym, subst, subst⁻¹}
 use mathlib.Core.List.{List}
 use mathlib.Core.Logic.{_↔_, Iff·symm, Iff·trans, ⊎-elim}
@@ -27,18 +27,19 @@ use Rattle.sizes.specs.Readable.{readable-possible-or-not}
 use Rattle.sizes.specs.Smallest.{arrangement-least, runs-in-root}
 use Rattle.sizes.specs.RangesAsBounds.{RangeEnds, same-sets, same-ranges, same-arrangement}
 use Rattle.replies.specs.Reply.{Call, packed, Replied}
-use Rattle.range_reply.specs.RangesReply.{rangeLeast, rangeGreatest, runFirst, runCount, RangesIn}
-use Rattle.range_reply.specs.Planning.{RangesCall, Answerable, Smallest, replaced, EndsWithin, SameNumbers, RangesAsBounds}
+use Rattle.range_reply.specs.RangesReply.{rangeLeast, rangeGreatest, runFirst, runCount, RangesIn, RangesCall}
+use Rattle.range_reply.specs.Planning.{Answerable, Smallest, replaced, EndsWithin, SameNumbers, RangesAsBounds}
 use Rattle.range_reply.proofs.RangesOnce.{range-once}
 use Rattle.range_reply.proofs.Replaced.{replaced-length, replaced-sheet, replaced-ends, replaced-within}
-use Rattle.range_reply.proofs.InPlace.{in-place}
+use Rattle.range_reply.proofs.InPlace.{written-over}
 
 -- the reply to a readable sheet that some sets fit, in a buffer with room
 given : (sheet : List ℕ) (c : Call) → RangesCall sheet c → (d : Records) → Answerable sheet d c
     → Replied (rangeBytes * length (d .groups)) c × RangesIn (sheetOf (d .groups)) (c .after)
 given sheet c v d a = v .passed d (a .readable) .possible (a .possible) .replied (a .room)
 
--- A call that returned 0 as its first number (so that the whole is below 4,294,967,296) is what the theorems ask for.
+-- A call whose first number is 0 (it returned less than 4,294,967,296) is such a call: the sheet is readable, some sets fit it, and the
+-- buffer has room.
 pub not-refused : (sheet : List ℕ) (c : Call) → RangesCall sheet c → c .returned < packed 1 0 → (d : Records) × Answerable sheet d c
 not-refused sheet c v l = cases (readSheet sheet) refl
   where
@@ -108,10 +109,10 @@ ranges-as-bounds sheet k c v d a b =
     let read-back = read-encoded-sheet (replaced out d) (replaced-within d out b (read-within sheet k d e)) in
     let sets : (X : Type 0) (A : Sets X) → Fits s A ↔ Fits t A = λ X A. subst⁻¹ (λ x. Fits s A ↔ Fits x A) is (same-sets ends X A) in
     record {
-      written = λ sheet′ k′ w. sym (in-place sheet k d e out sheet′ k′ w);
+      written = written-over sheet k d e out b;
       readable = read-back;
       sets = sets;
-      ranges = λ g n q. subst⁻¹ (λ x. Attains s g n ↔ Attains x g n) is (same-ranges ends g n);
+      ranges = λ g n. subst⁻¹ (λ x. Attains s g n ↔ Attains x g n) is (same-ranges ends g n);
       reply = λ c′ v′ l′.
           let w = given (encodeSheet (replaced out d)) c′ v′ (replaced out d) (record {
             readable = read-back;

@@ -109,7 +109,7 @@ module _ (gs : List GroupRecord) (out : List ℕ) (b : EndsWithin (sheetOf gs) o
   }
 
   -- they are within the limits of their fields
-  fields-within : (g : ℕ) → 1 ≤ g → g < 1 + length gs → (rangeLo out g ≤ boundLimit) × (rangeHi out g ≤ noEnd)
+  pub fields-within : (g : ℕ) → 1 ≤ g → g < 1 + length gs → (rangeLo out g ≤ boundLimit) × (rangeHi out g ≤ noEnd)
   fields-within g l k =
       let q : Group (sheetOf gs) g = omega arith in (
         omega (arith, b .least g q),

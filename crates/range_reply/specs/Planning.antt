@@ -1,29 +1,26 @@
 -- What planners read off a reply of `sheet_ranges`: the arrangement is the smallest clinic that fits, and the ranges serve as
 -- bounds. Document 02, card 13. `proofs/Planned` proves both for every reply.
-use Prim.Native.Nat.{ℕ, suc, _+_, _*_, _≤_, _<_}
+use Prim.Native.Nat.{ℕ, zero, suc, _+_, _-_, _*_, _≤_}
 use mathlib.Core.Path.{_≡_}
 use mathlib.Core.Bool.{true, false, cond}
 use mathlib.Core.List.{List, [], _∷_}
 use mathlib.Core.Logic.{_↔_}
 use lib.Dec.{eqb}
-use lib.ListN.{length, getD}
+use lib.ListN.{length}
+use lib.Seq.{sets}
 use Rattle.wire.specs.Limits.{boundLimit, noEnd, noGreatest, rangeBytes}
-use Rattle.wire.specs.Capacity.{groupBytes}
-use Rattle.wire.specs.Bytes.{u16At}
+use Rattle.wire.specs.Capacity.{headBytes, groupBytes}
+use Rattle.wire.specs.Bytes.{le16}
 use Rattle.wire.specs.Record.{read}
 use Rattle.wire.specs.SheetFormat.{GroupRecord, Records, readSheet}
-use Rattle.wire.specs.Encoding.{Bytes, encodeSheet}
+use Rattle.wire.specs.Encoding.{encodeSheet}
 use Rattle.meaning.specs.Sheet.{Sheet, Group}
 use Rattle.meaning.specs.Sets.{Sets, count}
 use Rattle.meaning.specs.Fits.{Fits, Possible, Attains}
 use Rattle.meaning.specs.Shown.{inRun, shown, above}
 use Rattle.meaning.specs.OfRecords.{sheetOf}
-use Rattle.replies.specs.Reply.{Call, Replied, OnceSheet}
-use Rattle.range_reply.specs.RangesReply.{rangeLeast, rangeGreatest, runFirst, runCount, Ranges}
-
--- what `sheet_ranges` promises of a call with these bytes: its `ensures`
-abbrev pub RangesCall : List ℕ → Call → Type 0
-RangesCall sheet = OnceSheet sheet (λ d. Ranges (sheetOf (d .groups)))
+use Rattle.replies.specs.Reply.{Call, Replied}
+use Rattle.range_reply.specs.RangesReply.{rangeLeast, rangeGreatest, runFirst, runCount, RangesCall}
 
 -- a readable sheet that some sets fit, whose records are d, and a call with room for the reply
 pub record Answerable (sheet : List ℕ) (d : Records) (c : Call) : Type 0 where
@@ -62,15 +59,17 @@ abbrev pub replaced : List ℕ → Records → Records
 replaced out d =
     record { edition = d .edition; groups = replacedFrom out 1 (d .groups); names = d .names; claims = d .claims }
 
--- The same in place: the head has 12 bytes, and so has the record of each group g, which stands at 12 g; its lo stands 6 bytes
--- into it, its hi 8.
-pub record WrittenInPlace (sheet : List ℕ) (n : ℕ) (out sheet′ : List ℕ) : Type 0 where
-  pub sized : length sheet′ ≡ length sheet
-  pub lo : (g : ℕ) → 1 ≤ g → g ≤ n → u16At sheet′ (groupBytes * g + 6) ≡ rangeLo out g
-  pub hi : (g : ℕ) → 1 ≤ g → g ≤ n → u16At sheet′ (groupBytes * g + 8) ≡ rangeHi out g
-  -- every other byte is as it was
-  pub rest : (i : ℕ) → ((g : ℕ) → 1 ≤ g → g ≤ n → groupBytes * g + 6 ≤ i → i < groupBytes * g + 10 → ⊥)
-      → getD sheet′ i 0 ≡ getD sheet i 0
+-- The same in the sheet's bytes: the record of group g stands behind the head and g - 1 groups, its lo 6 bytes into it, its hi 8.
+abbrev pub groupPlace : ℕ → ℕ
+groupPlace g = headBytes + groupBytes * (g - 1)
+
+abbrev pub groupOver : List ℕ → ℕ → List ℕ → List ℕ
+groupOver out g b = sets (sets b (groupPlace g + 6) (le16 (rangeLo out g))) (groupPlace g + 8) (le16 (rangeHi out g))
+
+-- the bytes with the two fields of the first n groups written over
+unfoldable pub writtenOver : List ℕ → List ℕ → ℕ → List ℕ
+writtenOver out sheet zero = sheet
+writtenOver out sheet (suc n) = groupOver out (suc n) (writtenOver out sheet n)
 
 -- "every finite end is at most 65,534", the least ends among them
 pub record EndsWithin (s : Sheet) (out : List ℕ) : Type 0 where
@@ -86,16 +85,14 @@ pub record SameNumbers (s : Sheet) (out out′ : List ℕ) : Type 0 where
 
 -- What the replaced sheet has in common with the sheet, whose records are d and whose reply is `out`.
 pub record RangesAsBounds (sheet : List ℕ) (d : Records) (out : List ℕ) : Type 1 where
-  -- its bytes are the sheet's with the two fields of every group written over
-  pub written : (sheet′ : List ℕ) → Bytes sheet′ → WrittenInPlace sheet (length (d .groups)) out sheet′
-      → sheet′ ≡ encodeSheet (replaced out d)
+  -- its bytes are the sheet's with lo and hi of every group written over
+  pub written : encodeSheet (replaced out d) ≡ writtenOver out sheet (length (d .groups))
   -- reading its bytes gives its records
   pub readable : readSheet (encodeSheet (replaced out d)) ≡ read (replaced out d)
   -- "the same fitting sets", over any type of member
   pub sets : (X : Type 0) (A : Sets X) → Fits (sheetOf (d .groups)) A ↔ Fits (sheetOf (replaced out d .groups)) A
   -- "and the same ranges"
-  pub ranges : (g k : ℕ) → Group (sheetOf (d .groups)) g
-      → Attains (sheetOf (d .groups)) g k ↔ Attains (sheetOf (replaced out d .groups)) g k
+  pub ranges : (g k : ℕ) → Attains (sheetOf (d .groups)) g k ↔ Attains (sheetOf (replaced out d .groups)) g k
   -- so the operation replies to its bytes, in a buffer with room, with the same ranges, and with the same arrangement
   pub reply : (c : Call) → RangesCall (encodeSheet (replaced out d)) c → rangeBytes * length (d .groups) ≤ length (c .before)
       → Replied (rangeBytes * length (d .groups)) c × SameNumbers (sheetOf (d .groups)) out (c .after)

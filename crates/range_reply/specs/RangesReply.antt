@@ -10,7 +10,8 @@ use Rattle.meaning.specs.Sheet.{Sheet, Group, AtMost, endOf}
 use Rattle.meaning.specs.Fits.{Fits, Attains}
 use Rattle.meaning.specs.Arranged.{ArrangedBottomUp}
 use Rattle.meaning.specs.Shown.{shown, above}
-use Rattle.replies.specs.Reply.{Call, OncePossible, OnceRoom}
+use Rattle.meaning.specs.OfRecords.{sheetOf}
+use Rattle.replies.specs.Reply.{Call, OnceSheet, OncePossible, OnceRoom}
 
 -- where the record of group g stands
 abbrev pub rangeAt : ℕ → ℕ
@@ -44,3 +45,7 @@ pub record RangesIn (s : Sheet) (out : List ℕ) : Type 0 where
 -- what the operation promises under a sheet
 abbrev pub Ranges : Sheet → Call → Type 0
 Ranges s c = OncePossible s c (OnceRoom (rangeBytes * s .size) c (RangesIn s))
+
+-- what it promises of a call with these bytes
+abbrev pub RangesCall : List ℕ → Call → Type 0
+RangesCall sheet = OnceSheet sheet (λ d. Ranges (sheetOf (d .groups)))

@@ -1,6 +1,6 @@
 -- A sheet with its ranges as bounds: the same sets fit, so the ranges are the same, and the arrangement is the same too
 -- (document 02, card 13).
-use Prim.Native.Nat.{ℕ, zero, suc, _+_, _-_, _≤_, zero-le}
+use Prim.Native.Nat.{ℕ, zero, suc, _+_, _≤_, zero-le}
 use mathlib.Core.Path.{_≡_, refl, sym, ap, _∙_, fun-ext, subst}
 use mathlib.Core.Bool.{Bool, true, cond, _&&_, _||_}
 use mathlib.Core.Logic.{_↔_}
@@ -97,16 +97,16 @@ module _ (s : Sheet) (l : ℕ → ℕ) (u : ℕ → Top) where
   unfolding firstOf
   firstOf-rebound first size p g = rw (ended-rebound first size p g)
 
--- The arrangement of a sheet is the arrangement of the sheet with its ranges as bounds: their bottom-up bounds lie between those
--- of the sheet and the arrangement's own sizes.
+-- The arrangement of a sheet is that of the sheet with its ranges as bounds: the bottom-up bounds of the second lie between those of
+-- the first and the arrangement's sizes.
 module _ {s : Sheet} {l : ℕ → ℕ} {u : ℕ → Top} (e : RangeEnds s l u) (t : Tree s) (r : Rooted s) (o : s .parent 0 ≡ 0)
     {first size : ℕ → ℕ} (z : Sizes s size) {L : ℕ → ℕ} {U : ℕ → Top} (b : BottomUp s L U) (a : Arranged s L U first size)
     {L′ : ℕ → ℕ} {U′ : ℕ → Top} (b′ : BottomUp (rebound s l u) L′ U′) where
-  group-of : {g : ℕ} → Group s g → Group (rebound s l u) g
-  group-of q = group-rebound s (s .lo) l (s .hi) u q
+  group-kept : {g : ℕ} → Group s g → Group (rebound s l u) g
+  group-kept q = group-rebound s (s .lo) l (s .hi) u q
 
-  son-of-rebound : {p g : ℕ} → Son (rebound s l u) p g → Son s p g
-  son-of-rebound k = son-rebound s l (s .lo) u (s .hi) k
+  son-back : {p g : ℕ} → Son (rebound s l u) p g → Son s p g
+  son-back k = son-rebound s l (s .lo) u (s .hi) k
 
   sizes-kept : Sizes (rebound s l u) size
   sizes-kept =
@@ -129,10 +129,10 @@ module _ {s : Sheet} {l : ℕ → ℕ} {u : ℕ → Top} (e : RangeEnds s l u) (
 
   -- the size is between the bottom-up bounds, and these between those of the sheet
   size-within : (g : ℕ) → Group s g → (L′ g ≤ size g) × AtMost (size g) (U′ g)
-  size-within g q = b′ .counts g (group-of q) (size g) .1 (part-had (tree-rebound s _ l _ u t) o sizes-kept g (group-of q))
+  size-within g q = b′ .counts g (group-kept q) (size g) .1 (part-had (tree-rebound s _ l _ u t) o sizes-kept g (group-kept q))
 
   wider : (g k : ℕ) → Group s g → L′ g ≤ k → AtMost k (U′ g) → (L g ≤ k) × AtMost k (U g)
-  wider g k q x y = b .counts g q k .1 (part-wider g k (b′ .counts g (group-of q) k .0 (x, y)))
+  wider g k q x y = b .counts g q k .1 (part-wider g k (b′ .counts g (group-kept q) k .0 (x, y)))
 
   least-within : (g : ℕ) → Group s g → (L g ≤ L′ g) × AtMost (L′ g) (U g)
   least-within g q =
@@ -179,8 +179,8 @@ module _ {s : Sheet} {l : ℕ → ℕ} {u : ℕ → Top} (e : RangeEnds s l u) (
   arranged-kept = record {
     rootSize = omega (arith, a .rootSize, size-within 1 (r .one) .0, least-within 1 (r .one) .0);
     rootFirst = a .rootFirst;
-    sonSize = λ p g k. son-kept p g (son-of-rebound k) ∙ sym (sizeOf-rebound s l u L′ U′ size p g);
-    sonFirst = λ p g k. a .sonFirst p g (son-of-rebound k) ∙ sym (firstOf-rebound s l u first size p g);
+    sonSize = λ p g k. son-kept p g (son-back k) ∙ sym (sizeOf-rebound s l u L′ U′ size p g);
+    sonFirst = λ p g k. a .sonFirst p g (son-back k) ∙ sym (firstOf-rebound s l u first size p g);
   }
 
 -- So it is the same, whatever two replies show.

@@ -40,7 +40,7 @@ rooted-rebound s l l′ h h′ r = record {
   rest = λ g q. r .rest g (group-rebound s l′ l h′ h q);
 }
 
-pub balanced-rebound : (s : Sheet) (l l′ : ℕ → ℕ) (h h′ : ℕ → Top) {f : ℕ → ℕ} → Balanced (rebound s l h) f
+balanced-rebound : (s : Sheet) (l l′ : ℕ → ℕ) (h h′ : ℕ → Top) {f : ℕ → ℕ} → Balanced (rebound s l h) f
     → Balanced (rebound s l′ h′) f
 unfolding sons isSon
 balanced-rebound s l l′ h h′ b = record {

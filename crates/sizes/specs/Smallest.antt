@@ -16,7 +16,7 @@ use Rattle.sizes.specs.Possible.{fits-sizes}
 use Rattle.sizes.specs.RangedExists.{root-or-son}
 use Rattle.sizes.specs.ArrangedOnce.{part-had}
 
--- the root of the arrangement has the least count: its bottom-up bound, which no sets that fit the whole sheet pass
+-- the root of the arrangement has its least bottom-up count, and no sets that fit the whole sheet have fewer
 pub arrangement-least : {s : Sheet} → Tree s → Rooted s → s .parent 0 ≡ 0 → {first size : ℕ → ℕ} → ArrangedBottomUp s first size
     → {X : Type 0} {A : Sets X} → Fits s A → size 1 ≤ count A 1
 arrangement-least t r o x {A = A} w =

@@ -87,7 +87,7 @@ sheet-read b d e =
       claims = rw (l .3) (l .6);
     }
 
--- a sheet is refused with no 0
+-- no sheet is refused with the number 0
 pub sheet-positive : (b : List ℕ) → Positive (readSheet b)
 unfolding readSheet readGroups readNames readClaims closing
 sheet-positive b =
