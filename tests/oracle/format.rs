@@ -81,6 +81,21 @@ pub fn dword(b: &[u8], at: usize) -> u32 {
     word(b, at) as u32 + 65536 * word(b, at + 2) as u32
 }
 
+// A sheet's bytes with these ranges, least and greatest (u32::MAX for none), in place of the groups' bounds; none where a
+// finite end is above 65,534, which has no field (document 02, card 13).
+pub fn replaced(sheet: &[u8], ranges: impl Iterator<Item = (u32, u32)>) -> Option<Vec<u8>> {
+    let mut bytes = sheet.to_vec();
+    for (g, (least, greatest)) in ranges.enumerate() {
+        if least > 65534 || (greatest > 65534 && greatest != u32::MAX) {
+            return None;
+        }
+        let at = 12 * (g + 1);
+        bytes[at + 6..at + 8].copy_from_slice(&(least as u16).to_le_bytes());
+        bytes[at + 8..at + 10].copy_from_slice(&(greatest.min(65535) as u16).to_le_bytes());
+    }
+    Some(bytes)
+}
+
 fn upper(hi: u16) -> Option<u64> {
     if hi == 65535 { None } else { Some(hi as u64) }
 }

@@ -323,7 +323,7 @@ impl Run {
             }
             self.case(rng, bytes, &Ask::Ranges, Want::Bytes(reply.clone()));
             // And with its ranges as bounds a sheet keeps its reply.
-            again = replaced(bytes, &reply, self.off);
+            again = replaced(bytes, reply.chunks(20).map(|record| self.off.range(record)));
             match &again {
                 None => self.met("replaced: an end above 65,534"),
                 Some(b) => {
@@ -377,22 +377,12 @@ struct Off {
     hi: i64,
 }
 
-// A sheet's bytes with the ranges of its reply in place of its bounds; none where a finite end is above 65,534.
-fn replaced(sheet: &[u8], reply: &[u8], off: Off) -> Option<Vec<u8>> {
-    let mut bytes = sheet.to_vec();
-    for (g, range) in reply.chunks(20).enumerate() {
-        let (least, greatest) = (dword(range, 4), dword(range, 8));
-        if least > 65534 || (greatest > 65534 && greatest != u32::MAX) {
-            return None;
-        }
-        let near = |end: u32, off: i64| (end as i64 + off).clamp(0, 65534) as u16;
-        let lo = near(least, off.lo);
-        let hi = if greatest == u32::MAX { 65535 } else { near(greatest, off.hi) };
-        let at = 12 * (g + 1);
-        bytes[at + 6..at + 8].copy_from_slice(&lo.to_le_bytes());
-        bytes[at + 8..at + 10].copy_from_slice(&hi.to_le_bytes());
+impl Off {
+    // The range in a record of a reply, each end that has a field moved.
+    fn range(&self, record: &[u8]) -> (u32, u32) {
+        let moved = |end: u32, by: i64| if end > 65534 { end } else { (end as i64 + by).clamp(0, 65534) as u32 };
+        (moved(dword(record, 4), self.lo), moved(dword(record, 8), self.hi))
     }
-    Some(bytes)
 }
 
 // A denial's reply: its frames, and that the sets it shows fit and break the claim.

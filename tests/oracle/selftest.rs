@@ -94,6 +94,16 @@ fn random_sheet(rng: &mut Rng, n: usize, most: u64, endless: u64) -> Sheet {
     Sheet { groups, sons, names: Vec::new(), claims }
 }
 
+// The sheet with these ranges in place of its bounds, where they are others (document 02, card 13).
+fn with_ranges(sheet: &Sheet, range: impl Fn(usize) -> (u64, Option<u64>)) -> Option<Sheet> {
+    let mut out = sheet.clone();
+    for (g, group) in out.groups.iter_mut().enumerate() {
+        (group.lo, group.hi) = range(g);
+    }
+    let same = out.groups.iter().zip(&sheet.groups).all(|(a, b)| (a.lo, a.hi) == (b.lo, b.hi));
+    (!same).then_some(out)
+}
+
 pub fn run(seed: u64) {
     // All finite, so that a few people are enough: the root's hi bounds them.
     let mut rng = Rng::new(seed);
@@ -136,16 +146,14 @@ pub fn run(seed: u64) {
             assert_eq!(want, small.ranges[g], "range of {}, enumeration\n{text}", g + 1);
             assert_eq!(want, large.range(g), "range of {}, closed forms\n{text}", g + 1);
         }
-        // Document 02, card 13: with its ranges as bounds the same families fit; the arrangement is one of them, none has
-        // fewer members in the root, and its runs lie in the root's.
-        let mut replaced = sheet.clone();
-        for g in 0..n {
-            (replaced.groups[g].lo, replaced.groups[g].hi) = (ranges[g].0, Some(ranges[g].1));
+        // With its ranges as bounds the same families fit; the arrangement is one of them, none has fewer members in the
+        // root, and its runs lie in the root's.
+        if let Some(replaced) = with_ranges(&sheet, |g| (ranges[g].0, Some(ranges[g].1))) {
+            other += 1;
+            let mut again = Vec::new();
+            families(&replaced, people, |f| again.push(f.to_vec()));
+            assert_eq!(fitting, again, "families with the ranges as bounds\n{text}");
         }
-        let mut again = Vec::new();
-        families(&replaced, people, |f| again.push(f.to_vec()));
-        assert_eq!(fitting, again, "families with the ranges as bounds\n{text}");
-        other += (replaced.groups.iter().zip(&sheet.groups)).any(|(a, b)| (a.lo, a.hi) != (b.lo, b.hi)) as u64;
         let runs: Vec<u32> = arrangement(&sheet, &large.up).iter().map(|r| ((1 << r.1) - 1) << (r.0 - 1)).collect();
         assert!(fitting.contains(&runs), "the arrangement\n{text}");
         assert!(fitting.iter().all(|f| runs[0].count_ones() <= f[0].count_ones()), "the smallest\n{text}");
@@ -180,13 +188,7 @@ pub fn run(seed: u64) {
                 continue;
             }
             possible += 1;
-            let mut replaced = sheet.clone();
-            for (g, group) in replaced.groups.iter_mut().enumerate() {
-                (group.lo, group.hi) = large.range(g);
-            }
-            if (replaced.groups.iter().zip(&sheet.groups)).all(|(a, b)| (a.lo, a.hi) == (b.lo, b.hi)) {
-                continue;
-            }
+            let Some(replaced) = with_ranges(&sheet, |g| large.range(g)) else { continue };
             other += 1;
             let again = Large::new(&replaced);
             let text = show(&sheet);

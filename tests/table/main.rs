@@ -268,7 +268,7 @@ impl Table {
                 self.written(&format!("{what}, {len} bytes"), Op::Ranges, sheet, len, &bytes);
             }
             // Document 02, card 13: with its ranges as bounds the sheet has the same reply.
-            if let Some(again) = replaced(sheet, want) {
+            if let Some(again) = format::replaced(sheet, want.iter().map(|r| (r[0], r[1]))) {
                 self.written(&format!("{what}, ranges as bounds"), Op::Ranges, &again, need, &bytes);
             }
         }
@@ -678,20 +678,6 @@ fn star(n: u16) -> Bytes {
     let list: Vec<(u16, u16, u16, u16)> =
         (1..=n).map(|g| (if g == 1 { 0 } else { 1 }, 0, NO_END, 0)).collect();
     groups(&list)
-}
-
-// The sheet with these ranges in place of its bounds, 65,535 for no greatest; none where a finite end is above 65,534.
-fn replaced(sheet: &[u8], ranges: &[[u32; 4]]) -> Option<Bytes> {
-    let mut b = sheet.to_vec();
-    for (g, r) in ranges.iter().enumerate() {
-        if r[0] > 65534 || (r[1] > 65534 && r[1] != NONE) {
-            return None;
-        }
-        let at = 12 * (g + 1);
-        b[at + 6..at + 8].copy_from_slice(&(r[0] as u16).to_le_bytes());
-        b[at + 8..at + 10].copy_from_slice(&(if r[1] == NONE { NO_END } else { r[1] as u16 }).to_le_bytes());
-    }
-    Some(b)
 }
 
 // Document 02, card 13, by hand: sheets with their ranges as bounds, and the same with one bound off by one.

@@ -8,7 +8,7 @@ use borrow.Author.Tests.{ltb-true, eqb-true, lt-ltb, eq-eqb}
 use lib.Dec.{ltb, eqb}
 use Rattle.laws.specs.Sum.{sum}
 use Rattle.laws.specs.Cases.{split, and-true, compare-le, compare-eq, not-true-false}
-use Rattle.laws.specs.SumLaws.{sum-le, sum-eq, sum-zero, sum-add, sum-term, sum-prefix, locate}
+use Rattle.laws.specs.SumLaws.{sum-le, sum-eq, sum-zero, sum-add, sum-term, sum-prefix, sum-gap, locate}
 use Rattle.meaning.specs.Sheet.{Sheet, Group, Son}
 use Rattle.meaning.specs.Tree.{Tree}
 use Rattle.meaning.specs.Sons.{isSon, only, sons}
@@ -51,6 +51,14 @@ pub sons-le : (s : Sheet) (p : ℕ) (f h : ℕ → ℕ) → ((g : ℕ) → Son s
 unfolding sons
 sons-le s p f h q =
     sum-le _ _ _ (λ g l. split (isSon s p g) (λ e. rw e (q g (son-of s p g (omega arith) e))) (λ e. rw e zero-le))
+
+-- the terms of the sons from n on, where one term is not above the other
+pub sons-gap : (s : Sheet) (p : ℕ) (f h : ℕ → ℕ) (n : ℕ) → n ≤ suc (s .size) → ((g : ℕ) → Son s p g → f g ≤ h g)
+    → sum (only s p h) n + sons s p f ≤ sons s p h + sum (only s p f) n
+unfolding sons
+sons-gap s p f h n l q =
+    sum-gap (only s p f) (only s p h) n (suc (s .size))
+    (λ g k. split (isSon s p g) (λ e. rw e (q g (son-of s p g (omega arith) e))) (λ e. rw e zero-le)) l
 
 -- the sum over the sons below n, term by term
 pub only-eq : (s : Sheet) (p : ℕ) (f h : ℕ → ℕ) (n : ℕ) → n ≤ suc (s .size) → ((g : ℕ) → Son s p g → f g ≡ h g)

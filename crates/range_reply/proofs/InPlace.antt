@@ -20,7 +20,7 @@ use Rattle.wire.specs.Facts.{SheetRead, sheet-read, bytes-drop, bytes-after}
 use Rattle.wire.specs.RoundTripRecords.{fields-read, name-back, claim-back}
 use Rattle.wire.specs.RoundTripSheet.{readable-is-encoded}
 use Rattle.meaning.specs.OfRecords.{sheetOf}
-use Rattle.replies.specs.Wrote.{Wrote, word-kept, wrote-word, word-put}
+use Rattle.replies.specs.Wrote.{Wrote, wrote-then, word-kept, wrote-word, word-put}
 use Rattle.range_reply.specs.Planning.{rangeLo, rangeHi, replacedGroup, replacedFrom, replaced, groupPlace, groupOver, writtenOver, EndsWithin}
 use Rattle.range_reply.proofs.Replaced.{replaced-length, fields-within}
 
@@ -54,21 +54,22 @@ over-more {sheet} {out} {b} n l x y w =
     let m = sets b (i + 6) (le16 (rangeLo out (suc n))) in
     let v : Wrote b (i + 6) 2 m = wrote-word (i + 6) (rangeLo out (suc n)) refl in
     let u : Wrote m (i + 8) 2 (sets m (i + 8) (le16 (rangeHi out (suc n)))) = wrote-word (i + 8) (rangeHi out (suc n)) refl in
+    let both : Wrote b (i + 6) 4 (groupOver out (suc n) b) = wrote-then v u (omega arith) (omega arith) (omega arith) (omega arith) in
     record {
-      sized = u .sized ∙ v .sized ∙ w .sized;
+      sized = both .sized ∙ w .sized;
       lo = λ g j k. compare-eq g (suc n)
           (λ e. let s : groupBytes * g + 6 ≡ i + 6 = omega arith in
           rw (s, e) (word-kept u (i + 6) (inl (omega arith)) ∙ word-put b (i + 6) (rangeLo out (suc n)) refl (omega (arith, w .sized)) (omega arith)))
-          (λ e. word-kept u (groupBytes * g + 6) (inl (omega arith)) ∙ word-kept v (groupBytes * g + 6) (inl (omega arith)) ∙ w .lo g j (omega arith));
+          (λ e. word-kept both (groupBytes * g + 6) (inl (omega arith)) ∙ w .lo g j (omega arith));
       hi = λ g j k. compare-eq g (suc n)
           (λ e. let s : groupBytes * g + 8 ≡ i + 8 = omega arith in
           rw (s, e) (word-put m (i + 8) (rangeHi out (suc n)) refl (omega (arith, v .sized, w .sized)) (omega arith)))
-          (λ e. word-kept u (groupBytes * g + 8) (inl (omega arith)) ∙ word-kept v (groupBytes * g + 8) (inl (omega arith)) ∙ w .hi g j (omega arith));
+          (λ e. word-kept both (groupBytes * g + 8) (inl (omega arith)) ∙ w .hi g j (omega arith));
       rest = λ j h. compare-le (i + 6) j
           (λ a. compare-le (i + 10) j
-          (λ c. u .over j (omega arith) ∙ v .over j (omega arith) ∙ w .rest j (λ g p q. h g p (omega arith)))
+          (λ c. both .over j (omega arith) ∙ w .rest j (λ g p q. h g p (omega arith)))
           (λ c. absurd (h (suc n) (omega arith) (omega arith) (omega arith) (omega arith))))
-          (λ a. u .under j (omega arith) ∙ v .under j a ∙ w .rest j (λ g p q. h g p (omega arith)));
+          (λ a. both .under j a ∙ w .rest j (λ g p q. h g p (omega arith)));
       bytes = bytes-word m (i + 8) (rangeHi out (suc n)) (bytes-word b (i + 6) (rangeLo out (suc n)) (w .bytes));
     }
 

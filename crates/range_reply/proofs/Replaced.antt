@@ -3,9 +3,10 @@
 use Prim.Native.Nat.{ℕ, zero, suc, _+_, _-_, _≤_, _<_}
 use mathlib.Core.Path.{_≡_, refl, ap, _∙_}
 use mathlib.Core.List.{List, [], _∷_, _++_}
+use mathlib.Core.Logic.{_⊎_, inl, inr, ⊎-elim}
 use native.Mathlib.Omega.{arith}
 use native.Mathlib.Nat.{add-zero}
-use borrow.Author.Tests.{eqb-false, ne-eqb}
+use borrow.Author.Tests.{eqb-true, eqb-false, ne-eqb}
 use lib.Dec.{eqb}
 use lib.ListN.{length, getD, length-append}
 use Rattle.laws.specs.Digit.{digit}
@@ -84,15 +85,19 @@ module _ (out : List ℕ) (gs : List GroupRecord) where
 
 -- the bounds of the replaced records are the ends of the ranges
 module _ (gs : List GroupRecord) (out : List ℕ) (b : EndsWithin (sheetOf gs) out) where
+  hi-is : (g : ℕ) → Group (sheetOf gs) g → ((rangeGreatest out g ≡ noGreatest) × (rangeHi out g ≡ noEnd))
+      ⊎ ((rangeGreatest out g ≤ boundLimit) × (rangeHi out g ≡ rangeGreatest out g))
+  hi-is g q =
+      let n = rangeGreatest out g in
+      split (eqb n noGreatest)
+      (λ e. inl (eqb-true n noGreatest e, rw e (omega arith)))
+      (λ e. inr (b .greatest g q (eqb-false n noGreatest e), rw e (omega arith)))
+
   hi-stands : (g : ℕ) → Group (sheetOf gs) g → endOf noEnd (rangeHi out g) ≡ endOf noGreatest (rangeGreatest out g)
   unfolding endOf
   hi-stands g q =
       let n = rangeGreatest out g in
-      split (eqb n noGreatest)
-      (λ e. let m : rangeHi out g ≡ noEnd = rw e (omega arith) in rw (m, e))
-      (λ e. let m : rangeHi out g ≡ n = rw e (omega arith) in
-      let l = b .greatest g q (eqb-false n noGreatest e) in
-      rw (m, e, ne-eqb n noEnd (omega arith)))
+      ⊎-elim (λ w. rw (w .1, w .0)) (λ w. rw (w .1, ne-eqb n noEnd (omega arith), ne-eqb n noGreatest (omega arith))) (hi-is g q)
 
   bounds-at : (g : ℕ) → Group (sheetOf gs) g
       → (replacedSheet out gs .lo g ≡ rangeLo out g) × (replacedSheet out gs .hi g ≡ endOf noEnd (rangeHi out g))
@@ -111,12 +116,8 @@ module _ (gs : List GroupRecord) (out : List ℕ) (b : EndsWithin (sheetOf gs) o
   -- they are within the limits of their fields
   pub fields-within : (g : ℕ) → 1 ≤ g → g < 1 + length gs → (rangeLo out g ≤ boundLimit) × (rangeHi out g ≤ noEnd)
   fields-within g l k =
-      let q : Group (sheetOf gs) g = omega arith in (
-        omega (arith, b .least g q),
-        split (eqb (rangeGreatest out g) noGreatest)
-            (λ e. rw e (omega arith))
-            (λ e. rw e (omega (arith, b .greatest g q (eqb-false (rangeGreatest out g) noGreatest e)))),
-      )
+      let q : Group (sheetOf gs) g = omega arith in
+      (omega (arith, b .least g q), ⊎-elim (λ w. omega (arith, w .1)) (λ w. omega (arith, w .0, w .1)) (hi-is g q))
 
 pub replaced-within : (d : Records) (out : List ℕ) → EndsWithin (sheetOf (d .groups)) out → SheetWithin d → SheetWithin (replaced out d)
 replaced-within d out b w =

@@ -2,7 +2,7 @@
 -- bounds. Document 02, card 13. `proofs/Planned` proves both for every reply.
 use Prim.Native.Nat.{ℕ, zero, suc, _+_, _-_, _*_, _≤_}
 use mathlib.Core.Path.{_≡_}
-use mathlib.Core.Bool.{true, false, cond}
+use mathlib.Core.Bool.{true, cond}
 use mathlib.Core.List.{List, [], _∷_}
 use mathlib.Core.Logic.{_↔_}
 use lib.Dec.{eqb}
@@ -17,10 +17,10 @@ use Rattle.wire.specs.Encoding.{encodeSheet}
 use Rattle.meaning.specs.Sheet.{Sheet, Group}
 use Rattle.meaning.specs.Sets.{Sets, count}
 use Rattle.meaning.specs.Fits.{Fits, Possible, Attains}
-use Rattle.meaning.specs.Shown.{inRun, shown, above}
+use Rattle.meaning.specs.Shown.{inRun}
 use Rattle.meaning.specs.OfRecords.{sheetOf}
 use Rattle.replies.specs.Reply.{Call, Replied}
-use Rattle.range_reply.specs.RangesReply.{rangeLeast, rangeGreatest, runFirst, runCount, RangesCall}
+use Rattle.range_reply.specs.RangesReply.{rangeLeast, rangeGreatest, runFirst, runCount, arrangedSets, RangesCall}
 
 -- a readable sheet that some sets fit, whose records are d, and a call with room for the reply
 pub record Answerable (sheet : List ℕ) (d : Records) (c : Call) : Type 0 where
@@ -31,8 +31,7 @@ pub record Answerable (sheet : List ℕ) (d : Records) (c : Call) : Type 0 where
 -- "Planners take the arrangement as the least staffing": of the sheet s, as the reply shows it.
 pub record Smallest (s : Sheet) (out : List ℕ) : Type 1 where
   -- the sets of the arrangement (they fit: `RangesIn.fits`) have the counts of its runs
-  pub counts : (g : ℕ) → Group s g
-      → count (shown (runFirst out) (runCount out) (λ g. false) (above (s .size) (runFirst out) (runCount out))) g ≡ runCount out g
+  pub counts : (g : ℕ) → Group s g → count (arrangedSets s out) g ≡ runCount out g
   -- "every other choice of sets that fits has at least as many members in the root", whatever its members are
   pub least : (X : Type 0) (A : Sets X) → Fits s A → runCount out 1 ≤ count A 1
   -- "no member of the arrangement is outside it": a member x of any group's run is in the root's

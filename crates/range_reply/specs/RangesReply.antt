@@ -7,6 +7,7 @@ use mathlib.Core.Logic.{_↔_}
 use Rattle.wire.specs.Limits.{rangeBytes, noGreatest}
 use Rattle.wire.specs.Bytes.{u16At, u32At}
 use Rattle.meaning.specs.Sheet.{Sheet, Group, AtMost, endOf}
+use Rattle.meaning.specs.Sets.{Sets}
 use Rattle.meaning.specs.Fits.{Fits, Attains}
 use Rattle.meaning.specs.Arranged.{ArrangedBottomUp}
 use Rattle.meaning.specs.Shown.{shown, above}
@@ -30,6 +31,10 @@ runFirst out g = u32At out (rangeAt g + 12)
 abbrev pub runCount : List ℕ → ℕ → ℕ
 runCount out g = u32At out (rangeAt g + 16)
 
+-- the sets of the arrangement
+abbrev pub arrangedSets : Sheet → List ℕ → Sets ℕ
+arrangedSets s out = shown (runFirst out) (runCount out) (λ g. false) (above (s .size) (runFirst out) (runCount out))
+
 -- the reply to a sheet that some sets fit, read off the buffer at exit
 pub record RangesIn (s : Sheet) (out : List ℕ) : Type 0 where
   pub frame : (g : ℕ) → Group s g → (u16At out (rangeAt g) ≡ rangeBytes - 2) × (u16At out (rangeAt g + 2) ≡ 17)
@@ -40,7 +45,7 @@ pub record RangesIn (s : Sheet) (out : List ℕ) : Type 0 where
   -- the arrangement is the one that document 01 fixes, from the bottom-up bounds L and U
   pub arranged : ArrangedBottomUp s (runFirst out) (runCount out)
   -- and its sets fit (which follows from the line before)
-  pub fits : Fits s (shown (runFirst out) (runCount out) (λ g. false) (above (s .size) (runFirst out) (runCount out)))
+  pub fits : Fits s (arrangedSets s out)
 
 -- what the operation promises under a sheet
 abbrev pub Ranges : Sheet → Call → Type 0

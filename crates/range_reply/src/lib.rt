@@ -1,5 +1,5 @@
 // The reply to `sheet_ranges` under a sheet that was read: ranges with an arrangement, or a refusal.
-// `specs/RangesReply` writes the operation down.
+// `specs/RangesReply` writes the operation down, `specs/Planning` what planners read off its reply (document 02, card 13).
 // Document 01, "Ranges", "The arrangement", "Replies", refusals 8 and 14.
 use measuring::pairs::PAIR_TABLE;
 use ranging::arrange::arrange;

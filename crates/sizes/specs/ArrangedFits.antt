@@ -1,6 +1,6 @@
 -- The arrangement of document 01 fits: its sizes are sizes that the sheet allows, and its starts are those of the runs that
 -- show them. For any bounds there is one, and one only.
-use Prim.Native.Nat.{ℕ, zero, suc, _+_, _-_, _≤_, zero-le, min}
+use Prim.Native.Nat.{ℕ, zero, suc, _+_, _-_, _≤_, min}
 use mathlib.Core.Path.{_≡_, refl, sym, _∙_}
 use mathlib.Core.Bool.{Bool, true, false, _&&_}
 use native.Mathlib.Omega.{arith}
@@ -17,8 +17,8 @@ use Rattle.sizes.specs.Span.{Span, span, In, eq}
 use Rattle.sizes.specs.Fold.{joinKind, sonCount, shut, Measured}
 use Rattle.sizes.specs.Ranged.{free}
 use Rattle.laws.specs.Cases.{split, below-suc, and-true, true-not-false}
-use Rattle.laws.specs.SumLaws.{bit-eq, sum-eq, sum-suc, sum-gap}
-use Rattle.meaning.proofs.SonLaws.{son-of, son-is, son-parent, sons-le, sons-prefix}
+use Rattle.laws.specs.SumLaws.{bit-eq, sum-eq, sum-suc}
+use Rattle.meaning.proofs.SonLaws.{son-of, son-is, son-parent, sons-le, sons-prefix, sons-gap}
 use Rattle.sizes.specs.Runs.{Starts}
 use Rattle.sizes.specs.RunsInWords.{told-starts}
 use Rattle.sizes.specs.Members.{balanced-zero}
@@ -115,9 +115,7 @@ module _ (s : Sheet) (L : ℕ → ℕ) (U : ℕ → Top) (size : ℕ → ℕ) (p
         let x = cap-most (U g) n in
         let y = cap-least (U g) (min (f g) n) n (omega arith) (at-le (min (f g) n) (f g) (U g) (omega arith) (i .1)) in
         let z = cap-least (U g) (L g) n (omega arith) (at-le (L g) (f g) (U g) (i .0) (i .1)) in
-        let w = sum-gap (only s p L) (only s p f) (suc g) (suc (s .size))
-        (λ q o. split (isSon s p q) (λ t. rw t (within q (son-of s p q (omega arith) t) .0)) (λ t. rw t zero-le))
-        (omega arith) in
+        let w = sons-gap s p L f (suc g) (omega arith) (λ q o. within q o .0) in
         (omega arith, omega (arith, r .apart d), omega arith)
 
     shared-to : (n : ℕ) → n ≤ suc (s .size) → SharedTo n

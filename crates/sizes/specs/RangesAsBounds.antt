@@ -8,7 +8,7 @@ use native.Mathlib.Omega.{arith}
 use native.Mathlib.Nat.{le-refl}
 use lib.Dec.{eqb}
 use Rattle.laws.specs.Cases.{split, compare-le}
-use Rattle.laws.specs.SumLaws.{sum-suc, sum-gap}
+use Rattle.laws.specs.SumLaws.{sum-suc}
 use Rattle.meaning.specs.Sheet.{Sheet, Group, Son, Top, inf, AtMost}
 use Rattle.meaning.specs.Tree.{Tree, Rooted}
 use Rattle.meaning.specs.Sets.{Sets, count}
@@ -16,7 +16,7 @@ use Rattle.meaning.specs.Fits.{Fits, Possible, Attains}
 use Rattle.meaning.specs.Sons.{isSon, only, sons}
 use Rattle.meaning.specs.Part.{under, partAt, BottomUp}
 use Rattle.meaning.specs.Arranged.{cap, leftFor, sizeOf, ended, firstOf, Arranged, ArrangedBottomUp}
-use Rattle.meaning.proofs.SonLaws.{son-of, son-is, son-parent, sons-prefix}
+use Rattle.meaning.proofs.SonLaws.{son-is, son-parent, sons-prefix, sons-gap}
 use Rattle.sizes.specs.SpanLaws.{at-le, cap-at, cap-most, cap-least}
 use Rattle.sizes.specs.Renumbered.{renumbered, renumbered-count, renumbered-fits}
 use Rattle.sizes.specs.Possible.{Sizes, attains}
@@ -146,16 +146,11 @@ module _ {s : Sheet} {l : ℕ → ℕ} {u : ℕ → Top} (e : RangeEnds s l u) (
   -- what is left for a son
   left-within : (p g : ℕ) → Son s p g → s .disjoint p ≡ true
       → (size g ≤ leftFor s L′ size p g) × (leftFor s L′ size p g ≤ leftFor s L size p g)
-  unfolding leftFor sons
+  unfolding leftFor
   left-within p g k d =
-      let n = suc (s .size) in
       let own = rw (son-is k) at (sum-suc (only s p size) g) in
-      let more = sum-gap (only s p L) (only s p L′) (suc g) n
-      (λ h j. split (isSon s p h) (λ x. rw x (least-within h (son-of s p h (omega arith) x .group) .0)) (λ x. rw x zero-le))
-      (omega (arith, k .group .last)) in
-      let room = sum-gap (only s p L′) (only s p size) (suc g) n
-      (λ h j. split (isSon s p h) (λ x. rw x (size-within h (son-of s p h (omega arith) x .group) .0)) (λ x. rw x zero-le))
-      (omega (arith, k .group .last)) in
+      let more = sons-gap s p L L′ (suc g) (omega (arith, k .group .last)) (λ h j. least-within h (j .group) .0) in
+      let room = sons-gap s p L′ size (suc g) (omega (arith, k .group .last)) (λ h j. size-within h (j .group) .0) in
       (omega (arith, z .balanced .at p (son-parent t k) .apart d, sons-prefix size k), omega arith)
 
   -- the size of a son
