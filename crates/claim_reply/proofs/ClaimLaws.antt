@@ -8,7 +8,7 @@ use Rattle.wire.specs.Record.{read}
 use Rattle.wire.specs.SheetFormat.{nameOf, readSheet}
 use Rattle.wire.specs.Facts.{read-right}
 use Rattle.meaning.specs.Sheet.{Sheet}
-use Rattle.meaning.specs.Claim.{Claim}
+use Rattle.meaning.specs.Place.{Question}
 use Rattle.meaning.specs.OfRecords.{claimed, claimAt}
 use Rattle.meaning.specs.Readable.{name-group-most}
 use Rattle.reading.specs.Answers.{headRecord}
@@ -20,10 +20,10 @@ use Rattle.reading.specs.declared.records.Head.{Head}
 use Rattle.reading.specs.declared.claim.Claim.{Claim as ClaimRead}
 use Rattle.claims.specs.Named.{Askable, claimMeant, claim-named}
 use Rattle.replies.specs.Reply.{Call}
-use Rattle.claim_reply.specs.ClaimReply.{VerdictOn}
+use Rattle.claim_reply.specs.ClaimReply.{Answered}
 
-pub verdict-on : {s : Sheet} {j k : Claim} {y : Call} → j ≡ k → VerdictOn s j y → VerdictOn s k y
-verdict-on {s} {y = y} e w = subst (λ k. VerdictOn s k y) e w
+pub answered-as : (s : Sheet) (y : Call) {j k : Question} → j ≡ k → Answered s j y → Answered s k y
+answered-as s y e w = subst (λ k. Answered s k y) e w
 
 -- a claim x of a sheet that was read, handed up from place i of the tables
 module _ (h : Head) (s groups : List ℕ) {names : List ℕ} (labels claims places : List ℕ)

@@ -1,3 +1,3 @@
 pub mod ShownAlike
-pub mod DenialLaws
+pub mod SetsLaws
 pub mod ClaimLaws

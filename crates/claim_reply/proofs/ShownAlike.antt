@@ -1,4 +1,4 @@
--- Sets that agree at every number up to the size of a sheet fit it alike and break the same claims: what a table shows and
+-- Sets that agree at every number up to the size of a sheet fit it alike and answer the same questions: what a table shows and
 -- what is read back from the bytes of a reply are the same sets.
 use Prim.Native.Nat.{ℕ, zero, suc, _≤_}
 use mathlib.Core.Path.{_≡_, refl, sym, ap, _∙_, subst}
@@ -10,7 +10,9 @@ use Rattle.meaning.specs.Sheet.{Sheet, Son}
 use Rattle.meaning.specs.Tree.{Tree}
 use Rattle.meaning.specs.Sets.{count, numbered}
 use Rattle.meaning.specs.Fits.{Meets, Fits}
-use Rattle.meaning.specs.Claim.{Claim, counted, within, separate, named, union, countNamed, Says, Breaks}
+use Rattle.meaning.specs.Claim.{Claim, counted, within, separate, named, union, countNamed, Says}
+use Rattle.meaning.specs.Place.{every, Question, allSay, somePlace}
+use Rattle.sizes.specs.Witness.{ShownWitness}
 use Rattle.meaning.specs.Shown.{shown, above}
 use Rattle.laws.specs.SumLaws.{sum-eq}
 use Rattle.meaning.proofs.SonLaws.{son-parent}
@@ -27,15 +29,25 @@ module _ (n m : ℕ) (h k : ℕ → ℕ → Bool) (e : (g : ℕ) → g ≤ m →
   union-alike (g ∷ l) a x =
       rw (named-alike g (a g (List·Memᴰ·head refl)) x, union-alike l (λ j w. a j (List·Memᴰ·tail w)) x)
 
-  says-alike : (c : Claim) → SpeaksUpTo m c → Says c (numbered n k) → Says c (numbered n h)
+  every-alike : (l : List ℕ) → AllUpTo m l → (x : ℕ) → every (numbered n h) l x ≡ every (numbered n k) l x
+  every-alike [] a x = refl
+  every-alike (g ∷ l) a x =
+      rw (named-alike g (a g (List·Memᴰ·head refl)) x, every-alike l (λ j w. a j (List·Memᴰ·tail w)) x)
+
+  says-alike : (c : Claim) → SpeaksUpTo m (allSay c) → Says c (numbered n k) → Says c (numbered n h)
   unfolding countNamed
   says-alike (counted g lo hi) a w = rw (sum-eq _ _ n (λ i q. ap bit (named-alike g a i))) w
   says-alike (within l r) a w = λ i q x. union-alike r (a .1) i ∙ w i q (sym (union-alike l (a .0) i) ∙ x)
   says-alike (separate l r) a w =
       λ i q x y. w i q (sym (union-alike l (a .0) i) ∙ x) (sym (union-alike r (a .1) i) ∙ y)
 
-  breaks-alike : (c : Claim) → SpeaksUpTo m c → Breaks c (numbered n h) → Breaks c (numbered n k)
-  breaks-alike c a b w = b (says-alike c a w)
+  witness-alike : (q : Question) → SpeaksUpTo m q → ShownWitness q (numbered n h) → ShownWitness q (numbered n k)
+  witness-alike (allSay c) a w = λ y. w (says-alike c a y)
+  witness-alike (somePlace l r) a w = record {
+    listed = w .listed;
+    left = sym (every-alike l (a .0) 0) ∙ w .left;
+    right = sym (union-alike r (a .1) 0) ∙ w .right;
+  }
 
 module _ (s : Sheet) (n : ℕ) (t : Tree s) (h k : ℕ → ℕ → Bool) (e : (g : ℕ) → g ≤ s .size → (x : ℕ) → h g x ≡ k g x) where
   meets-alike : (i : ℕ) → Meets s (λ g. h g i) → Meets s (λ g. k g i)
@@ -77,7 +89,7 @@ module _ (s : Sheet) {first count first' count' : ℕ → ℕ} {mark mark' : ℕ
   shown-fits-alike t w =
       fits-alike s _ t _ _ (has-alike 0) (subst (λ n. Fits s (shown first count mark n)) above-alike w)
 
-  pub shown-breaks-alike : (k : Claim) → SpeaksUpTo (s .size) k → Breaks k (shown first count mark (above (s .size) first count))
-      → Breaks k (shown first' count' mark' (above (s .size) first' count'))
-  shown-breaks-alike k u w =
-      breaks-alike _ (s .size) _ _ (has-alike 0) k u (subst (λ n. Breaks k (shown first count mark n)) above-alike w)
+  pub shown-witness-alike : (q : Question) → SpeaksUpTo (s .size) q → ShownWitness q (shown first count mark (above (s .size) first count))
+      → ShownWitness q (shown first' count' mark' (above (s .size) first' count'))
+  shown-witness-alike q u w =
+      witness-alike _ (s .size) _ _ (has-alike 0) q u (subst (λ n. ShownWitness q (shown first count mark n)) above-alike w)

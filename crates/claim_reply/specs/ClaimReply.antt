@@ -1,5 +1,6 @@
 -- The operation `sheet_claim`, written down: document 01, "Meaning", "The arrangement" (denials), "Replies", refusals 1 to 9
--- and 14. Open is which sets a denial shows, and with them where an empty run starts: they fit and they break the claim.
+-- and 14; document 02, card 1 (kind 7). Open is which sets are shown, and with them where an empty run starts: those of a denial
+-- fit and break the claim, those of kind 7 fit and have member 0 in every left set and in no right set.
 use Prim.Native.Nat.{ℕ, _+_, _-_, _*_, _≤_, _<_}
 use mathlib.Core.Path.{_≡_}
 use mathlib.Core.List.{List}
@@ -13,6 +14,7 @@ use Rattle.meaning.specs.Sheet.{Sheet, Group}
 use Rattle.meaning.specs.Sets.{Sets}
 use Rattle.meaning.specs.Fits.{Fits}
 use Rattle.meaning.specs.Claim.{Claim, Breaks, Breakable}
+use Rattle.meaning.specs.Place.{Placed, Placeable, Question, allSay, somePlace}
 use Rattle.meaning.specs.OfRecords.{sheetOf, claimAt}
 use Rattle.meaning.specs.Shown.{shown, above}
 use Rattle.claims.specs.Verdict.{verdictNumber}
@@ -34,7 +36,7 @@ shownCount out g = u32At out (shownAt g + 8)
 abbrev pub shownMark : List ℕ → ℕ → ℕ
 shownMark out g = u16At out (shownAt g + 12)
 
--- the sets that a denial shows, read off the buffer at exit
+-- the sets that are shown, read off the buffer at exit
 abbrev pub shownSets : Sheet → List ℕ → Sets ℕ
 shownSets s out = shown (shownFirst out) (shownCount out) (λ g. eqb (shownMark out g) 1) (above (s .size) (shownFirst out) (shownCount out))
 
@@ -51,26 +53,44 @@ pub record ShownIn (out : List ℕ) (g : ℕ) : Type 0 where
   pub first : 1 ≤ shownFirst out g
   pub mark : shownMark out g ≤ 1
 
--- A denial. Its sets, and the start of an empty run, are open but for this: they fit, and they break the claim.
-pub record DenialIn (s : Sheet) (k : Claim) (out : List ℕ) : Type 0 where
-  pub verdict : VerdictIn Denied out
+-- A verdict with sets. The sets, and the start of an empty run, are open but for this: they fit, and P is so of them.
+pub record SetsIn (s : Sheet) (v : Verdict) (P : Sets ℕ → Type 0) (out : List ℕ) : Type 0 where
+  pub verdict : VerdictIn v out
   pub records : (g : ℕ) → Group s g → ShownIn out g
   pub fits : Fits s (shownSets s out)
-  pub breaks : Breaks k (shownSets s out)
+  pub shows : P (shownSets s out)
+
+-- a denial's sets break the claim
+abbrev pub DenialIn : Sheet → Claim → List ℕ → Type 0
+DenialIn s k out = SetsIn s Denied (λ A. Breaks k A) out
+
+-- those of a yes to kind 7 have member 0 in every left set and in no right set
+abbrev pub PlaceIn : Sheet → List ℕ → List ℕ → List ℕ → Type 0
+PlaceIn s l r out = SetsIn s Holds (λ A. Placed A l r 0) out
 
 -- 9: the claim number k is 0 or above the number n of claims
 pub record OnceNumbered (k n : ℕ) (c : Call) (P : Type 0) : Type 0 where
   pub unnumbered : (k ≡ 0) ⊎ (n < k) → Refused 9 0 c
   pub numbered : 1 ≤ k → k ≤ n → P
 
--- the claim holds where no finite sets fit and break it, and is denied where some do
+-- kinds 4 to 6: the claim holds where no finite sets fit and break it, and is denied where some do
 pub record VerdictOn (s : Sheet) (k : Claim) (c : Call) : Type 0 where
   pub holds : (Breakable s k → ⊥) → OnceRoom verdictBytes c (VerdictIn Holds)
   pub denied : Breakable s k → OnceRoom (verdictBytes + shownBytes * s .size) c (DenialIn s k)
+
+-- kind 7: it holds where some finite sets fit and have such a member, and is denied where none do
+pub record PlaceOn (s : Sheet) (l r : List ℕ) (c : Call) : Type 0 where
+  pub holds : Placeable s l r → OnceRoom (verdictBytes + shownBytes * s .size) c (PlaceIn s l r)
+  pub denied : (Placeable s l r → ⊥) → OnceRoom verdictBytes c (VerdictIn Denied)
+
+-- the verdict on what a claim asks
+abbrev pub Answered : Sheet → Question → Call → Type 0
+Answered s (allSay k) c = VerdictOn s k c
+Answered s (somePlace l r) c = PlaceOn s l r c
 
 -- what the operation promises on claim number k of a sheet
 abbrev pub ClaimVerdict : ℕ → Records → Call → Type 0
 ClaimVerdict k d c =
     OncePossible (sheetOf (d .groups)) c
     (OnceNumbered k (length (d .claims)) c
-    (VerdictOn (sheetOf (d .groups)) (claimAt d k) c))
+    (Answered (sheetOf (d .groups)) (claimAt d k) c))

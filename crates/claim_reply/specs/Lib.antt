@@ -1,2 +1,3 @@
 pub mod ClaimReply
+pub mod Answering
 pub mod Asked

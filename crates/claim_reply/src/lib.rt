@@ -1,8 +1,8 @@
-// The reply to `sheet_claim` under a sheet that was read: the verdict, with sets where it is denied, or a refusal.
+// The reply to `sheet_claim` under a sheet that was read: the verdict, with sets where some answer the claim, or a refusal.
 // `specs/ClaimReply` writes the operation down.
-// Document 01, "Meaning", "The arrangement" (denials), "Replies", refusals 8, 9 and 14.
+// Document 01, "Meaning", "The arrangement" (denials), "Replies", refusals 8, 9 and 14; document 02, card 1.
 use claims::decide::decide;
-use claims::verdict::Verdict;
+use claims::verdict::Decision;
 use claims::verdict::verdict_number;
 use ranging::fitting::some_fit;
 use reading::claim::Claim;
@@ -22,10 +22,10 @@ ghost use Rattle.reading.specs.ClaimHeld.{claimRecord};
 ghost use Rattle.reading.specs.SheetIn.{sheetIn, Tabled};
 ghost use Rattle.claims.specs.Named.{Askable, claimMeant};
 ghost use Rattle.replies.specs.Reply.{call};
-ghost use Rattle.claim_reply.specs.ClaimReply.{VerdictOn, ClaimVerdict};
+ghost use Rattle.claim_reply.specs.ClaimReply.{Answered, ClaimVerdict};
 ghost use Rattle.claim_reply.specs.Asked.{Asked};
 
-// The verdict on a claim, with sets where it is denied, into a buffer with room for this verdict.
+// The verdict on a claim, with sets where some answer it, into a buffer with room for this verdict.
 fn give_verdict(
     sheet: &[u8],
     c: Claim,
@@ -35,14 +35,14 @@ fn give_verdict(
     reply: &mut [u8],
 ) -> u64
     requires { ⌜ Tabled (now groups) size × Askable (now sheet) c (now names) size ⌝ }
-    ensures { λ r. ⌜ VerdictOn (sheetIn (now (groups .entry)) size) (claimMeant (now (names .entry)) (claimRecord (now
+    ensures { λ r. ⌜ Answered (sheetIn (now (groups .entry)) size) (claimMeant (now (names .entry)) (claimRecord (now
         (sheet .entry)) c))
         (call (now (reply .entry)) r (now (reply .exit))) ⌝ }
 {
     let mut firsts = [0u32; GROUP_CAPACITY];
     let mut sizes = [0u32; GROUP_CAPACITY];
     let mut marks = [0u8; GROUP_CAPACITY];
-    let v = decide(
+    let d = decide(
         sheet,
         c,
         names,
@@ -52,15 +52,15 @@ fn give_verdict(
         &mut sizes,
         &mut marks,
     );
-    match v {
-        Verdict::Holds => {
+    match d {
+        Decision::Alone(v) => {
             if reply.len() < VERDICT_BYTES {
-                return pack(14, 0); // no room to say that it holds
+                return pack(14, 0); // no room for the verdict
             }
             put_verdict(reply, verdict_number(v));
             pack(0, VERDICT_BYTES as u32)
         }
-        Verdict::Denied => {
+        Decision::Shown(v) => {
             let bytes = VERDICT_BYTES + SHOWN_BYTES * size as usize;
             if reply.len() < bytes {
                 return pack(14, 0); // no room for the sets

@@ -14,6 +14,7 @@ use Rattle.laws.specs.Sum.{sum, bit}
 use Rattle.meaning.specs.Sheet.{Sheet, Group, Son, Top, fin, AtMost, endOf}
 use Rattle.meaning.specs.Tree.{Tree}
 use Rattle.meaning.specs.Claim.{counted}
+use Rattle.meaning.specs.Place.{allSay}
 use Rattle.reading.specs.Modes.{disjointMode, coverMode, sameMode}
 use Rattle.meaning.specs.Sons.{only}
 use Rattle.meaning.specs.Shown.{above}
@@ -34,7 +35,7 @@ use Rattle.reading.specs.SheetIn.{Tabled}
 use Rattle.reading.specs.SheetIn.{sheetIn, size-in, group-in, parent-in, lo-in, hi-in, disjoint-in, cover-in, same-in}
 use Rattle.choosing.specs.Divided.{markedIn}
 use Rattle.claims.specs.Witnessed.{Witnessed, witnessed-yes, witnessed-no, witnessed-as}
-use Rattle.claims.specs.Judged.{Fitting, Denial, Judged}
+use Rattle.claims.specs.Judged.{Fitting, Showing, Judged}
 use Rattle.claims.specs.Places.{PlaceJudged}
 
 -- sizes without a condition, with from lo to hi members in group g
@@ -331,33 +332,33 @@ unfolding endOf
 over-never g h e = sized-never (λ f p. rw e at p)
 
 -- a count claim on the empty set
-pub empty-judged : {s : Sheet} {sizes marks : List ℕ} {x : Bool} (lo : ℕ) (hi : Top) → Tree s → 1 ≤ lo → Sized s Any sizes marks x
-    → Judged s (counted 0 lo hi) sizes marks x
-empty-judged lo hi t l z =
+pub empty-count : {s : Sheet} {sizes marks : List ℕ} {x : Bool} (lo : ℕ) (hi : Top) → Tree s → 1 ≤ lo → Sized s Any sizes marks x
+    → Judged s (allSay (counted 0 lo hi)) sizes marks x
+empty-count lo hi t l z =
     witnessed-as
-    (λ y. record { fitting = y .0; breaks = λ st h. empty-breaks _ lo hi l })
+    (λ y. record { fitting = y .0; shows = λ st h. empty-breaks _ lo hi l })
     (λ y. let v = possible t .0 (breakable-empty lo hi .0 y .0) in (v .0, v .1, tt))
     z
 
-pub empty-kept : {s : Sheet} {sizes marks : List ℕ} (lo : ℕ) (hi : Top) → lo ≡ 0 → Judged s (counted 0 lo hi) sizes marks false
+pub empty-kept : {s : Sheet} {sizes marks : List ℕ} (lo : ℕ) (hi : Top) → lo ≡ 0 → Judged s (allSay (counted 0 lo hi)) sizes marks false
 empty-kept lo hi e = witnessed-no (λ w. let l = breakable-empty lo hi .0 w .1 in omega arith)
 
 -- a count claim on a group: too few, then too many
-count-denied : {s : Sheet} {sizes marks : List ℕ} (g lo : ℕ) (hi : Top) → Tree s → Group s g → Fitting s sizes marks
-    → CountUnder g lo (counts sizes marks) ⊎ CountOver g hi (counts sizes marks) → Denial s (counted g lo hi) sizes marks
-count-denied {s} {sizes} g lo hi t q f w = record {
+count-shows : {s : Sheet} {sizes marks : List ℕ} (g lo : ℕ) (hi : Top) → Tree s → Group s g → Fitting s sizes marks
+    → CountUnder g lo (counts sizes marks) ⊎ CountOver g hi (counts sizes marks) → Showing s (allSay (counted g lo hi)) sizes marks
+count-shows {s} {sizes} g lo hi t q f w = record {
   fitting = f;
-  breaks = λ st h. shown-breaks-count t (f .found .choice) h _ g lo hi q (above-runs (s .size) st (numberIn sizes) g (q .last)) w;
+  shows = λ st h. shown-breaks-count t (f .found .choice) h _ g lo hi q (above-runs (s .size) st (numberIn sizes) g (q .last)) w;
 }
 
 pub under-judged : {s : Sheet} {sizes marks : List ℕ} (g lo : ℕ) (hi : Top) → Tree s → Group s g
-    → Sized s (CountUnder g lo) sizes marks true → Judged s (counted g lo hi) sizes marks true
-under-judged g lo hi t q z = let f = z .found refl in witnessed-yes (count-denied g lo hi t q (f .0) (inl (f .1)))
+    → Sized s (CountUnder g lo) sizes marks true → Judged s (allSay (counted g lo hi)) sizes marks true
+under-judged g lo hi t q z = let f = z .found refl in witnessed-yes (count-shows g lo hi t q (f .0) (inl (f .1)))
 
 pub over-judged : {s : Sheet} {sizes marks sizes' marks' : List ℕ} {x : Bool} (g lo : ℕ) (hi : Top) → Tree s → Group s g
-    → Sized s (CountUnder g lo) sizes' marks' false → Sized s (CountOver g hi) sizes marks x → Judged s (counted g lo hi) sizes marks x
+    → Sized s (CountUnder g lo) sizes' marks' false → Sized s (CountOver g hi) sizes marks x → Judged s (allSay (counted g lo hi)) sizes marks x
 over-judged {s} g lo hi t q y z = record {
-  found = λ e. let f = z .found e in count-denied g lo hi t q (f .0) (inr (f .1));
+  found = λ e. let f = z .found e in count-shows g lo hi t q (f .0) (inr (f .1));
   lacking = λ e w.
       let v = breakable-size t g lo hi q .0 w in
       ⊎-elim (λ u. y .lacking refl (v .0, v .1, u)) (λ u. z .lacking e (v .0, v .1, u)) (v .2);

@@ -1,58 +1,99 @@
--- The verdict on a claim: document 01, "Replies" (kinds 18 and 19). Which sets a denial shows is open but for this: they fit,
--- and they break the claim.
+-- The verdict on a claim: document 01, "Replies" (kinds 18 and 19); document 02, card 1. Which sets are shown is open but for
+-- this: they fit, and they answer what the claim asks.
 use Prim.Native.Nat.{ℕ, _≤_}
-use mathlib.Core.Path.{_≡_}
+use mathlib.Core.Path.{_≡_, refl}
+use mathlib.Core.Bool.{Bool, true, false, cond, true≢false, false≢true}
 use mathlib.Core.List.{List}
-use native.Mathlib.Omega.{arith}
 use Rattle.meaning.specs.Sheet.{Sheet, Group}
-use Rattle.meaning.specs.Tree.{Tree}
+use Rattle.meaning.specs.Tree.{Tree, Rooted}
 use Rattle.meaning.specs.Sets.{Sets}
 use Rattle.meaning.specs.Fits.{Fits}
-use Rattle.meaning.specs.Claim.{Claim, Breaks, Breakable}
+use Rattle.wire.specs.SheetFormat.{ListKind, inside, apart, place}
+use Rattle.meaning.specs.Place.{Question, allSay, somePlace, listsAsk}
 use Rattle.meaning.specs.Shown.{shown, above}
-use Rattle.meaning.specs.Tree.{Rooted}
 use Rattle.sizes.specs.Runs.{runs-first, shown-fits-above}
+use Rattle.sizes.specs.Witness.{HasWitness, ShownWitness}
+use Rattle.reading.specs.ClaimHeld.{listAs, claimRecord}
+use Rattle.reading.specs.declared.claim.Claim.{Claim as ClaimRead}
+use Rattle.reading.specs.declared.claim.Claim.the-variants as claim
 use Rattle.runs.specs.Told.{numberIn, Told, told-runs}
 use Rattle.choosing.specs.Divided.{markedIn}
 use Rattle.claims.specs.Verdict.{verdictNumber}
-use Rattle.claims.specs.Judged.{Denial}
+use Rattle.claims.specs.Judged.{Showing}
+use Rattle.claims.specs.Named.{claimMeant}
+use Rattle.claims.specs.Ways.{isPlace}
 use Rattle.claims.specs.declared.verdict.Verdict.{Verdict}
 use Rattle.claims.specs.declared.verdict.Verdict.the-variants.{Holds, Denied}
+use Rattle.claims.specs.declared.verdict.Decision.{Decision}
+use Rattle.claims.specs.declared.verdict.Decision.the-variants.{Shown, Alone}
+
+-- Sets that answer a claim deny one of kinds 4 to 6 and grant one of kind 7; where there are none, it is the other way round.
+abbrev pub verdictOn : Question → Bool → Verdict
+verdictOn (allSay k) answered = cond answered Denied Holds
+verdictOn (somePlace l r) answered = cond answered Holds Denied
+
+-- whether a claim is of kind 7
+abbrev pub asksPlace : ClaimRead → Bool
+asksPlace (claim.Count k) = false
+asksPlace (claim.Lists l) = isPlace (listAs (l .kind))
+
+-- the verdict on a claim that is read, by that
+pub verdict-read : (c : ClaimRead) (sheet names : List ℕ) (answered : Bool)
+    → verdictOn (claimMeant names (claimRecord sheet c)) answered ≡ cond (asksPlace c) (cond answered Holds Denied) (cond answered Denied Holds)
+unfolding claimMeant
+verdict-read (claim.Count k) sheet names answered = refl
+verdict-read (claim.Lists l) sheet names answered = by-kind _ _ (listAs (l .kind))
+  where
+    by-kind : (l r : List ℕ) (k : ListKind)
+        → verdictOn (listsAsk k l r) answered ≡ cond (isPlace k) (cond answered Holds Denied) (cond answered Denied Holds)
+    by-kind l r inside = refl
+    by-kind l r apart = refl
+    by-kind l r place = refl
+
+-- the verdict's number, and whether sets are shown
+abbrev pub decisionNumber : Decision → ℕ
+decisionNumber (Shown v) = verdictNumber v
+decisionNumber (Alone v) = verdictNumber v
+
+abbrev pub decisionShows : Decision → Bool
+decisionShows (Shown v) = true
+decisionShows (Alone v) = false
 
 -- the sets that the tables show: for each group a run (first, count), and member 0 where the mark is 1
 abbrev pub setsIn : Sheet → List ℕ → List ℕ → List ℕ → Sets ℕ
 setsIn s firsts sizes marks =
     shown (numberIn firsts) (numberIn sizes) (markedIn marks) (above (s .size) (numberIn firsts) (numberIn sizes))
 
--- the tables show sets that fit and break the claim
-pub record Shows (s : Sheet) (k : Claim) (firsts sizes marks : List ℕ) : Type 0 where
+-- the tables show sets that fit and answer the question
+pub record Shows (s : Sheet) (q : Question) (firsts sizes marks : List ℕ) : Type 0 where
   pub fits : Fits s (setsIn s firsts sizes marks)
-  pub breaks : Breaks k (setsIn s firsts sizes marks)
+  pub shows : ShownWitness q (setsIn s firsts sizes marks)
   pub first : (g : ℕ) → Group s g → 1 ≤ numberIn firsts g
   pub mark : (g : ℕ) → Group s g → numberIn marks g ≤ 1
 
-pub record Decided (s : Sheet) (k : Claim) (firsts sizes marks : List ℕ) (r : Verdict) : Type 0 where
-  -- no sets that fit break the claim
-  pub holds : verdictNumber r ≡ 1 → Breakable s k → ⊥
-  pub denied : verdictNumber r ≡ 0 → Shows s k firsts sizes marks
+pub record Decided (s : Sheet) (q : Question) (firsts sizes marks : List ℕ) (r : Decision) : Type 0 where
+  pub number : decisionNumber r ≡ verdictNumber (verdictOn q (decisionShows r))
+  pub shown : decisionShows r ≡ true → Shows s q firsts sizes marks
+  -- no sets that fit answer it
+  pub alone : decisionShows r ≡ false → HasWitness s q → ⊥
 
--- a denial with starts for its numbers
-pub denial-shows : {s : Sheet} {k : Claim} {firsts sizes marks : List ℕ} → Tree s → Rooted s → Denial s k sizes marks
-    → Told s (numberIn sizes) (numberIn firsts) → Shows s k firsts sizes marks
-denial-shows {firsts = firsts} t r d w =
+-- numbers that show an answer, with starts
+pub showing-shows : {s : Sheet} {q : Question} {firsts sizes marks : List ℕ} → Tree s → Rooted s → Showing s q sizes marks
+    → Told s (numberIn sizes) (numberIn firsts) → Shows s q firsts sizes marks
+showing-shows {firsts = firsts} t r d w =
     let f = d .fitting .found in
     let h = told-runs t r (f .choice .others) w in
     record {
       fits = shown-fits-above t (f .choice) h;
-      breaks = d .breaks (numberIn firsts) h;
+      shows = d .shows (numberIn firsts) h;
       first = runs-first t (f .choice .others) h;
       mark = f .bits;
     }
 
-pub decided-denied : {s : Sheet} {k : Claim} {firsts sizes marks : List ℕ} → Shows s k firsts sizes marks
-    → Decided s k firsts sizes marks Denied
-decided-denied w = record { holds = λ e. absurd (omega arith); denied = λ e. w }
+pub decided-shown : {s : Sheet} {q : Question} {firsts sizes marks : List ℕ} {v : Verdict} → v ≡ verdictOn q true
+    → Shows s q firsts sizes marks → Decided s q firsts sizes marks (Shown v)
+decided-shown e w = record { number = rw e; shown = λ o. w; alone = λ o. absurd (true≢false o) }
 
-pub decided-holds : {s : Sheet} {k : Claim} {firsts sizes marks : List ℕ} → (Breakable s k → ⊥)
-    → Decided s k firsts sizes marks Holds
-decided-holds h = record { holds = λ e. h; denied = λ e. absurd (omega arith) }
+pub decided-alone : {s : Sheet} {q : Question} {firsts sizes marks : List ℕ} {v : Verdict} → v ≡ verdictOn q false
+    → (HasWitness s q → ⊥) → Decided s q firsts sizes marks (Alone v)
+decided-alone e h = record { number = rw e; shown = λ o. absurd (false≢true o); alone = λ o. h }

@@ -18,7 +18,7 @@ use mathlib.Core.List.{
 use mathlib.Core.Logic.{_⊎_, inl, inr, ⊎-elim}
 use native.Mathlib.Omega.{arith}
 use native.Mathlib.Numerals.{add-one}
-use lib.ListN.{length, getD, take}
+use lib.ListN.{length, getD, take, length-take}
 use lib.Seq.{take-suc}
 use Rattle.meaning.specs.Sets.{Sets}
 use Rattle.meaning.specs.Claim.{union}
@@ -75,6 +75,25 @@ among-all size (zero ∷ l) h = among-all size l (λ g m. h g (List·Memᴰ·tai
 among-all size (suc g ∷ l) h =
     (omega arith, h (suc g) (List·Memᴰ·head refl), among-all size l (λ i m. h i (List·Memᴰ·tail m)))
 
+-- groups are left out exactly where the empty set is among the names
+pub among-length : (l : List ℕ) → length (groupsAmong l) ≤ length l
+unfolding groupsAmong
+among-length [] = omega arith
+among-length (zero ∷ l) = omega (arith, among-length l)
+among-length (suc g ∷ l) = omega (arith, among-length l)
+
+pub among-short : (l : List ℕ) → length (groupsAmong l) < length l → List·Memᴰ 0 l
+unfolding groupsAmong
+among-short [] h = absurd (omega arith)
+among-short (zero ∷ l) h = List·Memᴰ·head refl
+among-short (suc g ∷ l) h = List·Memᴰ·tail (among-short l (omega arith))
+
+pub among-whole : (l : List ℕ) → length l ≤ length (groupsAmong l) → groupsAmong l ≡ l
+unfolding groupsAmong
+among-whole [] h = refl
+among-whole (zero ∷ l) h = absurd (omega (arith, among-length l))
+among-whole (suc g ∷ l) h = ap (λ k. suc g ∷ k) (among-whole l (omega arith))
+
 -- the numbers on a list in a table
 pub getD-in-take : (t : List ℕ) (n i : ℕ) → i < n → n ≤ length t → List·Memᴰ (getD t i 0) (take n t)
 getD-in-take [] n i a b = absurd (omega arith)
@@ -99,6 +118,14 @@ listed-group {t} {n} {size} w i l = all-groups size (take n t) (w .groups) (getD
 
 pub listed-known : {t : List ℕ} {n size : ℕ} → Listed t n size → AllUpTo size (take n t)
 listed-known {t} {n} {size} w g m = all-groups size (take n t) (w .groups) g m .1
+
+-- the groups among numbers of a sheet, or 0
+pub among-known : (size : ℕ) (l : List ℕ) → AllUpTo size l → AllUpTo size (groupsAmong l)
+among-known size l h g m = all-groups size (groupsAmong l) (among-all size l h) g m .1
+
+-- as many groups as a table lists
+pub listed-length : (t l : List ℕ) (k : ℕ) → k ≤ length t → take k t ≡ l → k ≡ length l
+listed-length t l k h e = let n : length (take k t) ≡ length l = ap length e in omega (arith, length-take k t)
 
 -- the list of a larger sheet
 pub listed-in : {t : List ℕ} {n size more : ℕ} → size ≤ more → Listed t n size → Listed t n more

@@ -18,14 +18,16 @@ use mathlib.Core.List.{
 }
 use mathlib.Core.Logic.{⊎-elim}
 use native.Mathlib.Omega.{arith}
-use lib.ListN.{length, take}
+use lib.ListN.{length, take, length-map}
 use Rattle.wire.specs.Bytes.{u16At}
-use Rattle.wire.specs.SheetFormat.{NameRecord, ClaimRecord, count, inside, apart, u16s}
+use Rattle.wire.specs.SheetFormat.{NameRecord, ClaimRecord, count, lists, u16s, ListKind, inside, apart, place}
+use Rattle.wire.specs.Sorts.{length-u16s}
 use Rattle.wire.specs.Limits.{noEnd}
-use Rattle.meaning.specs.Claim.{Claim, counted, within, separate}
+use Rattle.meaning.specs.Claim.{counted, within, separate}
+use Rattle.meaning.specs.Place.{Question, allSay, somePlace, listsAsk}
 use Rattle.meaning.specs.OfRecords.{nameGroup, claimed}
 use Rattle.meaning.specs.Sheet.{endOf}
-use Rattle.reading.specs.ClaimHeld.{leftNames, rightNames, claimRecord, ListsHeld, ClaimHeld}
+use Rattle.reading.specs.ClaimHeld.{listAs, leftNames, rightNames, claimRecord, ListsHeld, ClaimHeld}
 use Rattle.reading.specs.declared.claim.Lists.{Lists}
 use Rattle.reading.specs.declared.claim.Claim.{Claim as ClaimRead}
 use Rattle.reading.specs.declared.claim.Claim.the-variants as claim
@@ -36,11 +38,10 @@ use Rattle.claims.specs.Groups.{groupsAmong, AllUpTo, Listed, among-none
 abbrev pub meanings : List ℕ → List ℕ → List ℕ
 meanings names l = map (numberIn names) l
 
--- what a claim record claims
-unfoldable pub claimMeant : List ℕ → ClaimRecord → Claim
-claimMeant names (count n lo hi) = counted (numberIn names n) lo (endOf noEnd hi)
-claimMeant names (inside l r) = within (meanings names l) (meanings names r)
-claimMeant names (apart l r) = separate (meanings names l) (meanings names r)
+-- what a claim record asks
+unfoldable pub claimMeant : List ℕ → ClaimRecord → Question
+claimMeant names (count n lo hi) = allSay (counted (numberIn names n) lo (endOf noEnd hi))
+claimMeant names (lists k l r) = listsAsk k (meanings names l) (meanings names r)
 
 -- held of a sheet with `count` names, for which the table of names has groups of the sheet, or 0
 pub record AskableBy (Held : ℕ → Type 0) (names : List ℕ) (size : ℕ) : Type 0 where
@@ -61,11 +62,17 @@ pub record Side (sheet : List ℕ) (from n : ℕ) (names : List ℕ) : Type 0 wh
   pub long : from + 2 * n ≤ length sheet
   pub name : (j : ℕ) → j < n → (1 ≤ u16At sheet (from + 2 * j)) × (u16At sheet (from + 2 * j) ≤ length names)
 
--- the claim speaks of groups of a sheet of n groups, or of none
-abbrev pub SpeaksUpTo : ℕ → Claim → Type 0
-SpeaksUpTo n (counted g lo hi) = g ≤ n
-SpeaksUpTo n (within l r) = AllUpTo n l × AllUpTo n r
-SpeaksUpTo n (separate l r) = AllUpTo n l × AllUpTo n r
+-- the question speaks of groups of a sheet of n groups, or of none
+abbrev pub SpeaksUpTo : ℕ → Question → Type 0
+SpeaksUpTo n (allSay (counted g lo hi)) = g ≤ n
+SpeaksUpTo n (allSay (within l r)) = AllUpTo n l × AllUpTo n r
+SpeaksUpTo n (allSay (separate l r)) = AllUpTo n l × AllUpTo n r
+SpeaksUpTo n (somePlace l r) = AllUpTo n l × AllUpTo n r
+
+lists-up-to : {n : ℕ} {l r : List ℕ} (k : ListKind) → AllUpTo n l × AllUpTo n r → SpeaksUpTo n (listsAsk k l r)
+lists-up-to inside w = w
+lists-up-to apart w = w
+lists-up-to place w = w
 
 -- what is so of the fields at their places is so of each on the list
 fields-all : (P : ℕ → Type 0) (s : List ℕ) (i n : ℕ) → ((j : ℕ) → j < n → P (u16At s (i + 2 * j)))
@@ -96,6 +103,10 @@ map-same : (f h : ℕ → ℕ) (l : List ℕ) → ((x : ℕ) → List·Memᴰ x 
 map-same f h [] e = refl
 map-same f h (x ∷ l) e = rw (e x (List·Memᴰ·head refl), map-same f h l (λ y m. e y (List·Memᴰ·tail m)))
 
+-- as many meanings as names
+pub meant-length : (sheet : List ℕ) (from n : ℕ) (names : List ℕ) → length (meanings names (u16s sheet from n)) ≡ n
+meant-length sheet from n names = length-map (u16s sheet from n) (numberIn names) ∙ length-u16s sheet from n
+
 -- the two lists of a claim
 module _ {sheet : List ℕ} {l : Lists} {names : List ℕ} {size : ℕ} (w : AskableLists sheet l names size) where
   pub left-named : (x : ℕ) → List·Memᴰ x (leftNames sheet l) → (1 ≤ x) × (x ≤ w .count)
@@ -115,7 +126,7 @@ module _ {sheet : List ℕ} {l : Lists} {names : List ℕ} {size : ℕ} (w : Ask
   right-side = side (l .at + 2 * l .m) (l .n) (omega (arith, w .held .long)) (w .held .right)
 
   -- what they speak of, and that name records which agree with the table mean the same
-  lists-speak : AllUpTo size (meanings names (leftNames sheet l)) × AllUpTo size (meanings names (rightNames sheet l))
+  pub lists-speak : AllUpTo size (meanings names (leftNames sheet l)) × AllUpTo size (meanings names (rightNames sheet l))
   lists-speak = (meanings-known w _ left-named, meanings-known w _ right-named)
 
   lists-named : (ns : List NameRecord) → ((n : ℕ) → 1 ≤ n → n ≤ w .count → numberIn names n ≡ nameGroup ns n)
@@ -126,22 +137,20 @@ module _ {sheet : List ℕ} {l : Lists} {names : List ℕ} {size : ℕ} (w : Ask
     map-same _ _ _ (λ x m. let n = right-named x m in h x (n .0) (n .1)),
   )
 
--- The claim that is asked about speaks of groups of the sheet, or of none.
+-- What is asked speaks of groups of the sheet, or of none.
 pub asked-speaks : (sheet : List ℕ) (c : ClaimRead) {names : List ℕ} {size : ℕ} → Askable sheet c names size
     → SpeaksUpTo size (claimMeant names (claimRecord sheet c))
 unfolding claimMeant
 asked-speaks sheet (claim.Count k) w = w .known (k .name .0) (w .held .0) (w .held .1)
-asked-speaks sheet (claim.Inside l) w = lists-speak w
-asked-speaks sheet (claim.Apart l) w = lists-speak w
+asked-speaks sheet (claim.Lists l) w = lists-up-to (listAs (l .kind)) (lists-speak w)
 
--- Where the table of names agrees with the name records, it is the claim that is written down.
+-- Where the table of names agrees with the name records, it is what the claim that is written down asks.
 pub claim-named : (sheet : List ℕ) (c : ClaimRead) {names : List ℕ} {size : ℕ} (w : Askable sheet c names size)
     (ns : List NameRecord) → ((n : ℕ) → 1 ≤ n → n ≤ w .count → numberIn names n ≡ nameGroup ns n)
     → claimMeant names (claimRecord sheet c) ≡ claimed ns (claimRecord sheet c)
 unfolding claimMeant claimed
 claim-named sheet (claim.Count k) w ns h = rw (h (k .name .0) (w .held .0) (w .held .1))
-claim-named sheet (claim.Inside l) w ns h = let e = lists-named w ns h in rw (e .0, e .1)
-claim-named sheet (claim.Apart l) w ns h = let e = lists-named w ns h in rw (e .0, e .1)
+claim-named sheet (claim.Lists l) w ns h = let e = lists-named w ns h in rw (e .0, e .1)
 
 -- The groups of the names one after another: of all of them, of one more, of no more.
 pub meant-first : (sheet : List ℕ) (from n : ℕ) (names : List ℕ)

@@ -1,59 +1,116 @@
--- A claim of kind 5 or 6 on two lists of groups, judged by the places of a member that breaks it.
+-- A claim on two lists of groups, judged by the places of a member that answers it.
 use Prim.Native.Nat.{ℕ, _+_, _≤_, _<_}
-use mathlib.Core.Path.{_≡_, refl, subst}
+use mathlib.Core.Path.{_≡_, refl, sym, _∙_, subst}
 use mathlib.Core.Bool.{Bool, true, false, true≢false, false≢true}
 use mathlib.Core.List.{List, [], _∷_, List·Memᴰ, List·Memᴰ·head, List·Memᴰ·not-nil, List·Memᴰ·eq-of-singleton, Memᴰ·cast}
 use mathlib.Core.Logic.{⊎-elim}
 use native.Mathlib.Omega.{arith}
 use lib.ListN.{length, getD, take}
+use Rattle.wire.specs.SheetFormat.{ListKind, inside, apart, place}
 use Rattle.meaning.specs.Sheet.{Sheet}
-use Rattle.meaning.specs.Tree.{Tree}
-use Rattle.meaning.specs.Shown.{above}
-use Rattle.sizes.specs.ClaimsPlace.{placed-flags, place}
-use Rattle.sizes.specs.ClaimsMath.{Known, lists, Way, away, along, breakable-lists, shown-breaks}
-use Rattle.claims.specs.Witnessed.{Witnessed, witnessed-yes, witnessed-as}
-use Rattle.claims.specs.Groups.{getD-in-take, in-take-next}
-use Rattle.claims.specs.Judged.{Judged, choice-allowed}
+use Rattle.meaning.specs.Sets.{Sets}
+use Rattle.meaning.specs.Place.{listsAsk}
+use Rattle.meaning.specs.Shown.{shown, above}
+use Rattle.sizes.specs.ClaimsMath.{leftIn, Meeting, every-has, Known, Way, away, along, within-all, way-meeting, meeting-way}
+use Rattle.sizes.specs.ClaimsMath.{meeting-shown, witness-meeting}
+use Rattle.runs.specs.Told.{numberIn}
+use Rattle.choosing.specs.Divided.{markedIn}
+use Rattle.claims.specs.Witnessed.{Witnessed, witnessed-yes, witnessed-no, witnessed-as}
+use Rattle.claims.specs.Groups.{groupsAmong, union-groups, among-known, getD-in-take, in-take-next}
+use Rattle.claims.specs.Judged.{Judged}
 use Rattle.claims.specs.Places.{PlaceHad, PlaceShown, PlaceJudged}
 
--- some sets that fit have a member at a place that breaks the claim
-abbrev pub WayHad : Sheet → Bool → List ℕ → List ℕ → Type 0
+-- some sets that fit have a member at a place that answers the claim
+abbrev pub WayHad : Sheet → ListKind → List ℕ → List ℕ → Type 0
 WayHad s b l r = (ins outs : List ℕ) × Way l r b ins outs × PlaceHad s ins outs
 
-abbrev pub WayShown : Sheet → Bool → List ℕ → List ℕ → List ℕ → List ℕ → Type 0
+abbrev pub WayShown : Sheet → ListKind → List ℕ → List ℕ → List ℕ → List ℕ → Type 0
 WayShown s b l r sizes marks = (ins outs : List ℕ) × Way l r b ins outs × PlaceShown s ins outs sizes marks
 
-abbrev pub Tried : Sheet → Bool → List ℕ → List ℕ → List ℕ → List ℕ → Bool → Type 0
+abbrev pub Tried : Sheet → ListKind → List ℕ → List ℕ → List ℕ → List ℕ → Bool → Type 0
 Tried s b l r sizes marks x = Witnessed (WayShown s b l r sizes marks) (WayHad s b l r) x
 
 above-one : (s : Sheet) (st f : ℕ → ℕ) → 1 ≤ above (s .size) st f
 unfolding above
 above-one s st f = omega arith
 
+-- kind 7 asks for a member of every left set, the other kinds for one of some left set
+abbrev pub isPlace : ListKind → Bool
+isPlace inside = false
+isPlace apart = false
+isPlace place = true
+
+-- The empty set has no members: a member answers the claim on what names mean as it answers the one on the groups among it, if
+-- kind 7 has no empty set on the left.
+left-among : {X : Type 0} (b : ListKind) (A : Sets X) (l : List ℕ) (x : X) → (isPlace b ≡ true → groupsAmong l ≡ l)
+    → leftIn b A (groupsAmong l) x ≡ leftIn b A l x
+left-among inside A l x h = union-groups A l x
+left-among apart A l x h = union-groups A l x
+left-among place A l x h = rw (h refl)
+
+module _ {X : Type 0} (b : ListKind) (A : Sets X) (l r : List ℕ) (i : ℕ) (h : isPlace b ≡ true → groupsAmong l ≡ l) where
+  meeting-names : Meeting A b (groupsAmong l) (groupsAmong r) i → Meeting A b l r i
+  meeting-names w = record {
+    listed = w .listed;
+    left = sym (left-among b A l (A .who i) h) ∙ w .left;
+    right = sym (union-groups A r (A .who i)) ∙ w .right;
+  }
+
+  meeting-groups : Meeting A b l r i → Meeting A b (groupsAmong l) (groupsAmong r) i
+  meeting-groups w = record {
+    listed = w .listed;
+    left = left-among b A l (A .who i) h ∙ w .left;
+    right = union-groups A r (A .who i) ∙ w .right;
+  }
+
 -- The places decide the claim.
-pub tried-judged : {s : Sheet} {l r sizes marks : List ℕ} {x : Bool} (b : Bool) → Tree s → Known s l → Known s r
-    → Tried s b l r sizes marks x → Judged s (lists b l r) sizes marks x
-tried-judged {s} {l} {r} b t k n w =
+pub tried-judged : {s : Sheet} {sizes marks : List ℕ} {x : Bool} (b : ListKind) (l r : List ℕ) → (isPlace b ≡ true → groupsAmong l ≡ l)
+    → Known s l → Known s r → Tried s b (groupsAmong l) (groupsAmong r) sizes marks x
+    → Judged s (listsAsk b l r) sizes marks x
+tried-judged {s} {sizes} {marks} b l r h k n w =
     witnessed-as
     (λ v. record {
       fitting = v .3 .fitting;
-      breaks = λ st h. shown-breaks k n (v .2) (choice-allowed (placed-flags (v .3 .placed)) (v .3 .fitting .found .choice)) st _
-          (above-one s st _);
+      shows = λ st o.
+          let A = shown st (numberIn sizes) (markedIn marks) (above (s .size) st (numberIn sizes)) in
+          meeting-shown b l r A
+          (meeting-names b A l r 0 h
+          (way-meeting A (among-known (s .size) l k) (among-known (s .size) r n) (v .2) 0 (above-one s st (numberIn sizes)) (v .3 .placed)));
     })
-    (λ v. let u = breakable-lists t b l r k n .0 v in (u .0, u .1, u .2, place (u .0) (u .1) t .1 (u .3, u .4, u .5)))
+    (λ v.
+    let m = witness-meeting b l r (v .0) (v .2) in
+    let u = meeting-way s (v .0) (groupsAmong l) (groupsAmong r) b (m .0) (meeting-groups b (v .0) l r (m .0) h (m .1)) in
+    (u .0, u .1, u .2, (v .0, v .1, m .0, m .1 .listed, u .3)))
     w
 
--- a way takes one group of its left list, and is a way for any list with that group
-left-one : {l r ins outs : List ℕ} {b : Bool} → Way l r b ins outs
+-- Where kind 7 has the empty set on the left, nobody is in every left set.
+pub empty-judged : {s : Sheet} {sizes marks : List ℕ} (b : ListKind) (l r : List ℕ) → isPlace b ≡ true → List·Memᴰ 0 l
+    → Judged s (listsAsk b l r) sizes marks false
+empty-judged inside l r e m = absurd (false≢true e)
+empty-judged apart l r e m = absurd (false≢true e)
+empty-judged place l r e m =
+    witnessed-no (λ v. let w = every-has (v .0) l _ (v .2 .1 .left) 0 m in omega (arith, w .0))
+
+-- kind 6 (true) or 5 (false): claims that one left set breaks
+abbrev pub brokenKind : Bool → ListKind
+brokenKind false = inside
+brokenKind true = apart
+
+-- a way of these kinds takes one group of its left list, and is a way for any list with that group
+left-one : {l r ins outs : List ℕ} {b : ListKind} → isPlace b ≡ false → Way l r b ins outs
     → (g : ℕ) × List·Memᴰ g l × ((k : List ℕ) → List·Memᴰ g k → Way k r b ins outs)
-left-one (away {g = g} m p) = (g, m, λ k i. away i p)
-left-one (along {g = g} m p o q) = (g, m, λ k i. along i p o q)
+left-one e (away {g = g} m p) = (g, m, λ k i. away i p)
+left-one e (along {g = g} m p o q) = (g, m, λ k i. along i p o q)
+left-one e (within-all p) = absurd (true≢false e)
+
+broken-one : (b : Bool) → isPlace (brokenKind b) ≡ false
+broken-one false = refl
+broken-one true = refl
 
 -- for kind 6 the same is so of the right list
-right-one : {l r ins outs : List ℕ} {b : Bool} → b ≡ true → Way l r b ins outs
-    → (h : ℕ) × List·Memᴰ h r × ((k : List ℕ) → List·Memᴰ h k → Way l k b ins outs)
-right-one e (away m p) = absurd (false≢true e)
-right-one e (along {h = h} m p o q) = (h, o, λ k i. along m p i q)
+right-one : {l r ins outs : List ℕ} → Way l r apart ins outs
+    → (h : ℕ) × List·Memᴰ h r × ((k : List ℕ) → List·Memᴰ h k → Way l k apart ins outs)
+right-one (along {h = h} m p o q) = (h, o, λ k i. along m p i q)
 
 -- Such a list group by group: no way through the first i groups, then through one more; one through a group is one through the
 -- list.
@@ -82,61 +139,62 @@ module _ (W : List ℕ → List ℕ → List ℕ → Type 0)
 
 -- the left list
 module _ {s : Sheet} (b : Bool) (t r : List ℕ) where
-  pub left-way-none : WayHad s b (take 0 t) r → ⊥
-  left-way-none = through-none (λ l. Way l r b) (λ l i o w. left-one w) (PlaceHad s)
+  pub left-way-none : WayHad s (brokenKind b) (take 0 t) r → ⊥
+  left-way-none = through-none (λ l. Way l r (brokenKind b)) (λ l i o w. left-one (broken-one b) w) (PlaceHad s)
 
-  pub left-way-more : {sizes marks : List ℕ} {x : Bool} (i : ℕ) → i < length t → (WayHad s b (take i t) r → ⊥)
-      → Tried s b (getD t i 0 ∷ []) r sizes marks x → x ≡ false → WayHad s b (take (i + 1) t) r → ⊥
-  left-way-more i l h w e = through-more (λ l. Way l r b) (λ l i o w. left-one w) (PlaceHad s) t i l h (w .lacking e)
+  pub left-way-more : {sizes marks : List ℕ} {x : Bool} (i : ℕ) → i < length t → (WayHad s (brokenKind b) (take i t) r → ⊥)
+      → Tried s (brokenKind b) (getD t i 0 ∷ []) r sizes marks x → x ≡ false → WayHad s (brokenKind b) (take (i + 1) t) r → ⊥
+  left-way-more i l h w e = through-more (λ l. Way l r (brokenKind b)) (λ l i o w. left-one (broken-one b) w) (PlaceHad s) t i l h (w .lacking e)
 
   pub left-way-found : {sizes marks : List ℕ} {x : Bool} (n i : ℕ) → i < n → n ≤ length t
-      → Tried s b (getD t i 0 ∷ []) r sizes marks x → x ≡ true → Tried s b (take n t) r sizes marks true
+      → Tried s (brokenKind b) (getD t i 0 ∷ []) r sizes marks x → x ≡ true → Tried s (brokenKind b) (take n t) r sizes marks true
   left-way-found {sizes} {marks} n i l k w e =
-      witnessed-yes (through-one (λ l. Way l r b) (λ l i o w. left-one w) (λ i o. PlaceShown s i o sizes marks) t n i l k (w .found e))
+      witnessed-yes (through-one (λ l. Way l r (brokenKind b)) (λ l i o w. left-one (broken-one b) w) (λ i o. PlaceShown s i o sizes marks) t n i l k (w .found e))
 
 -- the right list of kind 6
 module _ {s : Sheet} (l t : List ℕ) where
-  pub right-way-none : WayHad s true l (take 0 t) → ⊥
-  right-way-none = through-none (λ r. Way l r true) (λ r i o w. right-one refl w) (PlaceHad s)
+  pub right-way-none : WayHad s apart l (take 0 t) → ⊥
+  right-way-none = through-none (λ r. Way l r apart) (λ r i o w. right-one w) (PlaceHad s)
 
-  pub right-way-more : {sizes marks : List ℕ} {x : Bool} (i : ℕ) → i < length t → (WayHad s true l (take i t) → ⊥)
-      → Tried s true l (getD t i 0 ∷ []) sizes marks x → x ≡ false → WayHad s true l (take (i + 1) t) → ⊥
-  right-way-more i k h w e = through-more (λ r. Way l r true) (λ r i o w. right-one refl w) (PlaceHad s) t i k h (w .lacking e)
+  pub right-way-more : {sizes marks : List ℕ} {x : Bool} (i : ℕ) → i < length t → (WayHad s apart l (take i t) → ⊥)
+      → Tried s apart l (getD t i 0 ∷ []) sizes marks x → x ≡ false → WayHad s apart l (take (i + 1) t) → ⊥
+  right-way-more i k h w e = through-more (λ r. Way l r apart) (λ r i o w. right-one w) (PlaceHad s) t i k h (w .lacking e)
 
   pub right-way-found : {sizes marks : List ℕ} {x : Bool} (n i : ℕ) → i < n → n ≤ length t
-      → Tried s true l (getD t i 0 ∷ []) sizes marks x → x ≡ true → Tried s true l (take n t) sizes marks true
+      → Tried s apart l (getD t i 0 ∷ []) sizes marks x → x ≡ true → Tried s apart l (take n t) sizes marks true
   right-way-found {sizes} {marks} n i j k w e =
       witnessed-yes
-      (through-one (λ r. Way l r true) (λ r i o w. right-one refl w) (λ i o. PlaceShown s i o sizes marks) t n i j k (w .found e))
+      (through-one (λ r. Way l r apart) (λ r i o w. right-one w) (λ i o. PlaceShown s i o sizes marks) t n i j k (w .found e))
 
--- one left group, and for kind 6 one right group: one place
+-- all left groups at once, one left group, one group of each list: one place
 module _ {s : Sheet} where
-  inside-only : {r ins outs : List ℕ} {g : ℕ} {b : Bool} → b ≡ false → Way (g ∷ []) r b ins outs → PlaceHad s ins outs
-      → PlaceHad s (g ∷ []) r
-  inside-only e (away m p) v = let i = List·Memᴰ·eq-of-singleton m in rw i at v
-  inside-only e (along m p o q) v = absurd (true≢false e)
+  pub place-tried : {l r sizes marks : List ℕ} {x : Bool} → ((g : ℕ) → List·Memᴰ g l → 1 ≤ g) → PlaceJudged s l r sizes marks x
+      → Tried s place l r sizes marks x
+  place-tried {l} {r} a w = witnessed-as (λ v. (l, r, within-all a, v)) (λ v. place-only (v .2) (v .3)) w
+    where
+      place-only : {ins outs : List ℕ} → Way l r place ins outs → PlaceHad s ins outs → PlaceHad s l r
+      place-only (within-all p) v = v
 
-  both-only : {ins outs : List ℕ} {g h : ℕ} {b : Bool} → b ≡ true → Way (g ∷ []) (h ∷ []) b ins outs → PlaceHad s ins outs
+  inside-only : {r ins outs : List ℕ} {g : ℕ} → Way (g ∷ []) r inside ins outs → PlaceHad s ins outs → PlaceHad s (g ∷ []) r
+  inside-only (away m p) v = let i = List·Memᴰ·eq-of-singleton m in rw i at v
+
+  both-only : {ins outs : List ℕ} {g h : ℕ} → Way (g ∷ []) (h ∷ []) apart ins outs → PlaceHad s ins outs
       → PlaceHad s (g ∷ h ∷ []) []
-  both-only e (away m p) v = absurd (false≢true e)
-  both-only {g = g} {h = h} e (along {g = i} {h = j} m p o q) v =
+  both-only {g = g} {h = h} (along {g = i} {h = j} m p o q) v =
       let a : i ≡ g = List·Memᴰ·eq-of-singleton m in
       let c : j ≡ h = List·Memᴰ·eq-of-singleton o in
       let d : i ∷ j ∷ [] ≡ g ∷ h ∷ [] = cc in
       subst (λ l. PlaceHad s l []) d v
 
   pub inside-tried : {g : ℕ} {r sizes marks : List ℕ} {b x : Bool} → b ≡ false → 1 ≤ g → PlaceJudged s (g ∷ []) r sizes marks x
-      → Tried s b (g ∷ []) r sizes marks x
+      → Tried s (brokenKind b) (g ∷ []) r sizes marks x
   inside-tried {g} {r} e a w =
-      witnessed-as
-      (λ v. (g ∷ [], r, rw e (away (List·Memᴰ·head refl) a), v))
-      (λ v. inside-only e (v .2) (v .3))
-      w
+      rw e (witnessed-as (λ v. (g ∷ [], r, away (List·Memᴰ·head refl) a, v)) (λ v. inside-only (v .2) (v .3)) w)
 
   pub both-tried : {g h : ℕ} {sizes marks : List ℕ} {x : Bool} → 1 ≤ g → 1 ≤ h → PlaceJudged s (g ∷ h ∷ []) [] sizes marks x
-      → Tried s true (g ∷ []) (h ∷ []) sizes marks x
+      → Tried s apart (g ∷ []) (h ∷ []) sizes marks x
   both-tried {g} {h} a c w =
       witnessed-as
       (λ v. (g ∷ h ∷ [], [], along (List·Memᴰ·head refl) a (List·Memᴰ·head refl) c, v))
-      (λ v. both-only refl (v .2) (v .3))
+      (λ v. both-only (v .2) (v .3))
       w

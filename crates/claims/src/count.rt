@@ -14,6 +14,7 @@ ghost use Prim.Native.Nat.{_≤_};
 ghost use Rattle.wire.specs.Limits.{noEnd};
 ghost use Rattle.meaning.specs.Sheet.{Top, endOf};
 ghost use Rattle.meaning.specs.Claim.{counted};
+ghost use Rattle.meaning.specs.Place.{allSay};
 ghost use Rattle.reading.specs.Meant.{meantNumber, Numbered};
 ghost use Rattle.reading.specs.SheetIn.{sheetIn};
 ghost use Rattle.choosing.specs.Chosen.{Asking};
@@ -104,7 +105,7 @@ fn judge_group(
     marks: &mut [u8],
 ) -> bool
     requires { ⌜ Asking (now groups) size (now sizes) (now marks) × (1 ≤ g .0) × (g .0 ≤ size) ⌝ }
-    ensures { λ r. ⌜ Judged (sheetIn (now (groups .entry)) size) (counted (g .0) lo (endOf noEnd hi)) (now (sizes .exit)) (now
+    ensures { λ r. ⌜ Judged (sheetIn (now (groups .entry)) size) (allSay (counted (g .0) lo (endOf noEnd hi))) (now (sizes .exit)) (now
         (marks .exit)) r ⌝ }
     ensures { λ _. ⌜ now (groups .exit) ≡ now (groups .entry) ⌝ }
 {
@@ -117,7 +118,7 @@ fn judge_group(
 // Whether some sets that fit break the claim that the empty set has lo members or more.
 fn judge_empty(groups: &[u16], size: u16, lo: u16, sizes: &mut [u32], marks: &mut [u8]) -> bool
     requires { ⌜ Asking (now groups) size (now sizes) (now marks) ⌝ }
-    ensures { λ r. ⌜ ((hi : Top) → Judged (sheetIn (now (groups .entry)) size) (counted 0 lo hi) (now (sizes .exit)) (now
+    ensures { λ r. ⌜ ((hi : Top) → Judged (sheetIn (now (groups .entry)) size) (allSay (counted 0 lo hi)) (now (sizes .exit)) (now
         (marks .exit)) r) ⌝ }
 {
     if lo == 0 {
@@ -137,7 +138,7 @@ pub fn judge_count(
     marks: &mut [u8],
 ) -> bool
     requires { ⌜ Asking (now groups) size (now sizes) (now marks) × Numbered m × (meantNumber m ≤ size) ⌝ }
-    ensures { λ r. ⌜ Judged (sheetIn (now (groups .entry)) size) (counted (meantNumber m) lo (endOf noEnd hi)) (now (sizes .exit)) (now
+    ensures { λ r. ⌜ Judged (sheetIn (now (groups .entry)) size) (allSay (counted (meantNumber m) lo (endOf noEnd hi))) (now (sizes .exit)) (now
         (marks .exit)) r ⌝ }
     ensures { λ _. ⌜ now (groups .exit) ≡ now (groups .entry) ⌝ }
 {

@@ -1,27 +1,39 @@
-// The verdict on one claim, and the sets of a denial.
+// The verdict on one claim, and the sets that are shown with it.
 use crate::count::judge_count;
-use crate::lists::judge_lists;
+use crate::lists::ask_lists;
+use crate::lists::is_place;
 use crate::names::groups_meant;
-use crate::verdict::Verdict;
+use crate::verdict::Decision;
+use crate::verdict::verdict_on;
 use reading::claim::Claim;
+use reading::claim::ListKind;
 use reading::claim::Lists;
 use reading::tables::GROUP_CAPACITY;
 use reading::tables::meant_by;
 use runs::place::place_runs;
 ghost use mathlib.Core.Path.{_≡_};
+ghost use mathlib.Core.Bool.{_&&_};
 ghost use Prim.Native.Nat.{_≤_};
 ghost use lib.ListN.{length};
-ghost use Rattle.reading.specs.ClaimHeld.{leftNames, rightNames, claimRecord};
-ghost use Rattle.sizes.specs.ClaimsMath.{lists};
+ghost use lib.Dec.{ltb};
+ghost use Rattle.meaning.specs.Place.{listsAsk};
+ghost use Rattle.reading.specs.ClaimHeld.{listAs, leftNames, rightNames, claimRecord};
 ghost use Rattle.reading.specs.SheetIn.{sheetIn};
 ghost use Rattle.choosing.specs.Chosen.{Asking};
 ghost use Rattle.claims.specs.Named.{meanings, claimMeant, Askable, AskableLists};
 ghost use Rattle.claims.specs.Judged.{Judged};
+ghost use Rattle.claims.specs.Ways.{isPlace};
 ghost use Rattle.claims.specs.Decided.{Decided};
 
-// Whether some sets that fit break the claim of kind 5 or 6 on two lists of names.
+// whether the claim asks for a member of every left set and has the empty set among these: k of its n left names mean a group
+fn lacks_member(kind: ListKind, k: usize, n: u16) -> bool
+    ensures { λ r. ⌜ r ≡ (isPlace (listAs kind) && ltb k n) ⌝ }
+{
+    if is_place(kind) { k < n as usize } else { false }
+}
+
+// Whether some sets that fit answer the claim of kinds 5 to 7 on two lists of names.
 fn judge_names(
-    apart: bool,
     sheet: &[u8],
     l: Lists,
     names: &[u16],
@@ -32,7 +44,7 @@ fn judge_names(
 ) -> bool
     requires { ⌜ Asking (now groups) size (now sizes) (now marks) × AskableLists (now sheet) l (now names) size ⌝ }
     ensures { λ r. ⌜ Judged (sheetIn (now (groups .entry)) size)
-        (lists apart (meanings (now (names .entry)) (leftNames (now (sheet .entry)) l)) (meanings (now (names .entry))
+        (listsAsk (listAs (l .kind)) (meanings (now (names .entry)) (leftNames (now (sheet .entry)) l)) (meanings (now (names .entry))
         (rightNames (now (sheet .entry)) l)))
         (now (sizes .exit)) (now (marks .exit)) r ⌝ }
 {
@@ -40,10 +52,14 @@ fn judge_names(
     let mut right = [0u16; GROUP_CAPACITY];
     let m = groups_meant(sheet, l.at, l.m, names, &mut left);
     let n = groups_meant(sheet, l.at + 2 * (l.m as usize), l.n, names, &mut right);
-    judge_lists(apart, groups, size, &left, m, &right, n, sizes, marks)
+    let kind = l.kind;
+    if lacks_member(kind, m, l.m) {
+        return false;
+    }
+    ask_lists(kind, groups, size, &left, m, &right, n, sizes, marks)
 }
 
-// Whether some sets that fit break the claim.
+// Whether some sets that fit answer the claim: they break it (kinds 4 to 6), or have the member that it asks for (kind 7).
 fn judge(
     sheet: &[u8],
     c: Claim,
@@ -72,13 +88,12 @@ fn judge(
                 marks,
             )
         }
-        Claim::Inside(l) => judge_names(false, sheet, l, names, groups, size, sizes, marks),
-        Claim::Apart(l) => judge_names(true, sheet, l, names, groups, size, sizes, marks),
+        Claim::Lists(l) => judge_names(sheet, l, names, groups, size, sizes, marks),
     }
 }
 
-// The verdict on a claim. Where it is denied, sets that fit and break it are left in `firsts`, `sizes` and `marks`: with each
-// group the first member and the count of a run, and the mark of member 0.
+// The verdict on a claim. Sets that fit and answer it are left in `firsts`, `sizes` and `marks`: with each group the first
+// member and the count of a run, and the mark of member 0.
 pub fn decide(
     sheet: &[u8],
     c: Claim,
@@ -88,7 +103,7 @@ pub fn decide(
     firsts: &mut [u32],
     sizes: &mut [u32],
     marks: &mut [u8],
-) -> Verdict
+) -> Decision
     requires { ⌜ Asking (now groups) size (now sizes) (now marks) × Askable (now sheet) c (now names) size
         × (size ≤ length (now firsts)) ⌝ }
     ensures { λ r. ⌜ Decided (sheetIn (now (groups .entry)) size) (claimMeant (now (names .entry)) (claimRecord (now
@@ -99,7 +114,7 @@ pub fn decide(
     if judge(sheet, c, names, groups, size, sizes, marks) {
         let mut ends = [0u32; GROUP_CAPACITY];
         place_runs(groups, size, sizes, firsts, &mut ends);
-        return Verdict::Denied;
+        return Decision::Shown(verdict_on(c, true));
     }
-    Verdict::Holds
+    Decision::Alone(verdict_on(c, false))
 }

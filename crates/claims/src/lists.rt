@@ -1,18 +1,20 @@
-// Claims of kinds 5 and 6 (inside, apart) on two lists of groups, group by group of the left list: a member that breaks the
-// claim is in one of the left groups, and in none of the right ones (inside) or in one of them (apart).
+// Claims of kinds 5 to 7 (inside, apart, place) on two lists of groups. A member that breaks a claim of kind 5 or 6 is in one of
+// the left groups, and in none of the right ones (inside) or in one of them (apart): these are asked group by group of the left
+// list. One for kind 7 is in all of the left groups at once and in none of the right ones.
 use crate::places::ask_place;
 use crate::places::group_at;
+use reading::claim::ListKind;
 use reading::tables::GroupNo;
-ghost use mathlib.Core.Bool.{true};
+ghost use mathlib.Core.Path.{_≡_};
 ghost use mathlib.Core.List.{[], _∷_};
 ghost use Prim.Native.Nat.{_≤_};
 ghost use lib.ListN.{take};
-ghost use Rattle.sizes.specs.ClaimsMath.{lists};
+ghost use Rattle.wire.specs.SheetFormat.{apart};
+ghost use Rattle.reading.specs.ClaimHeld.{listAs};
 ghost use Rattle.reading.specs.SheetIn.{sheetIn};
 ghost use Rattle.choosing.specs.Chosen.{Asking};
 ghost use Rattle.claims.specs.Groups.{Listed};
-ghost use Rattle.claims.specs.Judged.{Judged};
-ghost use Rattle.claims.specs.Ways.{Tried};
+ghost use Rattle.claims.specs.Ways.{isPlace, brokenKind, Tried};
 
 // whether some sets that fit have a member in both groups
 fn ask_both(
@@ -25,7 +27,7 @@ fn ask_both(
 ) -> bool
     requires { ⌜ Asking (now groups) size (now sizes) (now marks) ⌝ }
     requires { ⌜ (1 ≤ g .0) × (g .0 ≤ size) × (1 ≤ h .0) × (h .0 ≤ size) ⌝ }
-    ensures { λ r. ⌜ Tried (sheetIn (now (groups .entry)) size) true (g .0 ∷ []) (h .0 ∷ []) (now (sizes .exit)) (now
+    ensures { λ r. ⌜ Tried (sheetIn (now (groups .entry)) size) apart (g .0 ∷ []) (h .0 ∷ []) (now (sizes .exit)) (now
         (marks .exit)) r ⌝ }
 {
     let both = [g.0, h.0];
@@ -33,10 +35,9 @@ fn ask_both(
     ask_place(groups, size, &both, 2, &none, 0, sizes, marks)
 }
 
-// whether some sets that fit have a member in group g that breaks the claim: one in some group of the right list (apart), or in
-// none of it (inside)
+// whether some sets that fit have a member in group g that is in some group of the right list too (true), or in none of it
 fn ask_left(
-    apart: bool,
+    shared: bool,
     groups: &[u16],
     size: u16,
     g: GroupNo,
@@ -47,10 +48,10 @@ fn ask_left(
 ) -> bool
     requires { ⌜ Asking (now groups) size (now sizes) (now marks) × Listed (now right) n size ⌝ }
     requires { ⌜ (1 ≤ g .0) × (g .0 ≤ size) ⌝ }
-    ensures { λ r. ⌜ Tried (sheetIn (now (groups .entry)) size) apart (g .0 ∷ []) (take n (now (right .entry)))
+    ensures { λ r. ⌜ Tried (sheetIn (now (groups .entry)) size) (brokenKind shared) (g .0 ∷ []) (take n (now (right .entry)))
         (now (sizes .exit)) (now (marks .exit)) r ⌝ }
 {
-    if apart {
+    if shared {
         for j in 0..n {
             if ask_both(groups, size, g, group_at(right, j), sizes, marks) {
                 return true;
@@ -62,9 +63,9 @@ fn ask_left(
     ask_place(groups, size, &one, 1, right, n, sizes, marks)
 }
 
-// Whether some sets that fit break the claim on m left groups and n right groups.
-pub fn judge_lists(
-    apart: bool,
+// the same for some group of the left list
+fn ask_lefts(
+    shared: bool,
     groups: &[u16],
     size: u16,
     left: &[u16],
@@ -76,13 +77,13 @@ pub fn judge_lists(
 ) -> bool
     requires { ⌜ Asking (now groups) size (now sizes) (now marks) ⌝ }
     requires { ⌜ Listed (now left) m size × Listed (now right) n size ⌝ }
-    ensures { λ r. ⌜ Judged (sheetIn (now (groups .entry)) size) (lists apart (take m (now (left .entry))) (take n (now
-        (right .entry))))
+    ensures { λ r. ⌜ Tried (sheetIn (now (groups .entry)) size) (brokenKind shared) (take m (now (left .entry))) (take n (now
+        (right .entry)))
         (now (sizes .exit)) (now (marks .exit)) r ⌝ }
 {
     for i in 0..m {
         if ask_left(
-            apart,
+            shared,
             groups,
             size,
             group_at(left, i),
@@ -95,4 +96,40 @@ pub fn judge_lists(
         }
     }
     false
+}
+
+// Whether some sets that fit answer the claim of a kind on m left groups and n right groups.
+pub fn ask_lists(
+    kind: ListKind,
+    groups: &[u16],
+    size: u16,
+    left: &[u16],
+    m: usize,
+    right: &[u16],
+    n: usize,
+    sizes: &mut [u32],
+    marks: &mut [u8],
+) -> bool
+    requires { ⌜ Asking (now groups) size (now sizes) (now marks) ⌝ }
+    requires { ⌜ Listed (now left) m size × Listed (now right) n size ⌝ }
+    ensures { λ r. ⌜ Tried (sheetIn (now (groups .entry)) size) (listAs kind) (take m (now (left .entry))) (take n (now
+        (right .entry)))
+        (now (sizes .exit)) (now (marks .exit)) r ⌝ }
+{
+    match kind {
+        ListKind::Inside => ask_lefts(false, groups, size, left, m, right, n, sizes, marks),
+        ListKind::Apart => ask_lefts(true, groups, size, left, m, right, n, sizes, marks),
+        ListKind::Place => ask_place(groups, size, left, m, right, n, sizes, marks),
+    }
+}
+
+// whether a claim of the kind asks for a member of every left set
+pub fn is_place(kind: ListKind) -> bool
+    ensures { λ r. ⌜ r ≡ isPlace (listAs kind) ⌝ }
+{
+    match kind {
+        ListKind::Inside => false,
+        ListKind::Apart => false,
+        ListKind::Place => true,
+    }
 }

@@ -41,6 +41,7 @@ pub fn groups_meant(sheet: &[u8], from: usize, n: u16, names: &[u16], list: &mut
     requires { ⌜ Side (now sheet) from n (now names) × (n ≤ length (now list)) ⌝ }
     ensures { λ r. ⌜ r ≤ n ⌝ }
     ensures { λ r. ⌜ take r (now (list .exit)) ≡ groupsAmong (meanings (now (names .entry)) (u16s (now (sheet .entry)) from n)) ⌝ }
+    ensures { λ r. ⌜ r ≡ length (groupsAmong (meanings (now (names .entry)) (u16s (now (sheet .entry)) from n))) ⌝ }
 {
     let mut k: usize = 0;
     for i in 0..n {

@@ -1,5 +1,6 @@
 -- The contracts of the three operations settle every exit: of two exits of one call that both meet its contract, the numbers
--- returned are equal and so is every byte, but for the sets that a denial shows (document 01, "We agree on this").
+-- returned are equal and so is every byte, but for the sets that are shown with a verdict (document 01, "We agree on this";
+-- document 02, card 1).
 use Prim.Native.Nat.{ℕ, _+_, _*_}
 use mathlib.Core.Path.{_≡_, refl, sym, _∙_}
 use mathlib.Core.List.{List}
@@ -12,18 +13,19 @@ use Rattle.wire.specs.SheetFormat.{Records, readSheet}
 use Rattle.wire.specs.RegisterFormat.{Row, readRegister}
 use Rattle.wire.specs.Encoding.{Bytes}
 use Rattle.meaning.specs.Sheet.{Sheet, Group}
-use Rattle.meaning.specs.Sets.{count}
 use Rattle.meaning.specs.Fits.{Possible}
-use Rattle.meaning.specs.Claim.{Claim, Breakable}
+use Rattle.meaning.specs.Sets.{Sets, count}
 use Rattle.meaning.specs.OfRecords.{sheetOf, claimAt, listedSets}
-use Rattle.sizes.specs.Readable.{readable-possible-or-not, readable-breakable-or-not, readable-arrangement-once}
+use Rattle.sizes.specs.Readable.{readable-possible-or-not, readable-witness-or-not, readable-arrangement-once}
+use Rattle.sizes.specs.Witness.{HasWitness}
 use Rattle.registers.specs.Settled.{answered-once}
 use Rattle.claims.specs.declared.verdict.Verdict.{Verdict}
 use Rattle.replies.specs.Reply.{call, packed, Replied, OnceSheet}
 use Rattle.range_reply.specs.RangesReply.{rangeAt, rangeLeast, rangeGreatest, runFirst, runCount, RangesIn, RangesCall}
 use Rattle.range_reply.proofs.RangesOnce.{range-once}
 use Rattle.register_reply.specs.RegisterReply.{AnswerIn, Register}
-use Rattle.claim_reply.specs.ClaimReply.{shownAt, VerdictIn, DenialIn, ClaimVerdict}
+use Rattle.claim_reply.specs.ClaimReply.{shownAt, VerdictIn, SetsIn, ClaimVerdict}
+use Rattle.claim_reply.specs.Answering.{answered-answering}
 use Rattle.group_sheet.proofs.Alike.{Alike, alike-then, alike-many, u16-alike, u32-alike}
 use Rattle.group_sheet.proofs.Exits.{once-read, once-possible, once-numbered, once-room, replied-alike}
 
@@ -93,30 +95,31 @@ verdict-alike x y v w =
     (u16-alike x y 2 (v .kind) (w .kind)))
     (u16-alike x y 4 (v .verdict) (w .verdict))
 
--- bytes of a denial that shows sets of n groups
-abbrev pub denialBytes : ℕ → ℕ
-denialBytes n = verdictBytes + shownBytes * n
+-- bytes of a verdict that shows sets of n groups
+abbrev pub shownReplyBytes : ℕ → ℕ
+shownReplyBytes n = verdictBytes + shownBytes * n
 
--- Two buffers with denials under s are the same but for the sets. Open are the ten bytes of each group's record that hold its
--- run and its mark.
+-- Two buffers with verdicts and sets under s are the same but for the sets. Open are the ten bytes of each group's record that
+-- hold its run and its mark.
 pub record SameButSets (s : Sheet) (out out' : List ℕ) : Type 0 where
   pub sized : length out ≡ length out'
   pub verdict : Alike out out' 0 verdictBytes
   pub frames : (g : ℕ) → Group s g → Alike out out' (shownAt g) 4
-  pub rest : drop (denialBytes (s .size)) out ≡ drop (denialBytes (s .size)) out'
+  pub rest : drop (shownReplyBytes (s .size)) out ≡ drop (shownReplyBytes (s .size)) out'
 
--- Claim k of the sheet can be broken, the number r returned is a denial's, and the buffers are the same but for the sets.
-pub record DeniedAlike (sheet : List ℕ) (k r : ℕ) (out out' : List ℕ) : Type 0 where
+-- Some sets that fit answer claim k of the sheet (they break it, or have the member of kind 7), the number r returned is that of
+-- a verdict with sets, and the buffers are the same but for the sets.
+pub record ShownAlike (sheet : List ℕ) (k r : ℕ) (out out' : List ℕ) : Type 0 where
   pub records : Records
   pub readable : readSheet sheet ≡ read records
-  pub breakable : Breakable (sheetOf (records .groups)) (claimAt records k)
-  pub returned : r ≡ packed 0 (denialBytes (length (records .groups)))
+  pub witness : HasWitness (sheetOf (records .groups)) (claimAt records k)
+  pub returned : r ≡ packed 0 (shownReplyBytes (length (records .groups)))
   pub same : SameButSets (sheetOf (records .groups)) out out'
 
-denials-alike : {s : Sheet} {k : Claim} {before after after' : List ℕ} {r r' : ℕ} → Bytes after → Bytes after'
-    → Replied (denialBytes (s .size)) (call before r after) → Replied (denialBytes (s .size)) (call before r' after')
-    → DenialIn s k after → DenialIn s k after' → SameButSets s after after'
-denials-alike x y a b v w = record {
+sets-alike : {s : Sheet} {o : Verdict} {P : Sets ℕ → Type 0} {before after after' : List ℕ} {r r' : ℕ} → Bytes after → Bytes after'
+    → Replied (shownReplyBytes (s .size)) (call before r after) → Replied (shownReplyBytes (s .size)) (call before r' after')
+    → SetsIn s o P after → SetsIn s o P after' → SameButSets s after after'
+sets-alike x y a b v w = record {
   sized = a .sized ∙ sym (b .sized);
   verdict = verdict-alike x y (v .verdict) (w .verdict);
   frames = λ g q.
@@ -127,20 +130,22 @@ denials-alike x y a b v w = record {
 }
 
 -- Two exits of `sheet_claim` that meet its contract for the same sheet, claim number and buffer at entry return the same number,
--- and every byte is the same, unless the claim is denied: then every byte but those of the sets.
+-- and every byte is the same, unless sets are shown (kinds 4 to 6 denied, kind 7 holding): then every byte but those of the sets.
 pub claim-settled : (sheet : List ℕ) (k : ℕ) {before after after' : List ℕ} {r r' : ℕ} → OnceSheet sheet (ClaimVerdict k) (call before r after)
     → OnceSheet sheet (ClaimVerdict k) (call before r' after') → Bytes after → Bytes after'
-    → (r ≡ r') × ((after ≡ after') ⊎ DeniedAlike sheet k r after after')
+    → (r ≡ r') × ((after ≡ after') ⊎ ShownAlike sheet k r after after')
 claim-settled sheet k {after} {after'} {r} {r'} v w x y =
-    let same : (r ≡ r') × (after ≡ after') → (r ≡ r') × ((after ≡ after') ⊎ DeniedAlike sheet k r after after') = λ z. (z .0, inl (z .1)) in
+    let same : (r ≡ r') × (after ≡ after') → (r ≡ r') × ((after ≡ after') ⊎ ShownAlike sheet k r after after') = λ z. (z .0, inl (z .1)) in
     once-read same (readSheet sheet) v w
     (λ d e v w. once-possible same (readable-possible-or-not sheet d e) v w
     (λ p v w. once-numbered same v w
-    (λ v w. ⊎-elim
-    (λ c. once-room same (v .denied c) (w .denied c)
+    (λ v w. let v' = answered-answering (claimAt d k) v in
+    let w' = answered-answering (claimAt d k) w in
+    ⊎-elim
+    (λ c. once-room same (v' .shown c) (w' .shown c)
     (λ a b m n. (
       a .returned ∙ sym (b .returned),
-      inr (record { records = d; readable = e; breakable = c; returned = a .returned; same = denials-alike x y a b m n }),
+      inr (record { records = d; readable = e; witness = c; returned = a .returned; same = sets-alike x y a b m n }),
     )))
-    (λ c. once-room same (v .holds c) (w .holds c) (λ a b m n. same (replied-alike a b (verdict-alike x y m n))))
-    (readable-breakable-or-not sheet d e k))))
+    (λ c. once-room same (v' .alone c) (w' .alone c) (λ a b m n. same (replied-alike a b (verdict-alike x y m n))))
+    (readable-witness-or-not sheet d e k))))

@@ -94,16 +94,15 @@ sum-gap a b k (suc n) h l =
     (λ i. omega (arith, sum-gap a b k n (λ m j. h m (omega arith)) i, h n (le-refl (suc n))))
     (λ i. let e : k ≡ suc n = omega arith in rw e (omega arith))
 
+-- the gap of one term, in two such sums
+pub sum-gap-term : (a b : ℕ → ℕ) (n g : ℕ) → ((m : ℕ) → m < n → a m ≤ b m) → g < n → sum a n + b g ≤ sum b n + a g
+unfolding sum
+sum-gap-term a b n g h l = omega (arith, sum-gap a b (suc g) n h l, sum-le a b g (λ m k. h m (omega arith)))
+
 -- terms that are not above, with a sum that is not below, are equal
 pub sum-tight : (f h : ℕ → ℕ) (n : ℕ) → ((m : ℕ) → m < n → f m ≤ h m) → sum h n ≤ sum f n
     → (m : ℕ) → m < n → f m ≡ h m
-unfolding sum
-sum-tight f h zero p q m l = absurd (omega arith)
-sum-tight f h (suc n) p q m l =
-    let below : sum f n ≤ sum h n = sum-le f h n (λ i k. p i (omega arith)) in
-    below-suc m n l
-    (λ e. rw e (omega (arith, p n (le-refl (suc n)))))
-    (λ k. sum-tight f h n (λ i j. p i (omega arith)) (omega (arith, p n (le-refl (suc n)))) m k)
+sum-tight f h n p q m l = omega (arith, sum-gap-term f h n m p l, p m l)
 
 -- the place of a number below a sum among its terms
 pub locate : (f : ℕ → ℕ) (n x : ℕ) → x < sum f n → (g : ℕ) × (g < n) × (sum f g ≤ x) × (x < sum f g + f g)

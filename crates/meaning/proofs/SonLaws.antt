@@ -1,6 +1,6 @@
 -- Laws of the sons of a group and of sums over them.
-use Prim.Native.Nat.{ℕ, suc, _+_, _≤_, _<_, zero-le}
-use mathlib.Core.Path.{_≡_, sym, _∙_}
+use Prim.Native.Nat.{ℕ, zero, suc, _+_, _≤_, _<_, zero-le}
+use mathlib.Core.Path.{_≡_, refl, sym, _∙_}
 use mathlib.Core.Bool.{true, false, _&&_}
 use native.Mathlib.Omega.{arith}
 use native.Mathlib.Nat.{le-refl}
@@ -106,6 +106,12 @@ pub sons-zero : (s : Sheet) (p : ℕ) (f : ℕ → ℕ) → ((g : ℕ) → Son s
 unfolding sons
 sons-zero s p f q =
     sum-zero _ _ (λ g l. split (isSon s p g) (λ e. rw e (q g (son-of s p g (omega arith) e))) (λ e. rw e))
+
+-- the sum over the sons of a sum
+pub sons-sum : (s : Sheet) (p : ℕ) (f : ℕ → ℕ → ℕ) (n : ℕ) → sons s p (λ g. sum (λ i. f i g) n) ≡ sum (λ i. sons s p (f i)) n
+unfolding sum
+sons-sum s p f zero = sons-zero s p (λ g. 0) (λ g k. refl)
+sons-sum s p f (suc n) = omega (arith, sons-add s p (λ g. sum (λ i. f i g) n) (f n), sons-sum s p f n)
 
 -- where the sum over the sons is at most 1, there is at most one son that is not 0
 pub sons-one : {s : Sheet} {p g h : ℕ} (f : ℕ → ℕ) → Son s p g → Son s p h → sons s p f ≤ 1 → 1 ≤ f g → 1 ≤ f h → g ≡ h

@@ -1,24 +1,28 @@
--- The worked sheets of document 01 that are shown by proof, in one list: `worked`. They speak of the meaning alone.
-use Prim.Native.Nat.{ℕ, zero, suc, _+_, _≤_, _<_, zero-le}
-use mathlib.Core.Path.{_≡_, refl, sym, ap, _∙_}
-use mathlib.Core.Bool.{Bool, true, false, cond, _||_, false≢true}
+-- The worked sheets that are shown by proof, of document 01 and of document 02, card 1, in one list: `worked`. They speak of
+-- the meaning alone.
+use Prim.Native.Nat.{ℕ, zero, suc, _+_, _-_, _≤_, _<_, zero-le}
+use mathlib.Core.Path.{_≡_, refl, sym, ap, _∙_, subst}
+use mathlib.Core.Bool.{Bool, true, false, cond, _&&_, _||_, false≢true}
 use mathlib.Core.List.{List, [], _∷_}
-use mathlib.Core.Logic.{_↔_, _⊎_, inl, inr, ⊎-elim}
+use mathlib.Core.Logic.{_↔_}
 use native.Mathlib.Omega.{arith}
-use borrow.Author.Tests.{ltb-true, ltb-false, leb-true, le-leb}
 use lib.Dec.{leb, ltb, eqb}
-use Rattle.wire.specs.SheetFormat.{GroupRecord, NameRecord, count, inside, apart}
+use Rattle.wire.specs.SheetFormat.{GroupRecord, NameRecord, count, lists, inside, apart, place}
 use Rattle.laws.specs.Sum.{sum, bit}
 use native.Mathlib.Nat.{le-of-eq}
 use Rattle.laws.specs.Digit.{digit}
-use Rattle.laws.specs.Cases.{split, not-true-false, true-not-false, or-true, or-left}
-use Rattle.laws.specs.SumLaws.{bit-le, bit-le-true, bit-most, true-bit, sum-le, sum-eq, sum-add, sum-zero, sum-tight}
-use Rattle.meaning.specs.Sheet.{Sheet, Group, Son, Top, fin, inf, AtMost, endOf}
+use Rattle.laws.specs.Cases.{split, compare-eq, and-true, not-true-false, true-not-false, or-true, or-left, or-false}
+use Rattle.laws.specs.SumLaws.{bit-le, bit-le-true, bit-true, bit-most, true-bit}
+use Rattle.laws.specs.SumLaws.{sum-le, sum-eq, sum-add, sum-zero, sum-term, sum-gap-term, sum-tight}
+use Rattle.meaning.specs.Sheet.{Sheet, Group, Son, AtMost, endOf}
+use Rattle.meaning.specs.Sons.{isSon, sons}
 use Rattle.meaning.specs.Sets.{Sets, numbered}
 use Rattle.meaning.specs.Sets as sets
 use Rattle.meaning.specs.Fits.{Meets, Fits, Possible, Attains, groupsOf}
-use Rattle.meaning.specs.Claim.{Claim, Breakable, countNamed}
+use Rattle.meaning.specs.Claim.{Breakable, countNamed}
+use Rattle.meaning.specs.Place.{every, Placeable, Question, allSay, somePlace}
 use Rattle.meaning.specs.OfRecords.{sheetOf, claimed}
+use Rattle.meaning.proofs.SonLaws.{sons-term, sons-locate, sons-one, sons-sum}
 
 -- a group record: parent, lo, hi, mode
 abbrev group : ℕ → ℕ → ℕ → ℕ → GroupRecord
@@ -51,15 +55,33 @@ shared l = sheetOf (group 0 l 65535 2 ∷ group 1 0 3 0 ∷ group 1 0 2 0 ∷ []
 abbrev pub endless : Sheet
 endless = sheetOf (group 0 0 65535 0 ∷ [])
 
--- names 1 to 3 for groups 1 to 3
+-- 'Cover' root 2 to 2, three sons 0 to 1.
+abbrev pub trio : Sheet
+trio = sheetOf (group 0 2 2 2 ∷ group 1 0 1 0 ∷ group 1 0 1 0 ∷ group 1 0 1 0 ∷ [])
+
+-- names 1 to 4 for groups 1 to 4, name 5 for the empty set
 abbrev names : List NameRecord
-names = record { group = 1; label = 82 ∷ [] } ∷ record { group = 2; label = 65 ∷ [] } ∷ record { group = 3; label = 66 ∷ [] } ∷ []
+names =
+    record { group = 1; label = 82 ∷ [] } ∷ record { group = 2; label = 65 ∷ [] } ∷ record { group = 3; label = 66 ∷ [] }
+    ∷ record { group = 4; label = 67 ∷ [] }
+    ∷ record { group = 0; label = 69 ∷ [] }
+    ∷ []
 
--- the claim holds: some sets fit, and none of them break it
-abbrev pub Holds : Sheet → Claim → Type 0
-Holds s c = Possible s × (Breakable s c → ⊥)
+-- the claim holds: some sets fit, and none of them break it; for kind 7 some have the member
+abbrev pub Holds : Sheet → Question → Type 0
+Holds s (allSay c) = Possible s × (Breakable s c → ⊥)
+Holds s (somePlace l r) = Placeable s l r
 
--- the worked sheets, each as document 01 has it
+-- the claim is denied: some sets that fit break it; for kind 7 some fit, and none of them have the member
+abbrev pub Denied : Sheet → Question → Type 0
+Denied s (allSay c) = Breakable s c
+Denied s (somePlace l r) = Possible s × (Placeable s l r → ⊥)
+
+-- asks for a member of all the named sets; nobody is in the empty set, so nobody is left out
+abbrev together : List ℕ → Question
+together l = claimed names (lists place l (5 ∷ []))
+
+-- the worked sheets: each as document 01 has it, and `trio` for document 02, card 1
 pub record Worked : Type 0 where
   pub pair-three : Possible (pair 3) → ⊥
   pub pair-four : Possible (pair 4)
@@ -68,35 +90,39 @@ pub record Worked : Type 0 where
   pub twins-empty : (g : ℕ) → Group twins g → (k : ℕ) → Attains twins g k ↔ (k ≡ 0)
   pub single-any : (g : ℕ) → Group single g → (k : ℕ) → Attains single g k
   pub single-equal : (A : Sets ℕ) → Fits single A → sets.count A 2 ≡ sets.count A 1
-  pub forced-inside : Holds forced (claimed names (inside (2 ∷ []) (3 ∷ [])))
-  pub shared-five : Holds (shared 5) (claimed names (apart (2 ∷ []) (3 ∷ [])))
-  pub shared-four : Breakable (shared 4) (claimed names (apart (2 ∷ []) (3 ∷ [])))
-  pub endless-below : Breakable endless (claimed names (count 1 0 65534))
+  pub forced-inside : Holds forced (claimed names (lists inside (2 ∷ []) (3 ∷ [])))
+  pub shared-five : Holds (shared 5) (claimed names (lists apart (2 ∷ []) (3 ∷ [])))
+  pub shared-four : Denied (shared 4) (claimed names (lists apart (2 ∷ []) (3 ∷ [])))
+  pub endless-below : Denied endless (claimed names (count 1 0 65534))
   pub endless-any : Holds endless (claimed names (count 1 0 65535))
+  -- any two sons can share a member, all three can't
+  pub trio-two : Holds trio (together (2 ∷ 3 ∷ [])) × Holds trio (together (2 ∷ 4 ∷ [])) × Holds trio (together (3 ∷ 4 ∷ []))
+  pub trio-three : Denied trio (together (2 ∷ 3 ∷ 4 ∷ []))
+  -- nobody is in the empty set, or in a group and out of it
+  pub trio-empty : Denied trio (claimed names (lists place (5 ∷ []) (1 ∷ [])))
+  pub trio-both : Denied trio (claimed names (lists place (2 ∷ []) (2 ∷ [])))
 
--- the only sons of these sheets
-three : (s : Sheet) → s .size ≡ 3 → s .parent 1 ≡ 0 → s .parent 2 ≡ 1 → s .parent 3 ≡ 1 → (p g : ℕ) → Son s p g
-    → (p ≡ 1) × ((g ≡ 2) ⊎ (g ≡ 3))
-three s n a b c p zero k = absurd (omega (arith, k .group .first))
-three s n a b c p (suc zero) k = absurd (omega (arith, k .above, k .under))
-three s n a b c p (suc (suc zero)) k = (omega (arith, k .under), inl refl)
-three s n a b c p (suc (suc (suc zero))) k = (omega (arith, k .under), inr refl)
-three s n a b c p (suc (suc (suc (suc g)))) k = absurd (omega (arith, k .group .last))
+-- P of each of the n numbers from k on
+abbrev From : (ℕ → Type 0) → ℕ → ℕ → Type 0
+From P k zero = Unit {0}
+From P k (suc n) = P k × From P (suc k) n
 
--- what holds of groups 1 to 3 holds of every group
-each : (P : ℕ → Type 0) (s : Sheet) → s .size ≡ 3 → P 1 → P 2 → P 3 → (g : ℕ) → Group s g → P g
-each P s n a b c zero q = absurd (omega (arith, q .first))
-each P s n a b c (suc zero) q = a
-each P s n a b c (suc (suc zero)) q = b
-each P s n a b c (suc (suc (suc zero))) q = c
-each P s n a b c (suc (suc (suc (suc g)))) q = absurd (omega (arith, q .last))
+from : (P : ℕ → Type 0) (k n : ℕ) → From P k n → (m : ℕ) → k ≤ m → m < k + n → P m
+from P k zero w m l h = absurd (omega arith)
+from P k (suc n) w m l h =
+    compare-eq k m (λ e. subst P e (w .0)) (λ d. from P (suc k) n (w .1) m (omega arith) (omega arith))
 
--- the same for a sheet of at most two groups
-each-two : (P : ℕ → Type 0) (s : Sheet) → s .size ≤ 2 → P 1 → P 2 → (g : ℕ) → Group s g → P g
-each-two P s n a b zero q = absurd (omega (arith, q .first))
-each-two P s n a b (suc zero) q = a
-each-two P s n a b (suc (suc zero)) q = b
-each-two P s n a b (suc (suc (suc g))) q = absurd (omega (arith, q .last))
+-- what holds of groups 1 to the last holds of every group
+each : (P : ℕ → Type 0) (s : Sheet) → From P 1 (s .size) → (g : ℕ) → Group s g → P g
+each P s w g q = from P 1 (s .size) w g (q .first) (omega (arith, q .last))
+
+-- what holds of groups 2 to the last and their parents holds of every son
+each-son : (P : ℕ → ℕ → Type 0) (s : Sheet) → s .parent 1 ≡ 0 → From (λ g. P (s .parent g) g) 2 (s .size - 1)
+    → (p g : ℕ) → Son s p g → P p g
+each-son P s top w p g k =
+    let later : 2 ≤ g = compare-eq 1 g (λ e. absurd (omega (arith, k .above, k .under, top, ap (s .parent) e)))
+    (λ d. omega (arith, k .group .first)) in
+    subst (λ p. P p g) (k .under) (from (λ g. P (s .parent g) g) 2 (s .size - 1) w g later (omega (arith, k .group .last)))
 
 -- counts of one sum at a time: what holds of every member's bits holds of the counts
 module _ {s : Sheet} {A : Sets ℕ} (w : Fits s A) where
@@ -126,38 +152,28 @@ two-apart {M = M} w p g h a b d e =
     (λ x. split (M h) (λ y. absurd (d (w .apart p g h a b e x y))) (λ y. rw (x, y, first x) (omega arith)))
     (λ x. split (M h) (λ y. rw (x, y, second y) (omega arith)) (λ y. rw (x, y) zero-le))
 
--- a 'cover' group with two sons, as bits
-two-cover : {s : Sheet} {M : ℕ → Bool} → Meets s M → (p g h : ℕ) → Group s p → ((k : ℕ) → Son s p k → (k ≡ g) ⊎ (k ≡ h))
-    → s .cover p ≡ true → bit (M p) ≤ bit (M g) + bit (M h)
-two-cover {M = M} w p g h q only e =
+-- a 'cover' group and its sons, as bits
+cover-bits : {s : Sheet} {M : ℕ → Bool} → Meets s M → (p : ℕ) → Group s p → s .cover p ≡ true
+    → bit (M p) ≤ sons s p (λ g. bit (M g))
+cover-bits {M = M} m p q e =
     split (M p)
-    (λ x. let c = w .covered p q e x in
-    let held : M (c .0) ≡ true = c .2 in
-    rw x
-    (⊎-elim (λ (k : c .0 ≡ g). let y : M g ≡ true = rw k at held in rw y (omega arith))
-    (λ (k : c .0 ≡ h). let y : M h ≡ true = rw k at held in rw y (omega arith))
-    (only (c .0) (c .1))))
+    (λ x. let c = m .covered p q e x in rw x (omega (arith, sons-term (λ g. bit (M g)) (c .1), true-bit (c .2))))
     (λ x. rw x zero-le)
+
+-- The counts of a 'cover' group's sons exceed its own at least by what they count one member too often.
+cover-room : {s : Sheet} {A : Sets ℕ} → Fits s A → (p : ℕ) → Group s p → s .cover p ≡ true → (i : ℕ) → i < A .bound
+    → sets.count A p + sons s p (λ g. bit (groupsOf A i g)) ≤ sons s p (sets.count A) + bit (groupsOf A i p)
+unfolding sets.count
+cover-room {s} {A} w p q e i l =
+    rw (sons-sum s p (λ j g. bit (groupsOf A j g)) (A .bound))
+    (sum-gap-term (λ j. bit (groupsOf A j p)) (λ j. sons s p (λ g. bit (groupsOf A j g))) (A .bound) i
+    (λ j k. cover-bits (w .rules j k) p q e) l)
 
 -- two tests that imply each other
 both-ways : (a b : Bool) → (a ≡ true → b ≡ true) → (b ≡ true → a ≡ true) → a ≡ b
 both-ways true b f g = sym (f refl)
 both-ways false true f g = g refl
 both-ways false false f g = refl
-
--- the empty sets fit where nothing is asked for
-at-most-zero : (t : Top) → AtMost 0 t
-at-most-zero (fin k) = zero-le
-at-most-zero inf = tt
-
-empty-fits : (s : Sheet) → ((g : ℕ) → Group s g → s .lo g ≡ 0) → Fits s (numbered 0 (λ g m. false))
-unfolding sets.count sum
-empty-fits s h = record {
-  distinct = record { once = λ i j k l e. e };
-  rules = λ i l. absurd (omega arith);
-  least = λ g q. omega (arith, h g q);
-  most = λ g q. at-most-zero (s .hi g);
-}
 
 -- everybody in every group, n members
 everybody : ℕ → Sets ℕ
@@ -168,12 +184,9 @@ unfolding everybody sets.count sum
 count-everybody zero g = refl
 count-everybody (suc n) g = omega (arith, count-everybody n g)
 
--- the root has the numbers below n, its sons those below a and those from b on
-overlap : ℕ → ℕ → ℕ → Sets ℕ
-overlap n a b = numbered n (λ g m. cond (eqb g 2) (ltb m a) (cond (eqb g 3) (leb b m) true))
-
-pair-sons : (h p g : ℕ) → Son (pair h) p g → (p ≡ 1) × ((g ≡ 2) ⊎ (g ≡ 3))
-pair-sons h = three (pair h) refl refl refl refl
+-- the root has the numbers below n, son t those from b on, the other sons those below a
+overlap : ℕ → ℕ → ℕ → ℕ → Sets ℕ
+overlap t n a b = numbered n (λ g m. cond (eqb g t) (leb b m) (cond (eqb g 1) true (ltb m a)))
 
 no-pair : Possible (pair 3) → ⊥
 unfolding endOf digit
@@ -186,32 +199,6 @@ no-pair w =
       w .1 .least 3 (omega arith),
     )
 
-some-pair : Possible (pair 4)
-unfolding overlap endOf sets.count sum digit
-some-pair = (
-  overlap 4 2 2,
-  record {
-    distinct = record { once = λ i j k l e. e };
-    rules = λ i l. record {
-      inside = λ p g k e. rw (pair-sons 4 p g k .0);
-      equal = λ p g k e. absurd (false≢true (rw (pair-sons 4 p g k .0) at e));
-      covered = λ p q e. absurd (each (λ p. pair 4 .cover p ≡ true → ⊥) (pair 4) refl false≢true false≢true false≢true p q e);
-      apart = λ p g h a b e x y.
-          ⊎-elim
-          (λ (u : g ≡ 2). ⊎-elim (λ (v : h ≡ 2). u ∙ sym v)
-          (λ (v : h ≡ 3). absurd (clash i (rw u at x) (rw v at y))) (pair-sons 4 p h b .1))
-          (λ (u : g ≡ 3). ⊎-elim (λ (v : h ≡ 2). absurd (clash i (rw v at y) (rw u at x)))
-          (λ (v : h ≡ 3). u ∙ sym v) (pair-sons 4 p h b .1))
-          (pair-sons 4 p g a .1);
-    };
-    least = each (λ g. pair 4 .lo g ≤ sets.count (overlap 4 2 2) g) (pair 4) refl (omega arith) (omega arith) (omega arith);
-    most = each (λ g. AtMost (sets.count (overlap 4 2 2) g) (pair 4 .hi g)) (pair 4) refl (omega arith) (omega arith) (omega arith);
-  },
-)
-  where
-    clash : (i : ℕ) → ltb i 2 ≡ true → leb 2 i ≡ true → ⊥
-    clash i x y = omega (arith, ltb-true i 2 x, leb-true 2 i y)
-
 -- a 'cover' group without sons has nobody
 bare : (l : ℕ) (A : Sets ℕ) → Fits (leaf l) A → sets.count A 1 ≡ 0
 unfolding digit
@@ -219,10 +206,7 @@ bare l A w =
     nobody w 1
     (λ M m. not-true-false (M 1)
     (λ x. let c = m .covered 1 (omega arith) refl x in
-    each-two (λ g. leaf l .parent g ≡ 1 → ⊥) (leaf l) (omega arith) (λ e. omega arith) (λ e. omega arith) (c .0) (c .1 .group) (c .1 .under)))
-
-leaf-sets : Fits (leaf 0) (numbered 0 (λ g m. false))
-leaf-sets = empty-fits (leaf 0) (each-two (λ g. leaf 0 .lo g ≡ 0) (leaf 0) (omega arith) refl refl)
+    each (λ g. leaf l .parent g ≡ 1 → ⊥) (leaf l) (λ e. omega arith, tt) (c .0) (c .1 .group) (c .1 .under)))
 
 -- 'same' with 'disjoint' over two sons leaves nobody in any of the three
 twins-nobody : (A : Sets ℕ) → Fits twins A → (g : ℕ) → Group twins g → sets.count A g ≡ 0
@@ -235,10 +219,7 @@ twins-nobody A w =
     omega arith) in
     let son : (g : ℕ) → Son twins 1 g → (M : ℕ → Bool) → Meets twins M → M g ≡ false =
     λ g k M m. not-true-false (M g) (λ x. true-not-false (M 1) (m .inside 1 g k x) (root M m)) in
-    each (λ g. sets.count A g ≡ 0) twins refl (nobody w 1 root) (nobody w 2 (son 2 (omega arith))) (nobody w 3 (son 3 (omega arith)))
-
-twins-sets : Fits twins (numbered 0 (λ g m. false))
-twins-sets = empty-fits twins (each (λ g. twins .lo g ≡ 0) twins refl refl refl refl)
+    each (λ g. sets.count A g ≡ 0) twins (nobody w 1 root, (nobody w 2 (son 2 (omega arith)), (nobody w 3 (son 3 (omega arith)), tt)))
 
 -- everybody in every group fits where no group is 'cover' and a 'disjoint' group has one son at most
 everybody-fits : (s : Sheet) (n : ℕ) → ((p : ℕ) → Group s p → s .cover p ≡ true → ⊥)
@@ -261,21 +242,12 @@ everybody-fits s n no-cover one-son bounds = record {
 single-sets : (k : ℕ) → Fits single (everybody k)
 unfolding endOf digit
 single-sets k =
-    everybody-fits single k (each-two (λ p. single .cover p ≡ true → ⊥) single (omega arith) false≢true false≢true)
-    (λ p g h a b e. only-son g h (a .group) (b .group) (omega (arith, a .above, a .under)) (omega (arith, b .above, b .under)))
-    (each-two (λ g. (single .lo g ≤ k) × AtMost k (single .hi g)) single (omega arith) (zero-le, tt) (zero-le, tt))
+    everybody-fits single k (each (λ p. single .cover p ≡ true → ⊥) single (false≢true, (false≢true, tt)))
+    (λ p g h a b e. only-son p g a ∙ sym (only-son p h b))
+    (each (λ g. (single .lo g ≤ k) × AtMost k (single .hi g)) single ((zero-le, tt), ((zero-le, tt), tt)))
   where
-    only-son : (g h : ℕ) → Group single g → Group single h → 1 ≤ single .parent g → 1 ≤ single .parent h → g ≡ h
-    only-son g h a b =
-        each-two (λ g. 1 ≤ single .parent g → 1 ≤ single .parent h → g ≡ h) single (omega arith) (λ c d. absurd (omega arith))
-        (λ c. each-two (λ h. 1 ≤ single .parent h → 2 ≡ h) single (omega arith) (λ d. absurd (omega arith)) (λ d. refl) h b) g a
-
-forced-sets : Fits forced (everybody 5)
-unfolding endOf digit
-forced-sets =
-    everybody-fits forced 5 (each (λ p. forced .cover p ≡ true → ⊥) forced refl false≢true false≢true false≢true)
-    (λ p g h a b e. absurd (false≢true (rw (three forced refl refl refl refl p g a .0) at e)))
-    (each (λ g. (forced .lo g ≤ 5) × (AtMost 5 (forced .hi g))) forced refl (omega arith) (omega arith) (omega arith))
+    only-son : (p g : ℕ) → Son single p g → g ≡ 2
+    only-son = each-son (λ p g. g ≡ 2) single refl (refl, tt)
 
 -- B has as many as the root and is part of it, so it is the root
 inside-forced : (A : Sets ℕ) → Fits forced A → (i : ℕ) → i < A .bound → groupsOf A i 2 ≡ true → groupsOf A i 3 ≡ true
@@ -288,64 +260,45 @@ inside-forced A w i l x =
     (λ j k. bit-le _ _ (w .rules j k .inside 1 3 (omega arith))) (omega (arith, w .most 1 (omega arith), w .least 3 (omega arith))) i l)))
     (w .rules i l .inside 1 2 (omega arith) x)
 
-shared-sons : (l p g : ℕ) → Son (shared l) p g → (p ≡ 1) × ((g ≡ 2) ⊎ (g ≡ 3))
-shared-sons l = three (shared l) refl refl refl refl
-
--- the counts leave no room for a member in both sons
+-- the counts of `shared 5` leave no room for a member in both sons
 shared-nobody : (A : Sets ℕ) → Fits (shared 5) A → (i : ℕ) → i < A .bound → groupsOf A i 2 ≡ true → groupsOf A i 3 ≡ true → ⊥
-unfolding endOf sets.count digit
+unfolding endOf digit sons isSon sum
 shared-nobody A w i l x y =
-    let e : bit (groupsOf A i 1) ≡ bit (groupsOf A i 2) + bit (groupsOf A i 3) =
-    sum-tight (λ i. bit (groupsOf A i 1)) (λ i. bit (groupsOf A i 2) + bit (groupsOf A i 3)) (A .bound)
-    (λ j k. two-cover (w .rules j k) 1 2 3 (omega arith) (λ g c. shared-sons 5 1 g c .1) refl)
-    (omega (
+    omega (
       arith,
-      sum-add (λ i. bit (groupsOf A i 2)) (λ i. bit (groupsOf A i 3)) (A .bound),
+      cover-room w 1 (omega arith) refl i l,
+      bit-most (groupsOf A i 1),
+      true-bit x,
+      true-bit y,
       w .least 1 (omega arith),
       w .most 2 (omega arith),
       w .most 3 (omega arith),
-    )) i l in
-    omega (arith, bit-most (groupsOf A i 1), true-bit x, true-bit y)
+    )
 
--- sets of l members, 3 of them in the first son, those from b on in the second
-shared-sets : (l b : ℕ) → b ≤ 3 → ((g : ℕ) → Group (shared l) g → shared l .lo g ≤ sets.count (overlap l 3 b) g)
-    → ((g : ℕ) → Group (shared l) g → AtMost (sets.count (overlap l 3 b) g) (shared l .hi g)) → Fits (shared l) (overlap l 3 b)
-unfolding overlap digit
-shared-sets l b h least most = record {
-  distinct = record { once = λ i j k l e. e };
-  rules = λ i k. record {
-    inside = λ p g o e. rw (shared-sons l p g o .0);
-    equal = λ p g o e. absurd (false≢true (rw (shared-sons l p g o .0) at e));
-    covered =
-        each
-        (λ p. shared l .cover p ≡ true → overlap l 3 b .has p i ≡ true → (g : ℕ) × Son (shared l) p g × (overlap l 3 b .has g i ≡ true))
-        (shared l) refl
-        (λ e x. split (ltb i 3) (λ y. (2, omega arith, y)) (λ y. (3, omega arith, le-leb b i (omega (arith, ltb-false i 3 y)))))
-        (λ e. absurd (false≢true e)) (λ e. absurd (false≢true e));
-    apart = λ p g h o j e. absurd (false≢true (rw (shared-sons l p g o .0) at e));
-  };
-  least = least;
-  most = most;
-}
-
-shared-four-sets : Fits (shared 4) (overlap 4 3 2)
-unfolding overlap endOf sets.count sum digit
-shared-four-sets =
-    shared-sets 4 2 (omega arith)
-    (each (λ g. shared 4 .lo g ≤ sets.count (overlap 4 3 2) g) (shared 4) refl (omega arith) (omega arith) (omega arith))
-    (each (λ g. AtMost (sets.count (overlap 4 3 2) g) (shared 4 .hi g)) (shared 4) refl tt (omega arith) (omega arith))
-
-shared-five-sets : Fits (shared 5) (overlap 5 3 3)
-unfolding overlap endOf sets.count sum digit
-shared-five-sets =
-    shared-sets 5 3 (omega arith)
-    (each (λ g. shared 5 .lo g ≤ sets.count (overlap 5 3 3) g) (shared 5) refl (omega arith) (omega arith) (omega arith))
-    (each (λ g. AtMost (sets.count (overlap 5 3 3) g) (shared 5 .hi g)) (shared 5) refl tt (omega arith) (omega arith))
+-- those of `trio` leave none for a member in all three
+trio-nobody : (A : Sets ℕ) → Fits trio A → (i : ℕ) → i < A .bound → every A (2 ∷ 3 ∷ 4 ∷ []) (A .who i) ≡ true → ⊥
+unfolding endOf digit sons isSon sum
+trio-nobody A w i l e =
+    let x = and-true (groupsOf A i 2) (groupsOf A i 3 && (groupsOf A i 4 && true)) e in
+    let y = and-true (groupsOf A i 3) (groupsOf A i 4 && true) (x .1) in
+    let z = and-true (groupsOf A i 4) true (y .1) in
+    omega (
+      arith,
+      cover-room w 1 (omega arith) refl i l,
+      bit-most (groupsOf A i 1),
+      true-bit (x .0),
+      true-bit (y .0),
+      true-bit (z .0),
+      w .least 1 (omega arith),
+      w .most 2 (omega arith),
+      w .most 3 (omega arith),
+      w .most 4 (omega arith),
+    )
 
 endless-sets : (n : ℕ) → Fits endless (everybody n)
 unfolding endOf digit
 endless-sets n =
-    everybody-fits endless n (each-two (λ p. endless .cover p ≡ true → ⊥) endless (omega arith) false≢true false≢true)
+    everybody-fits endless n (each (λ p. endless .cover p ≡ true → ⊥) endless (false≢true, tt))
     (λ p g h a b e. omega (arith, a .group, b .group))
     (λ g q. let one : g ≡ 1 = omega (arith, q) in rw one (zero-le, tt))
 
@@ -354,40 +307,98 @@ count-named : {X : Type 0} (A : Sets X) (g : ℕ) → countNamed A (suc g) ≡ s
 unfolding countNamed sets.count
 count-named A g = refl
 
--- the member that both sons share
-shared-break : Breakable (shared 4) (claimed names (apart (2 ∷ []) (3 ∷ [])))
-unfolding claimed overlap digit
-shared-break = (overlap 4 3 2, shared-four-sets, λ says. says 2 (omega arith) refl refl)
+-- How far a member is from meeting the rules of sons, at the son g of p, and 'cover', at p. On given sets this computes.
+abbrev sonBreach : Sheet → (ℕ → Bool) → ℕ → ℕ → ℕ
+sonBreach s M p g =
+    (bit (M g) - bit (M p)) + (bit (s .same p) + bit (M p) - (1 + bit (M g)))
+    + (cond (s .disjoint p) (sons s p (λ h. bit (M h))) 0 - 1)
+
+abbrev coverBreach : Sheet → (ℕ → Bool) → ℕ → ℕ
+coverBreach s M p = bit (s .cover p) + bit (M p) - (1 + sons s p (λ g. bit (M g)))
+
+meets-by : (s : Sheet) (M : ℕ → Bool) → ((p g : ℕ) → Son s p g → sonBreach s M p g ≡ 0)
+    → ((p : ℕ) → Group s p → coverBreach s M p ≡ 0) → Meets s M
+meets-by s M son cover = record {
+  inside = λ p g k. bit-le-true (M g) (M p) (omega (arith, son p g k));
+  equal = λ p g k e x. bit-true (M g) (omega (arith, son p g k, true-bit e, true-bit x));
+  covered = λ p q e x.
+      let w = sons-locate s p (λ g. bit (M g)) 0 (omega (arith, cover p q, true-bit e, true-bit x)) in
+      (w .0, w .1, bit-true (M (w .0)) (omega arith));
+  apart = λ p g h j k e x y.
+      sons-one (λ h. bit (M h)) j k (omega (arith, rw e at (son p g j))) (omega (arith, true-bit x)) (omega (arith, true-bit y));
+}
+
+-- What computes on given sets of n members: nobody breaks a rule, and every count is within its bounds.
+record Checks (s : Sheet) (n : ℕ) (h : ℕ → ℕ → Bool) : Type 0 where
+  top : s .parent 1 ≡ 0
+  son : From (λ g. sum (λ i. sonBreach s (λ g. h g i) (s .parent g) g) n ≡ 0) 2 (s .size - 1)
+  cover : From (λ p. sum (λ i. coverBreach s (λ g. h g i) p) n ≡ 0) 1 (s .size)
+  counts : From (λ g. (s .lo g ≤ sets.count (numbered n h) g) × AtMost (sets.count (numbered n h) g) (s .hi g)) 1 (s .size)
+
+fits-by : {s : Sheet} {n : ℕ} {h : ℕ → ℕ → Bool} → Checks s n h → Fits s (numbered n h)
+fits-by {s} {n} {h} c = record {
+  distinct = record { once = λ i j a b e. e };
+  rules = λ i l.
+      meets-by s (λ g. h g i)
+      (λ p g k. omega (
+        arith,
+        sum-term (λ i. sonBreach s (λ g. h g i) p g) n i l,
+        each-son (λ p g. sum (λ i. sonBreach s (λ g. h g i) p g) n ≡ 0) s (c .top) (c .son) p g k,
+      ))
+      (λ p q. omega (arith, sum-term (λ i. coverBreach s (λ g. h g i) p) n i l, each _ s (c .cover) p q));
+  least = λ g q. each _ s (c .counts) g q .0;
+  most = λ g q. each _ s (c .counts) g q .1;
+}
+
+trio-possible : Possible trio
+unfolding overlap endOf sets.count sum digit sons isSon
+trio-possible = (overlap 4 2 1 1, fits-by (omega arith))
 
 -- one name alone
 alone : (b : Bool) → (b || false) ≡ true → b ≡ true
 alone b e = or-true b false e (λ x. x) (λ x. absurd (false≢true x))
 
 pub worked : Worked
-unfolding claimed endOf digit
+unfolding claimed overlap everybody endOf digit sons isSon sum sets.count
 worked = record {
   pair-three = no-pair;
-  pair-four = some-pair;
+  pair-four = (overlap 3 4 2 2, fits-by (omega arith));
   leaf-zero = λ k. (
     λ w. sym (w .2) ∙ bare 0 (w .0) (w .1),
-    λ e. (numbered 0 (λ g m. false), leaf-sets, bare 0 _ leaf-sets ∙ sym e),
+    λ e. (everybody 0, fits-by (omega arith), sym e),
   );
   leaf-one = λ w. omega (arith, bare 1 (w .0) (w .1), w .1 .least 1 (omega arith));
   twins-empty = λ g q k. (
     λ w. sym (w .2) ∙ twins-nobody (w .0) (w .1) g q,
-    λ e. (numbered 0 (λ g m. false), twins-sets, twins-nobody _ twins-sets g q ∙ sym e),
+    λ e. (everybody 0, fits-by (omega arith), sym e),
   );
   single-any = λ g q k. (everybody k, single-sets k, count-everybody k g);
   single-equal = λ A w. as-one w 1 2 (λ M m. both-ways _ _ (m .inside 1 2 (omega arith)) (m .equal 1 2 (omega arith) refl));
   forced-inside = (
-    (everybody 5, forced-sets),
+    (everybody 5, fits-by (omega arith)),
     λ w. w .2 (λ i l x. or-left _ false (inside-forced (w .0) (w .1) i l (alone _ x))),
   );
   shared-five = (
-    (overlap 5 3 3, shared-five-sets),
+    (overlap 3 5 3 3, fits-by (omega arith)),
     λ w. w .2 (λ i l x y. shared-nobody (w .0) (w .1) i l (alone _ x) (alone _ y)),
   );
-  shared-four = shared-break;
+  shared-four = (
+    overlap 3 4 3 2,
+    fits-by (omega arith),
+    λ says. says 2 (omega arith) refl refl,
+  );
   endless-below = (everybody 65535, endless-sets 65535, λ says. omega (arith, says .1, count-named (everybody 65535) 0, count-everybody 65535 1));
   endless-any = ((everybody 0, endless-sets 0), λ w. w .2 (zero-le, tt));
+  trio-two = (
+    (overlap 4 2 1 1, fits-by (omega arith), (0, record { listed = omega arith; left = refl; right = refl })),
+    (overlap 3 2 1 1, fits-by (omega arith), (0, record { listed = omega arith; left = refl; right = refl })),
+    (overlap 2 2 1 1, fits-by (omega arith), (0, record { listed = omega arith; left = refl; right = refl })),
+  );
+  trio-three = (trio-possible, λ w. trio-nobody (w .0) (w .1) (w .2 .0) (w .2 .1 .listed) (w .2 .1 .left));
+  trio-empty = (trio-possible, λ w. false≢true (w .2 .1 .left));
+  trio-both = (
+    trio-possible,
+    λ w. let b = groupsOf (w .0) (w .2 .0) 2 in
+        true-not-false b (and-true b true (w .2 .1 .left) .0) (or-false b false (w .2 .1 .right) .0),
+  );
 }

@@ -4,6 +4,7 @@ pub mod Sons
 pub mod Sets
 pub mod Fits
 pub mod Claim
+pub mod Place
 pub mod Rule
 pub mod Shown
 pub mod Part

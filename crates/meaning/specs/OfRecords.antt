@@ -1,5 +1,5 @@
--- What records mean: the sheet of its group records, the claim of a claim record, the sets that a register lists.
--- Document 01, "Records of a sheet", "Meaning" and "Registers".
+-- What records mean: the sheet of its group records, the question of a claim record, the sets that a register lists.
+-- Document 01, "Records of a sheet", "Meaning" and "Registers"; document 02, card 1.
 use Prim.Native.Nat.{ℕ, _-_}
 use mathlib.Core.Bool.{Bool, false, _&&_, _||_}
 use mathlib.Core.List.{List, [], _∷_, map}
@@ -7,11 +7,12 @@ use lib.ListN.{length, getD}
 use lib.Dec.{eqb}
 use Rattle.laws.specs.Digit.{digit}
 use Rattle.wire.specs.Limits.{noEnd}
-use Rattle.wire.specs.SheetFormat.{GroupRecord, NameRecord, ClaimRecord, count, inside, apart, Records}
+use Rattle.wire.specs.SheetFormat.{GroupRecord, NameRecord, ClaimRecord, count, lists, Records}
 use Rattle.wire.specs.RegisterFormat.{Row, inGroup}
 use Rattle.meaning.specs.Sheet.{Sheet, endOf}
 use Rattle.meaning.specs.Sets.{Sets}
-use Rattle.meaning.specs.Claim.{Claim, counted, within, separate}
+use Rattle.meaning.specs.Claim.{counted}
+use Rattle.meaning.specs.Place.{Question, allSay, listsAsk}
 
 -- the record of group g, the groups being numbered from 1
 abbrev pub groupAt : List GroupRecord → ℕ → GroupRecord
@@ -33,14 +34,13 @@ sheetOf gs = record {
 abbrev pub nameGroup : List NameRecord → ℕ → ℕ
 nameGroup ns n = getD ns (n - 1) (record { group = 0; label = [] }) .group
 
--- what a claim record claims, its names replaced by what they mean
-unfoldable pub claimed : List NameRecord → ClaimRecord → Claim
-claimed ns (count n lo hi) = counted (nameGroup ns n) lo (endOf noEnd hi)
-claimed ns (inside l r) = within (map (nameGroup ns) l) (map (nameGroup ns) r)
-claimed ns (apart l r) = separate (map (nameGroup ns) l) (map (nameGroup ns) r)
+-- what a claim record asks, its names replaced by what they mean
+unfoldable pub claimed : List NameRecord → ClaimRecord → Question
+claimed ns (count n lo hi) = allSay (counted (nameGroup ns n) lo (endOf noEnd hi))
+claimed ns (lists k l r) = listsAsk k (map (nameGroup ns) l) (map (nameGroup ns) r)
 
--- claim k of a sheet, the claims being numbered from 1
-abbrev pub claimAt : Records → ℕ → Claim
+-- what claim k of a sheet asks, the claims being numbered from 1
+abbrev pub claimAt : Records → ℕ → Question
 claimAt d k = claimed (d .names) (getD (d .claims) (k - 1) (count 0 0 0))
 
 -- some row of the member has the group's bit

@@ -10,12 +10,12 @@ use lib.Seq.{ext-getD, getD-take, getD-drop}
 use lib.Dec.{eqb}
 use Rattle.wire.specs.Bytes.{u16At, le16}
 use Rattle.wire.specs.Record.{kindOf, Test, refusal, Reading, read, refused, onward}
-use Rattle.wire.specs.SheetFormat.{GroupRecord, NameRecord, headOf, groupOf, nameOf, claimOf, claimTests, leftOf, rightOf}
+use Rattle.wire.specs.SheetFormat.{GroupRecord, NameRecord, listNumber, headOf, groupOf, nameOf, claimOf, claimTests, leftOf, rightOf}
 use Rattle.wire.specs.Encoding.{encodeRecord, encodeClaim}
 use Rattle.wire.specs.Fields.{length-le16s}
 use Rattle.laws.specs.Cases.{split}
 use Rattle.wire.specs.Passing.{passed}
-use Rattle.wire.specs.Sorts.{length-u16s, claim-nonzero, claim-cases, claim-count, claim-inside, claim-apart}
+use Rattle.wire.specs.Sorts.{length-u16s, claim-nonzero, claim-cases, claim-count, claim-lists}
 use Rattle.reading.specs.Tables.{length-tabulate, getD-tabulate}
 use Rattle.reading.specs.Meant.{meantNumber}
 use Rattle.reading.specs.ClaimHeld.{leftNames, rightNames, claimRecord}
@@ -155,8 +155,7 @@ unfolding encodeClaim
 claim-length names b e =
     claim-cases names [] b (passed _ (claim-nonzero names [] b) e)
     (λ k f. rw (claim-count b k) (unfold encodeRecord flatMap le16 in omega arith))
-    (λ k f. rw (claim-inside b k, length-lists 5 (leftOf b) (rightOf b)) (unfold leftOf rightOf in simp length-u16s (omega arith)))
-    (λ k f. rw (claim-apart b k, length-lists 6 (leftOf b) (rightOf b)) (unfold leftOf rightOf in simp length-u16s (omega arith)))
+    (λ k o f. rw (claim-lists b k o, length-lists (listNumber k) (leftOf b) (rightOf b)) (unfold leftOf rightOf in simp length-u16s (omega arith)))
 
 pub claim-bytes : (names : ℕ) {s : List ℕ} {at n : ℕ} {x : Record} {c : Claim} → Handed (claimTests names []) (λ b. claim (claimOf b)) s at x →
     x ≡ record-of.Claim c → n ≡ length (encodeClaim (claimRecord s c)) → n ≡ u16At s at + 2

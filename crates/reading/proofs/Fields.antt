@@ -114,7 +114,7 @@ unfolding claimTests
 claim-alone names cs b = refl
 
 -- the tests of a claim after its frame and kind
-pub claim-past : (names : ℕ) {s : List ℕ} {at len : ℕ} → Led s at 4 6 len →
+pub claim-past : (names : ℕ) {s : List ℕ} {at len : ℕ} → Led s at 4 7 len →
     refusal (claimTests names [] (drop at s)) ≡ refusal (claimBody names (drop at s))
 unfolding refusal claimTests claimBody
 claim-past names w = simp (w .frame, le-leb _ _ (w .least), le-leb _ _ (w .most))

@@ -1,4 +1,5 @@
 pub mod Fields
+pub mod ListKinds
 pub mod Strings
 pub mod Carried
 pub mod Taken

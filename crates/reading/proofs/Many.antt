@@ -15,10 +15,10 @@ use Rattle.wire.specs.Edition.{Edition}
 use Rattle.wire.specs.Record.{after, Test, refusal, Reading, onward}
 pub use Rattle.wire.specs.Passing.{never-read}
 use Rattle.wire.specs.SheetFormat.{GroupRecord, NameRecord, Records, groupOf, groupTests, nameOf}
-use Rattle.wire.specs.SheetFormat.{nameTests, used, claimOf, claimTests, readMany}
+use Rattle.wire.specs.SheetFormat.{nameTests, used, listNumber, claimOf, claimTests, readMany}
 use Rattle.wire.specs.Encoding.{encodeClaim}
 use Rattle.reading.specs.Tables.{tabulate, tabulate-same, groupsIn}
-use Rattle.reading.specs.ClaimHeld.{claimRecord, ClaimHeld}
+use Rattle.reading.specs.ClaimHeld.{listAs, claimRecord, ClaimHeld}
 use Rattle.reading.specs.ClaimTable.{claimNumbers, claimPlace, claimIn, claimsIn, ClaimRoom, ClaimPut}
 use Rattle.reading.specs.Answers.{group, name, claim, WholeName}
 use Rattle.reading.specs.Loaded.{goesOn, passedAs, recordsIn, AllGrouped, AllHeld, Goes}
@@ -30,6 +30,7 @@ use Rattle.reading.specs.declared.records.Name.{Name}
 use Rattle.reading.specs.declared.records.Record.{Record}
 use Rattle.reading.specs.declared.records.Record.the-variants as record-of
 use Rattle.reading.proofs.Fields.{length-at, group-whole, name-apart}
+use Rattle.reading.proofs.ListKinds.{list-back, list-not-count}
 use Rattle.reading.proofs.Carried.{Handed, group-same, name-same, claim-same, claim-bytes}
 
 -- i of the records are the list xs, and reading what is left from the place `at` on is reading the whole
@@ -174,12 +175,9 @@ claim-put : (claims places : List ℕ) (n : ℕ) (c : Claim) → ClaimRoom claim
 unfolding claimIn
 claim-put claims places n (claim-of.Count c) h =
     let f = four-put claims n 4 (c .name .0) (c .lo) (c .hi) (h .numbers) in rw (f .first, f .second, f .third, f .fourth)
-claim-put claims places n (claim-of.Inside l) h =
-    let f = four-put claims n 5 (l .m) (l .n) 0 (h .numbers) in
-    rw (f .first, f .second, f .third, getD-set-same places n (l .at) 0 (h .place))
-claim-put claims places n (claim-of.Apart l) h =
-    let f = four-put claims n 6 (l .m) (l .n) 0 (h .numbers) in
-    rw (f .first, f .second, f .third, getD-set-same places n (l .at) 0 (h .place))
+claim-put claims places n (claim-of.Lists l) h =
+    let f = four-put claims n (listNumber (listAs (l .kind))) (l .m) (l .n) 0 (h .numbers) in
+    rw (f .first, f .second, f .third, getD-set-same places n (l .at) 0 (h .place), list-back (l .kind), list-not-count (l .kind))
 
 module _ {claims places claims-put places-put : List ℕ} {n : ℕ} {c : Claim} (h : ClaimRoom claims places n)
     (w : ClaimPut claims places n c claims-put places-put) where

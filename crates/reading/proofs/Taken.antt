@@ -10,13 +10,14 @@ use lib.ListN.{length, drop, length-drop}
 use lib.Dec.{leb}
 use Rattle.wire.specs.Bytes.{u16At}
 use Rattle.wire.specs.Record.{kindOf, refusal}
-use Rattle.wire.specs.SheetFormat.{u16s, allWithin, leftOf, rightOf, claimTests}
+use Rattle.wire.specs.SheetFormat.{listNumber, u16s, allWithin, leftOf, rightOf, claimTests}
 use Rattle.laws.specs.Cases.{and-true}
 use Rattle.wire.specs.Passing.{Pass, passed}
 use Rattle.wire.specs.Facts.{within-at}
-use Rattle.wire.specs.Sorts.{SidesFrame, claim-nonzero, claim-frame, claim-cases, claim-count, claim-inside, claim-apart}
-use Rattle.reading.specs.ClaimHeld.{ListsHeld}
+use Rattle.wire.specs.Sorts.{SidesFrame, list-within, claim-nonzero, claim-frame, claim-cases, claim-count, claim-lists}
+use Rattle.reading.specs.ClaimHeld.{listAs, ListsHeld}
 use Rattle.reading.specs.Answers.{recordAs, ClaimTaken, ClaimAnswer}
+use Rattle.reading.specs.declared.claim.ListKind.{ListKind}
 use Rattle.reading.specs.declared.claim.Claim.{Claim}
 use Rattle.reading.specs.declared.claim.Claim.the-variants as claim-of
 use Rattle.reading.specs.declared.records.Record.the-variants as record-of
@@ -43,8 +44,8 @@ pub claim-room : (s : List ℕ) (at names : ℕ) → refusal (claimTests names [
 claim-room s at names e =
     let p = passed _ (claim-nonzero names [] (drop at s)) e in
     let w = claim-frame names [] (drop at s) p in
-    claim-cases names [] (drop at s) p (λ k f. omega (arith, length-drop at s)) (λ k f. omega (arith, length-drop at s))
-    (λ k f. omega (arith, length-drop at s))
+    claim-cases names [] (drop at s) p (λ k f. omega (arith, length-drop at s))
+    (λ k e f. omega (arith, length-drop at s))
 
 -- a count
 pub count-taken : (s : List ℕ) (at name lo hi : ℕ) → u16At s (at + 2) ≡ 4 → name ≡ u16At s (at + 4) → lo ≡ u16At s (at + 6) →
@@ -56,11 +57,11 @@ count-taken s at name lo hi k a b c =
       says = rw (claim-count (drop at s) kind, kind, read-at s at 4 name a, read-at s at 6 lo b, read-at s at 8 hi c);
       held = λ names p. claim-cases names [] (drop at s) (passed _ (claim-nonzero names [] (drop at s)) p)
           (λ four f. rw (read-at s at 4 name a) at (within-at names (u16At (drop at s) 4 ∷ []) (f .name) 0 0 (omega arith)))
-          (λ five f. absurd (omega arith)) (λ six f. absurd (omega arith));
+          (λ k e f. absurd (omega (arith, list-within k)));
     }
 
 -- lists
-module _ (s : List ℕ) (at m n : ℕ) (a : m ≡ u16At s (at + 4)) (b : n ≡ u16At s (at + 6)) where
+module _ (s : List ℕ) (at : ℕ) (k : ListKind) (m n : ℕ) (a : m ≡ u16At s (at + 4)) (b : n ≡ u16At s (at + 6)) where
   left-at : leftOf (drop at s) ≡ u16s s (at + 8) m
   unfolding leftOf
   left-at = rw (read-at s at 4 m a) (fields-at s at 8 m)
@@ -70,7 +71,7 @@ module _ (s : List ℕ) (at m n : ℕ) (a : m ≡ u16At s (at + 4)) (b : n ≡ u
   right-at = rw (read-at s at 4 m a, read-at s at 6 n b, fields-at s at (8 + 2 * m) n, add-assoc at 8 (2 * m))
 
   sides-held : (names : ℕ) → Pass (claimTests names [] (drop at s)) → SidesFrame names (drop at s) →
-      ListsHeld s names (record { m = m; n = n; at = at + 8 })
+      ListsHeld s names (record { kind = k; m = m; n = n; at = at + 8 })
   sides-held names p f =
       let w = claim-frame names [] (drop at s) p in
       let x = read-at s at 4 m a in
@@ -86,23 +87,21 @@ module _ (s : List ℕ) (at m n : ℕ) (a : m ≡ u16At s (at + 4)) (b : n ≡ u
       }
 
   lists-held : (u16At s (at + 2) ≡ 4 → ⊥) → (names : ℕ) → refusal (claimTests names [] (drop at s)) ≡ 0 →
-      ListsHeld s names (record { m = m; n = n; at = at + 8 })
-  lists-held k names e =
+      ListsHeld s names (record { kind = k; m = m; n = n; at = at + 8 })
+  lists-held o names e =
       let p = passed _ (claim-nonzero names [] (drop at s)) e in
-      claim-cases names [] (drop at s) p (λ four f. absurd (k (sym (field-at s at 2) ∙ four)))
-      (λ five f. sides-held names p f) (λ six f. sides-held names p f)
+      claim-cases names [] (drop at s) p (λ four f. absurd (o (sym (field-at s at 2) ∙ four)))
+      (λ j e f. sides-held names p f)
 
-  pub inside-taken : u16At s (at + 2) ≡ 5 → ClaimTaken s at (claim-of.Inside (record { m = m; n = n; at = at + 8 }))
+  pub lists-taken : u16At s (at + 2) ≡ listNumber (listAs k)
+      → ClaimTaken s at (claim-of.Lists (record { kind = k; m = m; n = n; at = at + 8 }))
   unfolding recordAs
-  inside-taken k =
-      let kind : kindOf (drop at s) ≡ 5 = field-at s at 2 ∙ k in
-      record { says = rw (claim-inside (drop at s) kind, kind, left-at, right-at); held = lists-held (λ z. omega arith) }
-
-  pub apart-taken : u16At s (at + 2) ≡ 6 → ClaimTaken s at (claim-of.Apart (record { m = m; n = n; at = at + 8 }))
-  unfolding recordAs
-  apart-taken k =
-      let kind : kindOf (drop at s) ≡ 6 = field-at s at 2 ∙ k in
-      record { says = rw (claim-apart (drop at s) kind, kind, left-at, right-at); held = lists-held (λ z. omega arith) }
+  lists-taken e =
+      let kind : kindOf (drop at s) ≡ listNumber (listAs k) = field-at s at 2 ∙ e in
+      record {
+        says = rw (claim-lists (drop at s) (listAs k) kind, kind, left-at, right-at);
+        held = lists-held (λ z. omega (arith, list-within (listAs k)));
+      }
 
 -- the answer to a claim's tests: the first that failed, or the claim
 module _ {names : ℕ} {s : List ℕ} {at : ℕ} where

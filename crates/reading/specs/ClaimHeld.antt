@@ -1,19 +1,32 @@
--- What a claim that the reader hands up stands for: document 01, "Claims", its kind and what its record carries.
+-- What a claim that the reader hands up stands for: document 01, "Claims", and document 02, card 1, its kind and what its
+-- record carries.
 use Prim.Native.Nat.{ℕ, _+_, _*_, _≤_, _<_}
+use mathlib.Core.Bool.{cond}
 use mathlib.Core.List.{List}
 use lib.ListN.{length}
+use lib.Dec.{eqb}
 use Rattle.wire.specs.Limits.{sideLimit}
 use Rattle.wire.specs.Bytes.{u16At}
-use Rattle.wire.specs.SheetFormat.{ClaimRecord, count, inside, apart, u16s}
+use Rattle.wire.specs.SheetFormat.{ListKind, inside, apart, place, listNumber, ClaimRecord, count, lists, u16s}
+use Rattle.reading.specs.declared.claim.ListKind.{ListKind as ListKindRead}
+use Rattle.reading.specs.declared.claim.ListKind.the-variants as kind
 use Rattle.reading.specs.declared.claim.Lists.{Lists}
 use Rattle.reading.specs.declared.claim.Claim.{Claim}
 use Rattle.reading.specs.declared.claim.Claim.the-variants as claim
 
+-- the format's kind of each case, and the case that a number stands for
+abbrev pub listAs : ListKindRead → ListKind
+listAs kind.Inside = inside
+listAs kind.Apart = apart
+listAs kind.Place = place
+
+abbrev pub listRead : ℕ → ListKindRead
+listRead n = cond (eqb n 5) kind.Inside (cond (eqb n 6) kind.Apart kind.Place)
+
 -- document 01's kind of each case
 abbrev pub claimKind : Claim → ℕ
 claimKind (claim.Count c) = 4
-claimKind (claim.Inside l) = 5
-claimKind (claim.Apart l) = 6
+claimKind (claim.Lists l) = listNumber (listAs (l .kind))
 
 -- the left and the right names, which stand in the sheet's bytes s
 abbrev pub leftNames : List ℕ → Lists → List ℕ
@@ -25,8 +38,7 @@ rightNames s l = u16s s (l .at + 2 * l .m) (l .n)
 -- the values of each case
 abbrev pub claimRecord : List ℕ → Claim → ClaimRecord
 claimRecord s (claim.Count c) = count (c .name .0) (c .lo) (c .hi)
-claimRecord s (claim.Inside l) = inside (leftNames s l) (rightNames s l)
-claimRecord s (claim.Apart l) = apart (leftNames s l) (rightNames s l)
+claimRecord s (claim.Lists l) = lists (listAs (l .kind)) (leftNames s l) (rightNames s l)
 
 -- two lists of names of a sheet with `names` names, each number from 1 to `names`
 pub record ListsHeld (s : List ℕ) (names : ℕ) (l : Lists) : Type 0 where
@@ -41,5 +53,4 @@ pub record ListsHeld (s : List ℕ) (names : ℕ) (l : Lists) : Type 0 where
 -- a claim of a sheet with `names` names
 abbrev pub ClaimHeld : List ℕ → ℕ → Claim → Type 0
 ClaimHeld s names (claim.Count c) = (1 ≤ c .name .0) × (c .name .0 ≤ names)
-ClaimHeld s names (claim.Inside l) = ListsHeld s names l
-ClaimHeld s names (claim.Apart l) = ListsHeld s names l
+ClaimHeld s names (claim.Lists l) = ListsHeld s names l

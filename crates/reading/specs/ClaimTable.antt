@@ -6,9 +6,9 @@ use mathlib.Core.List.{List, [], _∷_}
 use lib.ListN.{length, getD, set}
 use lib.Seq.{sets}
 use lib.Dec.{eqb}
-use Rattle.wire.specs.SheetFormat.{ClaimRecord}
+use Rattle.wire.specs.SheetFormat.{listNumber, ClaimRecord}
 use Rattle.reading.specs.Tables.{tabulate, length-tabulate, getD-tabulate}
-use Rattle.reading.specs.ClaimHeld.{claimRecord}
+use Rattle.reading.specs.ClaimHeld.{listAs, listRead, claimRecord}
 use Rattle.reading.specs.declared.claim.Lists.{Lists}
 use Rattle.reading.specs.declared.claim.Claim.{Claim}
 use Rattle.reading.specs.declared.claim.Claim.the-variants as claim
@@ -20,19 +20,21 @@ claimSlots = 4
 -- the kind of a claim, and name, lo and hi of a count, or m, n and 0 of lists
 abbrev pub claimNumbers : Claim → List ℕ
 claimNumbers (claim.Count c) = 4 ∷ c .name .0 ∷ c .lo ∷ c .hi ∷ []
-claimNumbers (claim.Inside l) = 5 ∷ l .m ∷ l .n ∷ 0 ∷ []
-claimNumbers (claim.Apart l) = 6 ∷ l .m ∷ l .n ∷ 0 ∷ []
+claimNumbers (claim.Lists l) = listNumber (listAs (l .kind)) ∷ l .m ∷ l .n ∷ 0 ∷ []
 
 -- where the names of lists stand, 0 for a count
 abbrev pub claimPlace : Claim → ℕ
 claimPlace (claim.Count c) = 0
-claimPlace (claim.Inside l) = l .at
-claimPlace (claim.Apart l) = l .at
+claimPlace (claim.Lists l) = l .at
 
 -- the claim at the place k of the tables
 abbrev pub listsIn : List ℕ → List ℕ → ℕ → Lists
-listsIn claims places k =
-    record { m = getD claims (claimSlots * k + 1) 0; n = getD claims (claimSlots * k + 2) 0; at = getD places k 0 }
+listsIn claims places k = record {
+  kind = listRead (getD claims (claimSlots * k) 0);
+  m = getD claims (claimSlots * k + 1) 0;
+  n = getD claims (claimSlots * k + 2) 0;
+  at = getD places k 0;
+}
 
 unfoldable pub claimIn : List ℕ → List ℕ → ℕ → Claim
 claimIn claims places k =
@@ -42,7 +44,7 @@ claimIn claims places k =
       lo = getD claims (claimSlots * k + 2) 0;
       hi = getD claims (claimSlots * k + 3) 0;
     }))
-    (cond (eqb (getD claims (claimSlots * k) 0) 5) (claim.Inside (listsIn claims places k)) (claim.Apart (listsIn claims places k)))
+    (claim.Lists (listsIn claims places k))
 
 -- the records of the first n claims, whose lists stand in the bytes s
 unfoldable pub claimsIn : List ℕ → List ℕ → List ℕ → ℕ → List ClaimRecord

@@ -7,8 +7,9 @@ ghost use mathlib.Core.Path.{_≡_};
 ghost use mathlib.Core.List.{List};
 ghost use Prim.Native.Nat.{ℕ, _+_, _*_};
 ghost use lib.ListN.{length};
+ghost use Rattle.wire.specs.SheetFormat.{listNumber};
 ghost use Rattle.wire.specs.Encoding.{encodeClaim};
-ghost use Rattle.reading.specs.ClaimHeld.{claimRecord};
+ghost use Rattle.reading.specs.ClaimHeld.{listAs, listRead, claimRecord};
 ghost use Rattle.reading.specs.ClaimTable.{ClaimRoom, ClaimPut, claimIn};
 
 // Kind 4: the set of a name has from lo to hi members, 65535 for no upper end.
@@ -18,8 +19,16 @@ pub struct Count {
     pub hi: u16,
 }
 
-// Kinds 5 and 6: m left names and then n right names, two bytes each, from the place `at` of the sheet on.
+// Kinds 5, 6 and 7.
+pub enum ListKind {
+    Inside,
+    Apart,
+    Place,
+}
+
+// A claim of these kinds: m left names and then n right names, two bytes each, from the place `at` of the sheet on.
 pub struct Lists {
+    pub kind: ListKind,
     pub m: u16,
     pub n: u16,
     pub at: usize,
@@ -27,8 +36,31 @@ pub struct Lists {
 
 pub enum Claim {
     Count(Count),
-    Inside(Lists),
-    Apart(Lists),
+    Lists(Lists),
+}
+
+// the number of a kind
+fn list_number(k: ListKind) -> u16
+    ensures { λ r. ⌜ r ≡ listNumber (listAs k) ⌝ }
+{
+    match k {
+        ListKind::Inside => 5,
+        ListKind::Apart => 6,
+        ListKind::Place => 7,
+    }
+}
+
+// the kind of a number from 5 to 7
+pub fn list_kind(n: u16) -> ListKind
+    ensures { λ r. ⌜ r ≡ listRead n ⌝ }
+{
+    if n == 5 {
+        return ListKind::Inside;
+    }
+    if n == 6 {
+        return ListKind::Apart;
+    }
+    ListKind::Place
 }
 
 fn lists_bytes(l: Lists) -> usize
@@ -43,8 +75,7 @@ pub fn claim_bytes(c: Claim) -> usize
 {
     match c {
         Claim::Count(_) => 10,
-        Claim::Inside(l) => lists_bytes(l),
-        Claim::Apart(l) => lists_bytes(l),
+        Claim::Lists(l) => lists_bytes(l),
     }
 }
 
@@ -59,12 +90,9 @@ pub fn put_claim(claims: &mut [u16], places: &mut [usize], k: usize, c: Claim)
             put_four(claims, at, 4, x.name.0, x.lo, x.hi);
             places[k] = 0;
         }
-        Claim::Inside(l) => {
-            put_four(claims, at, 5, l.m, l.n, 0);
-            places[k] = l.at;
-        }
-        Claim::Apart(l) => {
-            put_four(claims, at, 6, l.m, l.n, 0);
+        Claim::Lists(l) => {
+            let kind = l.kind;
+            put_four(claims, at, list_number(kind), l.m, l.n, 0);
             places[k] = l.at;
         }
     }
@@ -86,13 +114,10 @@ pub fn claim_in(claims: &[u16], places: &[usize], k: usize) -> Claim
             hi: claims[at + 3],
         });
     }
-    let l = Lists {
+    Claim::Lists(Lists {
+        kind: list_kind(kind),
         m: a,
         n: b,
         at: places[k],
-    };
-    if kind == 5 {
-        return Claim::Inside(l);
-    }
-    Claim::Apart(l)
+    })
 }

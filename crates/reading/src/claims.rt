@@ -2,6 +2,7 @@
 use crate::claim::Claim;
 use crate::claim::Count;
 use crate::claim::Lists;
+use crate::claim::list_kind;
 use crate::tables::BOUND;
 use crate::tables::NameNo;
 use crate::tables::SIDE;
@@ -108,7 +109,7 @@ pub fn body_refusal(s: &[u8], at: usize, len: u16, kind: u16, names: u16) -> u32
 
 // the claim of this kind whose record stands at a place
 pub fn take_claim(s: &[u8], at: usize, kind: u16) -> Claim
-    requires { ⌜ (at + 10 ≤ length (now s)) × ((4 ≤ kind) × ((kind ≤ 6) × (u16At (now s) (at + 2) ≡ kind))) ⌝ }
+    requires { ⌜ (at + 10 ≤ length (now s)) × ((4 ≤ kind) × ((kind ≤ 7) × (u16At (now s) (at + 2) ≡ kind))) ⌝ }
     ensures { λ r. ⌜ ClaimTaken (now (s .entry)) at r ⌝ }
 {
     let a = bytes::word(s, at + 4);
@@ -120,13 +121,10 @@ pub fn take_claim(s: &[u8], at: usize, kind: u16) -> Claim
             hi: bytes::word(s, at + 8),
         });
     }
-    let l = Lists {
+    Claim::Lists(Lists {
+        kind: list_kind(kind),
         m: a,
         n: b,
         at: at + 8,
-    };
-    if kind == 5 {
-        return Claim::Inside(l);
-    }
-    Claim::Apart(l)
+    })
 }

@@ -228,7 +228,7 @@ pub fn read_claim(s: &[u8], at: usize, names: u16) -> Answer
     requires { ⌜ at ≤ length (now s) ⌝ }
     ensures { λ r. ⌜ ClaimAnswer names (now (s .entry)) at r ⌝ }
 {
-    let len = frame(s, at, 4, 6);
+    let len = frame(s, at, 4, 7);
     if len < 2 {
         return Answer::Refused(1 + len as u32);
     }

@@ -1,7 +1,7 @@
--- When a claim can be broken, exactly: as a choice for a place (kinds 5 and 6), as sizes under a narrowed bound (kind 4).
+-- When a question has a witness, exactly: as a choice for a place (kinds 5 to 7), as sizes under a narrowed bound (kind 4).
 use Prim.Native.Nat.{ℕ, zero, suc, _+_, _-_, _≤_, _<_}
 use mathlib.Core.Path.{_≡_, refl, sym, _∙_, subst}
-use mathlib.Core.Bool.{Bool, true, false, Bool-discrete, false≢true}
+use mathlib.Core.Bool.{Bool, true, false, _&&_, Bool-discrete, false≢true}
 use mathlib.Core.List.{
   List,
   [],
@@ -16,27 +16,41 @@ use mathlib.Core.List.{
 use mathlib.Core.Logic.{_↔_, _⊎_, inl, inr, ⊎-elim, by-cases}
 use native.Mathlib.Omega.{arith}
 use native.Mathlib.Nat.{le-refl}
+use Rattle.wire.specs.SheetFormat.{ListKind, inside, apart}
+use Rattle.wire.specs.SheetFormat as format
 use Rattle.laws.specs.Sum.{bit}
 use Rattle.meaning.specs.Sheet.{Sheet, Group, Top, fin, inf, AtMost}
 use Rattle.meaning.specs.Tree.{Tree}
 use Rattle.meaning.specs.Sets.{Sets, count}
-use Rattle.meaning.specs.Fits.{Possible, groupsOf}
+use Rattle.meaning.specs.Fits.{Fits, Possible, groupsOf}
 use Rattle.meaning.specs.Claim.{Claim, counted, within, separate, named, union, countNamed, Says, Breaks, Breakable}
+use Rattle.meaning.specs.Place.{every, listsAsk}
 use Rattle.sizes.specs.Balanced.{Choice}
-use Rattle.laws.specs.Cases.{split, compare-le, below-suc, or-true, or-left, or-right, not-true-false, true-not-false}
+use Rattle.laws.specs.Cases.{split, compare-le, below-suc, and-true, or-true, or-left, or-right, not-true-false, true-not-false}
 use Rattle.laws.specs.SumLaws.{sum-zero}
 use Rattle.sizes.specs.Possible.{Sizes, fits-sizes, sizes-sets}
 use Rattle.sizes.specs.Runs.{Starts, runs-first, shown-count}
 use Rattle.meaning.specs.Shown.{shown}
-use Rattle.sizes.specs.ClaimsPlace.{placeIn, AtPlace, flags-placed, place}
+use Rattle.sizes.specs.ClaimsPlace.{placeIn, AtPlace, place}
+use Rattle.sizes.specs.Witness.{Witness, HasWitness, ShownWitness}
 use Rattle.sizes.specs.ClaimsCount.{narrowHi, narrowLo, narrowHi-sizes, narrowLo-sizes}
 
--- Some member is in a set of l, and in a set of r where b is true, in none of r where b is false.
-pub record Meeting {X : Type 0} (A : Sets X) (l r : List ℕ) (b : Bool) : Type 0 where
-  pub member : ℕ
-  pub listed : member < A .bound
-  pub left : union A l (A .who member) ≡ true
-  pub right : union A r (A .who member) ≡ b
+-- A member that answers a claim on two lists: in one left set (kinds 5 and 6) or in every one (kind 7), and in one right set
+-- (kind 6) or in none (kinds 5 and 7).
+abbrev pub leftIn : {X : Type 0} → ListKind → Sets X → List ℕ → X → Bool
+leftIn inside A l x = union A l x
+leftIn apart A l x = union A l x
+leftIn format.place A l x = every A l x
+
+abbrev pub rightIn : ListKind → Bool
+rightIn inside = false
+rightIn apart = true
+rightIn format.place = false
+
+pub record Meeting {X : Type 0} (A : Sets X) (k : ListKind) (l r : List ℕ) (i : ℕ) : Type 0 where
+  pub listed : i < A .bound
+  pub left : leftIn k A l (A .who i) ≡ true
+  pub right : union A r (A .who i) ≡ rightIn k
 
 -- n passes the upper end
 abbrev pub MoreThan : ℕ → Top → Type 0
@@ -46,8 +60,8 @@ MoreThan n inf = ⊥
 -- how sets break a claim
 abbrev pub Fails : {X : Type 0} → Claim → Sets X → Type 0
 Fails (counted g lo hi) A = (countNamed A g < lo) ⊎ MoreThan (countNamed A g) hi
-Fails (within l r) A = Meeting A l r false
-Fails (separate l r) A = Meeting A l r true
+Fails (within l r) A = (i : ℕ) × Meeting A inside l r i
+Fails (separate l r) A = (i : ℕ) × Meeting A apart l r i
 
 end-or-above : (n : ℕ) (u : Top) → AtMost n u ⊎ MoreThan n u
 end-or-above n (fin k) = compare-le n k inl inr
@@ -71,20 +85,21 @@ one-or-all {P} {Q} (suc n) d =
     (d n (le-refl (suc n)))
 
 -- some member meets the lists so, or none does
-meeting-or-none : {X : Type 0} (A : Sets X) (l r : List ℕ) (b : Bool)
-    → Meeting A l r b ⊎ ((i : ℕ) → i < A .bound → union A l (A .who i) ≡ true → union A r (A .who i) ≡ b → ⊥)
-meeting-or-none A l r b =
+meeting-or-none : {X : Type 0} (A : Sets X) (k : ListKind) (l r : List ℕ)
+    → ((i : ℕ) × Meeting A k l r i)
+    ⊎ ((i : ℕ) → i < A .bound → leftIn k A l (A .who i) ≡ true → union A r (A .who i) ≡ rightIn k → ⊥)
+meeting-or-none A k l r =
     ⊎-elim
-    (λ w. inl (record { member = w .0; listed = w .1; left = w .2 .0; right = w .2 .1 }))
+    (λ w. inl (w .0, record { listed = w .1; left = w .2 .0; right = w .2 .1 }))
     inr
-    (one-or-all {P = λ i. (union A l (A .who i) ≡ true) × (union A r (A .who i) ≡ b)} (A .bound) (λ i k. each i))
+    (one-or-all {P = λ i. (leftIn k A l (A .who i) ≡ true) × (union A r (A .who i) ≡ rightIn k)} (A .bound) (λ i j. each i))
   where
-    each : (i : ℕ) → ((union A l (A .who i) ≡ true) × (union A r (A .who i) ≡ b))
-        ⊎ (union A l (A .who i) ≡ true → union A r (A .who i) ≡ b → ⊥)
+    each : (i : ℕ) → ((leftIn k A l (A .who i) ≡ true) × (union A r (A .who i) ≡ rightIn k))
+        ⊎ (leftIn k A l (A .who i) ≡ true → union A r (A .who i) ≡ rightIn k → ⊥)
     each i =
         split
-        (union A l (A .who i))
-        (λ e. by-cases (Bool-discrete (union A r (A .who i)) b) (λ h. inl (e, h)) (λ h. inr (λ x y. h y)))
+        (leftIn k A l (A .who i))
+        (λ e. by-cases (Bool-discrete (union A r (A .who i)) (rightIn k)) (λ h. inl (e, h)) (λ h. inr (λ x y. h y)))
         (λ e. inr (λ x y. true-not-false _ x e))
 
 -- what a claim says of sets is so, or they show how they break it
@@ -99,14 +114,14 @@ says-or-fails (within l r) A =
     ⊎-elim
     inr
     (λ n. inl (λ i k u. split (union A r (A .who i)) (λ e. e) (λ e. absurd (n i k u e))))
-    (meeting-or-none A l r false)
-says-or-fails (separate l r) A = ⊎-elim inr inl (meeting-or-none A l r true)
+    (meeting-or-none A inside l r)
+says-or-fails (separate l r) A = ⊎-elim inr inl (meeting-or-none A apart l r)
 
 pub fails-breaks : {X : Type 0} (c : Claim) (A : Sets X) → Fails c A → Breaks c A
 fails-breaks (counted g lo hi) A w y =
     ⊎-elim (λ x. let z = y .0 in omega arith) (λ x. above-end (countNamed A g) hi x (y .1)) w
-fails-breaks (within l r) A w y = true-not-false _ (y (w .member) (w .listed) (w .left)) (w .right)
-fails-breaks (separate l r) A w y = y (w .member) (w .listed) (w .left) (w .right)
+fails-breaks (within l r) A w y = true-not-false _ (y (w .0) (w .1 .listed) (w .1 .left)) (w .1 .right)
+fails-breaks (separate l r) A w y = y (w .0) (w .1 .listed) (w .1 .left) (w .1 .right)
 
 pub breaks-fails : {X : Type 0} (c : Claim) (A : Sets X) → Breaks c A → Fails c A
 breaks-fails c A n = ⊎-elim (λ y. absurd (n y)) (λ w. w) (says-or-fails c A)
@@ -139,31 +154,41 @@ pub union-none : {X : Type 0} (A : Sets X) (l : List ℕ) (x : X) → ((g : ℕ)
 union-none A l x n =
     not-true-false (union A l x) (λ h. let w = union-has A l x h in true-not-false _ (w .3) (n (w .0) (w .1) (w .2)))
 
+-- in every named set: each name means a group, and the member is in it
+pub every-has : {X : Type 0} (A : Sets X) (l : List ℕ) (x : X) → every A l x ≡ true
+    → (g : ℕ) → List·Memᴰ g l → (1 ≤ g) × (A .has g x ≡ true)
+every-has A [] x h g m = absurd (List·Memᴰ·not-nil m)
+every-has A (zero ∷ l) x h g m = absurd (false≢true h)
+every-has A (suc f ∷ l) x h g m =
+    let w = and-true (A .has (suc f) x) (every A l x) h in
+    ⊎-elim (λ (e : g ≡ suc f). rw e (omega arith, w .0)) (λ o. every-has A l x (w .1) g o) (List·Memᴰ·cases-cons m)
+
+pub has-every : {X : Type 0} (A : Sets X) (l : List ℕ) (x : X) → ((g : ℕ) → List·Memᴰ g l → (1 ≤ g) × (A .has g x ≡ true))
+    → every A l x ≡ true
+has-every A [] x h = refl
+has-every A (g ∷ l) x h =
+    let w = h g (List·Memᴰ·head refl) in
+    rw (named-has A g x (w .0) (w .1), has-every A l x (λ f m. h f (List·Memᴰ·tail m)))
+
 -- every number on the list is 0 or a group of the sheet
 abbrev pub Known : Sheet → List ℕ → Type 0
 Known s l = (g : ℕ) → List·Memᴰ g l → g ≤ s .size
 
--- the claim of kind 5 (false) or 6 (true) on two lists
-abbrev pub lists : Bool → List ℕ → List ℕ → Claim
-lists false l r = within l r
-lists true l r = separate l r
+-- The places of such a member: in a group of l and in none of r (kind 5), in a group of l and in one of r (kind 6), in all
+-- of l and in none of r (kind 7). The empty set, 0, has no member.
+pub data Way (l r : List ℕ) : ListKind → List ℕ → List ℕ → Type 0 where
+  away : {g : ℕ} → List·Memᴰ g l → 1 ≤ g → Way l r inside (g ∷ []) r
+  along : {g h : ℕ} → List·Memᴰ g l → 1 ≤ g → List·Memᴰ h r → 1 ≤ h → Way l r apart (g ∷ h ∷ []) []
+  within-all : ((g : ℕ) → List·Memᴰ g l → 1 ≤ g) → Way l r format.place l r
 
--- The places of a member that breaks it: in a group of l and in none of r (kind 5), in a group of l and in one of r
--- (kind 6). The empty set, 0, has no member.
-pub data Way (l r : List ℕ) : Bool → List ℕ → List ℕ → Type 0 where
-  away : {g : ℕ} → List·Memᴰ g l → 1 ≤ g → Way l r false (g ∷ []) r
-  along : {g h : ℕ} → List·Memᴰ g l → 1 ≤ g → List·Memᴰ h r → 1 ≤ h → Way l r true (g ∷ h ∷ []) []
-
-pub way-meeting : {X : Type 0} {s : Sheet} (A : Sets X) {l r ins outs : List ℕ} {b : Bool} → Known s l → Known s r
-    → Way l r b ins outs → (j : ℕ) → j < A .bound → AtPlace s ins outs (groupsOf A j) → Meeting A l r b
+pub way-meeting : {X : Type 0} {s : Sheet} (A : Sets X) {l r ins outs : List ℕ} {b : ListKind} → Known s l → Known s r
+    → Way l r b ins outs → (j : ℕ) → j < A .bound → AtPlace s ins outs (groupsOf A j) → Meeting A b l r j
 way-meeting A {r = r} k n (away {g = g} m p) j i w = record {
-  member = j;
   listed = i;
   left = has-union A (A .who j) m p (w .held g (List·Memᴰ·head refl) (record { first = p; last = k g m }));
   right = union-none A r (A .who j) (λ h x y. w .kept h x (record { first = y; last = n h x }));
 }
 way-meeting A k n (along {g = g} {h = h} m p o q) j i w = record {
-  member = j;
   listed = i;
   left = has-union A (A .who j) m p (w .held g (List·Memᴰ·head refl) (record { first = p; last = k g m }));
   right =
@@ -174,23 +199,36 @@ way-meeting A k n (along {g = g} {h = h} m p o q) j i w = record {
       q
       (w .held h (List·Memᴰ·tail (List·Memᴰ·head refl)) (record { first = q; last = n h o }));
 }
+way-meeting A {l = l} {r = r} k n (within-all p) j i w = record {
+  listed = i;
+  left = has-every A l (A .who j) (λ g m. (p g m, w .held g m (record { first = p g m; last = k g m })));
+  right = union-none A r (A .who j) (λ h x y. w .kept h x (record { first = y; last = n h x }));
+}
 
-pub meeting-way : {X : Type 0} (s : Sheet) (A : Sets X) (l r : List ℕ) (b : Bool) → (w : Meeting A l r b)
-    → (ins outs : List ℕ) × Way l r b ins outs × AtPlace s ins outs (groupsOf A (w .member))
-meeting-way s A l r false w =
-    let x = A .who (w .member) in
+-- in no named set, in no group on the list
+none-has : {X : Type 0} {s : Sheet} (A : Sets X) {r : List ℕ} (x : X) → union A r x ≡ false → (g : ℕ) → List·Memᴰ g r → Group s g
+    → A .has g x ≡ false
+none-has A x h g m q = not-true-false (A .has g x) (λ e. true-not-false _ (has-union A x m (q .first) e) h)
+
+pub meeting-way : {X : Type 0} (s : Sheet) (A : Sets X) (l r : List ℕ) (b : ListKind) (i : ℕ) → Meeting A b l r i
+    → (ins outs : List ℕ) × Way l r b ins outs × AtPlace s ins outs (groupsOf A i)
+meeting-way s A l r inside i w =
+    let x = A .who i in
     let u = union-has A l x (w .left) in (
       u .0 ∷ [],
       r,
       away (u .1) (u .2),
       record {
         held = λ g m q. let e : g ≡ u .0 = List·Memᴰ·eq-of-singleton m in rw e (u .3);
-        kept = λ g m q.
-            not-true-false (A .has g x) (λ e. true-not-false _ (has-union A x m (q .first) e) (w .right));
+        kept = none-has A x (w .right);
       },
     )
-meeting-way s A l r true w =
-    let x = A .who (w .member) in
+meeting-way s A l r format.place i w =
+    let x = A .who i in
+    let u = every-has A l x (w .left) in
+    (l, r, within-all (λ g m. u g m .0), record { held = λ g m q. u g m .1; kept = none-has A x (w .right) })
+meeting-way s A l r apart i w =
+    let x = A .who i in
     let u = union-has A l x (w .left) in
     let v = union-has A r x (w .right) in (
       u .0 ∷ v .0 ∷ [],
@@ -206,36 +244,36 @@ meeting-way s A l r true w =
       },
     )
 
-meeting-breaks : {X : Type 0} (b : Bool) (l r : List ℕ) (A : Sets X) → Meeting A l r b → Breaks (lists b l r) A
-meeting-breaks false l r A w = fails-breaks (within l r) A w
-meeting-breaks true l r A w = fails-breaks (separate l r) A w
+-- such a member makes the sets a witness, as number 0 one that a reply may show; and every witness has one
+pub meeting-shown : {X : Type 0} (b : ListKind) (l r : List ℕ) (A : Sets X) → Meeting A b l r 0 → ShownWitness (listsAsk b l r) A
+meeting-shown inside l r A w = fails-breaks (within l r) A (0, w)
+meeting-shown apart l r A w = fails-breaks (separate l r) A (0, w)
+meeting-shown format.place l r A w = record { listed = w .listed; left = w .left; right = w .right }
 
-breaks-meeting : {X : Type 0} (b : Bool) (l r : List ℕ) (A : Sets X) → Breaks (lists b l r) A → Meeting A l r b
-breaks-meeting false l r A n = breaks-fails (within l r) A n
-breaks-meeting true l r A n = breaks-fails (separate l r) A n
+meeting-witness : {X : Type 0} (b : ListKind) (l r : List ℕ) (A : Sets X) (i : ℕ) → Meeting A b l r i → Witness (listsAsk b l r) A
+meeting-witness inside l r A i w = fails-breaks (within l r) A (i, w)
+meeting-witness apart l r A i w = fails-breaks (separate l r) A (i, w)
+meeting-witness format.place l r A i w = (i, record { listed = w .listed; left = w .left; right = w .right })
 
--- A claim of kind 5 or 6 can be broken exactly when there is a choice for one of its places.
-pub breakable-lists : {s : Sheet} → Tree s → (b : Bool) (l r : List ℕ) → Known s l → Known s r
-    → Breakable s (lists b l r)
+pub witness-meeting : {X : Type 0} (b : ListKind) (l r : List ℕ) (A : Sets X) → Witness (listsAsk b l r) A → (i : ℕ) × Meeting A b l r i
+witness-meeting inside l r A w = breaks-fails (within l r) A w
+witness-meeting apart l r A w = breaks-fails (separate l r) A w
+witness-meeting format.place l r A w = (w .0, record { listed = w .1 .listed; left = w .1 .left; right = w .1 .right })
+
+-- A claim of kinds 5 to 7 has a witness exactly when there is a choice for one of its places.
+pub witness-lists : {s : Sheet} → Tree s → (b : ListKind) (l r : List ℕ) → Known s l → Known s r
+    → HasWitness s (listsAsk b l r)
     ↔ ((ins outs : List ℕ) × Way l r b ins outs × (f : ℕ → ℕ) × (M : ℕ → Bool) × Choice s (placeIn ins outs) f M)
-breakable-lists {s} t b l r k n = (
+witness-lists {s} t b l r k n = (
   λ w.
-      let m = breaks-meeting b l r (w .0) (w .2) in
-      let v = meeting-way s (w .0) l r b m in
-      let c = place (v .0) (v .1) t .0 (w .0, w .1, m .member, m .listed, v .3) in
+      let m = witness-meeting b l r (w .0) (w .2) in
+      let v = meeting-way s (w .0) l r b (m .0) (m .1) in
+      let c = place (v .0) (v .1) t .0 (w .0, w .1, m .0, m .1 .listed, v .3) in
       (v .0, v .1, v .2, c .0, c .1, c .2),
   λ w.
       let v = place (w .0) (w .1) t .1 (w .3, w .4, w .5) in
-      (v .0, v .1, meeting-breaks b l r (v .0) (way-meeting (v .0) k n (w .2) (v .2) (v .3) (v .4))),
+      (v .0, v .1, meeting-witness b l r (v .0) (v .2) (way-meeting (v .0) k n (w .2) (v .2) (v .3) (v .4))),
 )
-
--- the sets that a choice for such a place shows break the claim, whatever the starts
-pub shown-breaks : {s : Sheet} {l r ins outs : List ℕ} {b : Bool} {f : ℕ → ℕ} {M : ℕ → Bool} → Known s l → Known s r
-    → Way l r b ins outs → Choice s (placeIn ins outs) f M → (st : ℕ → ℕ) (n : ℕ) → 1 ≤ n
-    → Breaks (lists b l r) (shown st f M n)
-shown-breaks {l = l} {r = r} {ins = ins} {outs = outs} {b = b} {f = f} {M = M} k m w c st n i =
-    meeting-breaks b l r (shown st f M n)
-    (way-meeting (shown st f M n) k m w 0 i (flags-placed ins outs M (c .allowed)))
 
 -- kind 4
 pub countNamed-group : {X : Type 0} (A : Sets X) (g : ℕ) → 1 ≤ g → countNamed A g ≡ count A g

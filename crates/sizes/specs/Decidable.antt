@@ -1,16 +1,19 @@
--- Some sets fit a sheet or none do, and some sets fit it and break a claim or none do: for every tree and every claim.
+-- Some sets fit a sheet or none do, and some sets fit it and are a witness or none do: for every tree and every question.
 use Prim.Native.Nat.{ℕ, suc, _+_, _≤_}
-use mathlib.Core.Path.{_≡_, refl, subst}
+use mathlib.Core.Path.{_≡_, refl, sym, subst}
 use mathlib.Core.Bool.{Bool, true, false}
 use mathlib.Core.List.{List, [], _∷_, List·Memᴰ, List·Memᴰ·head, List·Memᴰ·tail, List·Memᴰ·not-nil, List·Memᴰ·cases-cons}
 use mathlib.Core.Logic.{_⊎_, inl, inr, ⊎-elim, by-cases, Iff·symm, Dec·and, Dec·of-iff}
 use native.Mathlib.Omega.{arith}
 use native.Mathlib.Decide.{decLe}
+use Rattle.wire.specs.SheetFormat.{ListKind, inside, apart}
+use Rattle.wire.specs.SheetFormat as format
 use Rattle.laws.specs.Sum.{bit}
 use Rattle.meaning.specs.Sheet.{Sheet, Group, Top, fin, inf}
 use Rattle.meaning.specs.Tree.{Tree}
 use Rattle.meaning.specs.Fits.{Possible}
-use Rattle.meaning.specs.Claim.{Claim, counted, within, separate, Breakable}
+use Rattle.meaning.specs.Claim.{counted, within, separate, Breakable}
+use Rattle.meaning.specs.Place.{Question, allSay, somePlace, listsAsk}
 use Rattle.sizes.specs.Balanced.{Choice}
 use Rattle.sizes.specs.Span.{Span, none, span, In}
 use Rattle.sizes.specs.Ranged.{free}
@@ -19,7 +22,8 @@ use Rattle.sizes.specs.SpanLaws.{Proper}
 use Rattle.sizes.specs.Possible.{Sizes, nowhere, sizes-choice, choice-sizes, possible}
 use Rattle.sizes.specs.ClaimsPlace.{placeIn}
 use Rattle.sizes.specs.Rebound.{tree-rebound}
-use Rattle.sizes.specs.ClaimsMath.{one-or-all, Known, lists, Way, away, along, breakable-lists, High, breakable-counted, breakable-empty}
+use Rattle.sizes.specs.Witness.{HasWitness}
+use Rattle.sizes.specs.ClaimsMath.{one-or-all, Known, Way, away, along, within-all, witness-lists, High, breakable-counted, breakable-empty}
 use Rattle.sizes.specs.Exact.{sound, span-proper, had}
 use Rattle.sizes.specs.MeasuredLaws.{spansOf, spans-measured}
 use Rattle.sizes.specs.PullLaws.{proper-least}
@@ -40,6 +44,14 @@ dec-listed {P} d (x ∷ l) = step (d x) (dec-listed d l)
     step (no n) (yes w) = yes (w .0, List·Memᴰ·tail (w .1), w .2)
     step (no n) (no m) =
         no (λ w. ⊎-elim (λ e. n (subst P e (w .2))) (λ o. m (w .0, o, w .2)) (List·Memᴰ·cases-cons (w .1)))
+
+dec-all : {P : ℕ → Type 0} → ((g : ℕ) → Dec (P g)) → (l : List ℕ) → Dec ((g : ℕ) → List·Memᴰ g l → P g)
+dec-all d [] = yes (λ g m. absurd (List·Memᴰ·not-nil m))
+dec-all {P} d (x ∷ l) =
+    Dec·of-iff (
+      λ w g m. ⊎-elim (λ e. subst P (sym e) (w .0)) (λ o. w .1 g o) (List·Memᴰ·cases-cons m),
+      λ w. (w x (List·Memᴰ·head refl), λ g m. w g (List·Memᴰ·tail m)),
+    ) (Dec·and (d x) (dec-all d l))
 
 -- whether a span has no number, and its least number
 hasNone : Span → Bool
@@ -99,29 +111,34 @@ sizes-dec t =
 possible-dec : {s : Sheet} → Tree s → Dec (Possible s)
 possible-dec t = Dec·of-iff (Iff·symm (possible t)) (sizes-dec t)
 
--- kinds 5 and 6: a place for one of the ways to break the claim
-way-dec : {P : List ℕ → List ℕ → Type 0} → ((ins outs : List ℕ) → Dec (P ins outs)) → (b : Bool) (l r : List ℕ)
+-- kinds 5 to 7: a place for one of the ways
+way-dec : {P : List ℕ → List ℕ → Type 0} → ((ins outs : List ℕ) → Dec (P ins outs)) → (b : ListKind) (l r : List ℕ)
     → Dec ((ins outs : List ℕ) × Way l r b ins outs × P ins outs)
-way-dec {P} d false l r =
+way-dec {P} d inside l r =
     Dec·of-iff (λ w. (w .0 ∷ [], r, away (w .1) (w .2 .0), w .2 .1), λ w. back (w .2) (w .3))
     (dec-listed (λ g. Dec·and (decLe 1 g) (d (g ∷ []) r)) l)
   where
-    back : {ins outs : List ℕ} → Way l r false ins outs → P ins outs → (g : ℕ) × List·Memᴰ g l × ((1 ≤ g) × P (g ∷ []) r)
+    back : {ins outs : List ℕ} → Way l r inside ins outs → P ins outs → (g : ℕ) × List·Memᴰ g l × ((1 ≤ g) × P (g ∷ []) r)
     back (away {g = g} m p) x = (g, m, (p, x))
-way-dec {P} d true l r =
+way-dec {P} d apart l r =
     Dec·of-iff (
       λ w. let v = w .2 .1 in (w .0 ∷ v .0 ∷ [], [], along (w .1) (w .2 .0) (v .1) (v .2 .0), v .2 .1),
       λ w. back (w .2) (w .3),
     )
     (dec-listed (λ g. Dec·and (decLe 1 g) (dec-listed (λ h. Dec·and (decLe 1 h) (d (g ∷ h ∷ []) [])) r)) l)
   where
-    back : {ins outs : List ℕ} → Way l r true ins outs → P ins outs
+    back : {ins outs : List ℕ} → Way l r apart ins outs → P ins outs
         → (g : ℕ) × List·Memᴰ g l × ((1 ≤ g) × ((h : ℕ) × List·Memᴰ h r × ((1 ≤ h) × P (g ∷ h ∷ []) [])))
     back (along {g = g} {h = h} m p o q) x = (g, m, (p, (h, o, (q, x))))
+way-dec {P} d format.place l r =
+    Dec·of-iff (λ w. (l, r, within-all (w .0), w .1), λ w. back (w .2) (w .3)) (Dec·and (dec-all (λ g. decLe 1 g) l) (d l r))
+  where
+    back : {ins outs : List ℕ} → Way l r format.place ins outs → P ins outs → ((g : ℕ) → List·Memᴰ g l → 1 ≤ g) × P l r
+    back (within-all p) x = (p, x)
 
-lists-dec : {s : Sheet} → Tree s → (b : Bool) (l r : List ℕ) → Known s l → Known s r → Dec (Breakable s (lists b l r))
+lists-dec : {s : Sheet} → Tree s → (b : ListKind) (l r : List ℕ) → Known s l → Known s r → Dec (HasWitness s (listsAsk b l r))
 lists-dec t b l r k n =
-    let e = breakable-lists t b l r k n in
+    let e = witness-lists t b l r k n in
     Dec·of-iff (
       λ w. e .1 (w .0, w .1, w .2, w .3 .0, w .3 .1, w .3 .2),
       λ w. let v = e .0 w in (v .0, v .1, v .2, (v .3, v .4, v .5)),
@@ -140,7 +157,7 @@ count-dec {s} t g lo hi l =
     (λ n. Dec·of-iff (Iff·symm (breakable-counted t g lo hi (omega arith)))
     (dec-or (Dec·and (decLe 1 lo) (sizes-dec (tree-rebound s _ _ _ _ t))) (high-dec t g hi)))
 
--- a number that no group of the claim passes
+-- a number that no group of the question passes
 total : List ℕ → ℕ
 total [] = 0
 total (x ∷ l) = x + total l
@@ -150,26 +167,29 @@ unfolding total
 listed-total (List·Memᴰ·head e) = omega arith
 listed-total (List·Memᴰ·tail m) = omega (arith, listed-total m)
 
-reach : Claim → ℕ
-reach (counted g lo hi) = g
-reach (within l r) = total l + total r
-reach (separate l r) = total l + total r
+summed-dec : {s : Sheet} → Tree s → (b : ListKind) (l r : List ℕ) → total l + total r ≤ s .size → Dec (HasWitness s (listsAsk b l r))
+summed-dec t b l r h = lists-dec t b l r (λ g m. omega (arith, listed-total m)) (λ g m. omega (arith, listed-total m))
 
-reached-dec : {s : Sheet} → Tree s → (c : Claim) → reach c ≤ s .size → Dec (Breakable s c)
+reach : Question → ℕ
+reach (allSay (counted g lo hi)) = g
+reach (allSay (within l r)) = total l + total r
+reach (allSay (separate l r)) = total l + total r
+reach (somePlace l r) = total l + total r
+
+reached-dec : {s : Sheet} → Tree s → (q : Question) → reach q ≤ s .size → Dec (HasWitness s q)
 unfolding reach
-reached-dec t (counted g lo hi) h = count-dec t g lo hi h
-reached-dec t (within l r) h =
-    lists-dec t false l r (λ g m. omega (arith, listed-total m)) (λ g m. omega (arith, listed-total m))
-reached-dec t (separate l r) h =
-    lists-dec t true l r (λ g m. omega (arith, listed-total m)) (λ g m. omega (arith, listed-total m))
+reached-dec t (allSay (counted g lo hi)) h = count-dec t g lo hi h
+reached-dec {s} t (allSay (within l r)) h = summed-dec t inside l r h
+reached-dec {s} t (allSay (separate l r)) h = summed-dec t apart l r h
+reached-dec {s} t (somePlace l r) h = summed-dec t format.place l r h
 
 -- Some sets fit or none do.
 pub possible-or-not : {s : Sheet} → Tree s → Possible s ⊎ (Possible s → ⊥)
 possible-or-not t = by-cases (possible-dec t) inl inr
 
--- Some sets fit and break the claim or none do.
-pub breakable-or-not : {s : Sheet} → Tree s → (c : Claim) → Breakable s c ⊎ (Breakable s c → ⊥)
-breakable-or-not t c =
-    by-cases (reached-dec (widened-tree t (reach c)) c (unfold widened in omega arith))
-    (λ w. inl (w .0, widened-fits t (reach c) .1 (w .1), w .2))
-    (λ n. inr (λ w. n (w .0, widened-fits t (reach c) .0 (w .1), w .2)))
+-- Some sets that fit are a witness or none are.
+pub witness-or-not : {s : Sheet} → Tree s → (q : Question) → HasWitness s q ⊎ (HasWitness s q → ⊥)
+witness-or-not t q =
+    by-cases (reached-dec (widened-tree t (reach q)) q (unfold widened in omega arith))
+    (λ w. inl (w .0, widened-fits t (reach q) .1 (w .1), w .2))
+    (λ n. inr (λ w. n (w .0, widened-fits t (reach q) .0 (w .1), w .2)))

@@ -8,6 +8,7 @@ pub mod Runs
 pub mod RunsInWords
 pub mod Possible
 pub mod Rebound
+pub mod Witness
 pub mod ClaimsPlace
 pub mod ClaimsCount
 pub mod ClaimsMath

@@ -17,25 +17,25 @@ use Rattle.wire.specs.Encoding.{Bytes, SheetWithin}
 use Rattle.wire.specs.Facts.{read-right, read-within}
 use Rattle.meaning.specs.Sheet.{Group, endOf}
 use Rattle.meaning.specs.Fits.{Possible}
-use Rattle.meaning.specs.Claim.{Breakable}
 use Rattle.meaning.specs.OfRecords.{sheetOf, claimAt, groupAt}
 use Rattle.meaning.specs.Readable.{root-under-none, lo-most, hi-most, tree-of-right, rooted-of-right, tree-of-readable}
 use Rattle.laws.specs.Cases.{split}
+use Rattle.sizes.specs.Witness.{HasWitness}
 use Rattle.sizes.specs.Bounds.{Small}
 use Rattle.sizes.specs.Ends.{End, end-limit}
-use Rattle.sizes.specs.Decidable.{possible-or-not, breakable-or-not}
+use Rattle.sizes.specs.Decidable.{possible-or-not, witness-or-not}
 use Rattle.sizes.specs.ArrangedOnce.{arrangement-once}
 use Rattle.meaning.specs.Arranged.{ArrangedBottomUp}
 
--- Every readable sheet falls under one case of the contracts: some sets fit or none do (8); some sets fit and break the claim
--- (denied) or none do (holds).
+-- Every readable sheet falls under one case of the contracts: some sets fit or none do (8); some sets that fit are a witness
+-- (shown with the verdict) or none are.
 pub readable-possible-or-not : (b : List ℕ) (d : Records) → readSheet b ≡ read d
     → Possible (sheetOf (d .groups)) ⊎ (Possible (sheetOf (d .groups)) → ⊥)
 readable-possible-or-not b d e = possible-or-not (tree-of-readable b d e)
 
-pub readable-breakable-or-not : (b : List ℕ) (d : Records) → readSheet b ≡ read d → (k : ℕ)
-    → Breakable (sheetOf (d .groups)) (claimAt d k) ⊎ (Breakable (sheetOf (d .groups)) (claimAt d k) → ⊥)
-readable-breakable-or-not b d e k = breakable-or-not (tree-of-readable b d e) (claimAt d k)
+pub readable-witness-or-not : (b : List ℕ) (d : Records) → readSheet b ≡ read d → (k : ℕ)
+    → HasWitness (sheetOf (d .groups)) (claimAt d k) ⊎ (HasWitness (sheetOf (d .groups)) (claimAt d k) → ⊥)
+readable-witness-or-not b d e k = witness-or-not (tree-of-readable b d e) (claimAt d k)
 
 -- The arrangement of a reply to ranges is settled: there is one only.
 pub readable-arrangement-once : (b : List ℕ) (d : Records) → readSheet b ≡ read d → Possible (sheetOf (d .groups))

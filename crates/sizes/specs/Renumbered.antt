@@ -1,13 +1,14 @@
--- Sets over any type of member have the counts of sets whose members are numbers, and these fit where the first do and
--- break the claims that the first break: 'some finite sets' may be read over any type of member.
+-- Sets over any type of member have the counts of sets whose members are numbers, and these fit where the first do, break the
+-- claims that the first break and have a member where the first have one: 'some finite sets' may be read over any type of member.
 use Prim.Native.Nat.{ℕ, zero, suc}
-use mathlib.Core.Path.{_≡_, refl}
+use mathlib.Core.Path.{_≡_, refl, _∙_}
 use mathlib.Core.Bool.{Bool}
 use mathlib.Core.List.{List, [], _∷_}
 use Rattle.meaning.specs.Sheet.{Sheet}
 use Rattle.meaning.specs.Sets.{Sets, Distinct, count, numbered}
 use Rattle.meaning.specs.Fits.{Fits, groupsOf}
 use Rattle.meaning.specs.Claim.{Claim, counted, within, separate, named, union, countNamed, Says, Breaks, Breakable}
+use Rattle.meaning.specs.Place.{every, Placed, Placeable}
 
 -- every member replaced by its number in the list
 abbrev pub renumbered : {X : Type 0} → Sets X → Sets ℕ
@@ -34,6 +35,10 @@ union-renumbered : {X : Type 0} (A : Sets X) (l : List ℕ) (i : ℕ) → union 
 union-renumbered A [] i = refl
 union-renumbered A (g ∷ l) i = rw (named-renumbered A g i, union-renumbered A l i)
 
+every-renumbered : {X : Type 0} (A : Sets X) (l : List ℕ) (i : ℕ) → every (renumbered A) l i ≡ every A l (A .who i)
+every-renumbered A [] i = refl
+every-renumbered A (g ∷ l) i = rw (named-renumbered A g i, every-renumbered A l i)
+
 renumbered-says : {X : Type 0} (c : Claim) (A : Sets X) → Says c (renumbered A) → Says c A
 unfolding countNamed
 renumbered-says (counted g lo hi) A w = simp (named-renumbered A) at w
@@ -43,3 +48,11 @@ renumbered-says (separate l r) A w = λ i k. rw (← union-renumbered A l i, ←
 -- Sets over any type of member that fit and break a claim give such sets of numbers.
 pub renumbered-breaks : {X : Type 0} {s : Sheet} (c : Claim) {A : Sets X} → Fits s A → Breaks c A → Breakable s c
 renumbered-breaks c {A} f n = (renumbered A, renumbered-fits f, λ w. n (renumbered-says c A w))
+
+-- The same of sets with a member in every left set and in no right set.
+pub renumbered-placed : {X : Type 0} {s : Sheet} {l r : List ℕ} {A : Sets X} {i : ℕ} → Fits s A → Placed A l r i → Placeable s l r
+renumbered-placed {l = l} {r = r} {A = A} {i = i} f w = (
+  renumbered A,
+  renumbered-fits f,
+  (i, record { listed = w .listed; left = every-renumbered A l i ∙ w .left; right = union-renumbered A r i ∙ w .right }),
+)

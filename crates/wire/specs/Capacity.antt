@@ -7,7 +7,7 @@ use Rattle.wire.specs.Edition.{Edition, groupLimit, labelLimit}
 abbrev pub groupCapacity : ℕ
 groupCapacity = 128
 
--- bytes of the records of a sheet, length field and kind among them: kind 1 (head), 2 (group), 4 to 6 (claim, the most)
+-- bytes of the records of a sheet, length field and kind among them: kind 1 (head), 2 (group), 4 to 7 (claim, the most)
 abbrev pub headBytes : ℕ
 headBytes = 12
 

@@ -1,5 +1,5 @@
 -- The bytes of records, sheets and registers, and which sheets and registers are within the limits: document 01, "What it reads
--- and gives", "Records of a sheet", "Registers". Definitions only.
+-- and gives", "Records of a sheet", "Registers"; document 02, card 1. Definitions only.
 use Prim.Native.Nat.{ℕ, _+_, _-_, _≤_, _<_}
 use mathlib.Core.Path.{_≡_}
 use mathlib.Core.Bool.{true, false}
@@ -8,7 +8,7 @@ use lib.ListN.{length, getD}
 use Rattle.wire.specs.Limits.{nameLimit, claimLimit, sideLimit, boundLimit, noEnd, modeLimit, rowLimit}
 use Rattle.wire.specs.Edition.{Edition, editionNumber, membershipBytes, groupLimit, labelLimit, rowKind}
 use Rattle.wire.specs.Bytes.{le16, le32}
-use Rattle.wire.specs.SheetFormat.{GroupRecord, NameRecord, ClaimRecord, count, inside, apart, Records}
+use Rattle.wire.specs.SheetFormat.{GroupRecord, NameRecord, listNumber, ClaimRecord, count, lists, Records}
 use Rattle.wire.specs.SheetFormat.{parentAllowed, labelBytes, used, allWithin}
 use Rattle.wire.specs.RegisterFormat.{Row, lastMember, clearAbove}
 
@@ -32,8 +32,7 @@ encodeName n = encodeRecord 3 (le16 (n .group) ++ n .label)
 
 unfoldable pub encodeClaim : ClaimRecord → List ℕ
 encodeClaim (count n lo hi) = encodeRecord 4 (flatMap le16 (n ∷ lo ∷ hi ∷ []))
-encodeClaim (inside l r) = encodeRecord 5 (flatMap le16 (length l ∷ length r ∷ l ++ r))
-encodeClaim (apart l r) = encodeRecord 6 (flatMap le16 (length l ∷ length r ∷ l ++ r))
+encodeClaim (lists k l r) = encodeRecord (listNumber k) (flatMap le16 (length l ∷ length r ∷ l ++ r))
 
 unfoldable pub encodeSheet : Records → List ℕ
 encodeSheet d =
@@ -72,8 +71,7 @@ pub record SideRight (names : ℕ) (l : List ℕ) : Type 0 where
 
 abbrev pub ClaimRight : ℕ → List ClaimRecord → ClaimRecord → Type 0
 ClaimRight names cs (count n lo hi) = (allWithin names (n ∷ []) ≡ true) × (lo ≤ boundLimit)
-ClaimRight names cs (inside l r) = SideRight names l × SideRight names r
-ClaimRight names cs (apart l r) = SideRight names l × SideRight names r
+ClaimRight names cs (lists k l r) = SideRight names l × SideRight names r
 
 -- what reading ensures of any list of numbers
 pub record Right (d : Records) : Type 0 where

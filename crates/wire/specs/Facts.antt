@@ -18,7 +18,7 @@ use Rattle.wire.specs.EditionFacts.{groups-within}
 use Rattle.wire.specs.Bytes.{u16At}
 use Rattle.wire.specs.Record.{lengthOf, after, test, refusal, read}
 use Rattle.wire.specs.SheetFormat.{headTests, groupTests, nameTests, claimTests, headOf, groupOf, nameOf, claimOf}
-use Rattle.wire.specs.SheetFormat.{HeadRecord, GroupRecord, NameRecord, ClaimRecord, count, inside, apart, Records}
+use Rattle.wire.specs.SheetFormat.{HeadRecord, GroupRecord, NameRecord, ClaimRecord, count, lists, Records}
 use Rattle.wire.specs.SheetFormat.{parentAllowed, allWithin, closing, readClaims, readNames, readGroups, readSheet}
 use Rattle.wire.specs.Encoding.{Bytes, Each, none, more, GroupRight, NameRight, Right, SheetWithin}
 use Rattle.laws.specs.Cases.{split, and-true}
@@ -26,7 +26,7 @@ use Rattle.wire.specs.Passing.{Pass, Nonzero, Positive, onward-read, onw
 use Rattle.wire.specs.Many.{Reads, reads-same, empty-of-length, each-at, each-read, kept-read, reads-length, many-read, many-positive}
 use Rattle.wire.specs.Sorts.{HeadRight, head-nonzero, head-right, group-nonzero, group-frame, group-right, name-nonzero}
 use Rattle.wire.specs.Sorts.{name-frame, name-right, claim-nonzero, claim-cases, claim-right, claim-count}
-use Rattle.wire.specs.Sorts.{claim-inside, claim-apart}
+use Rattle.wire.specs.Sorts.{claim-lists}
 
 -- The bytes b are a head, groups, names and claims that pass their tests, and nothing else; they carry d.
 pub record SheetRead (b : List ℕ) (d : Records) : Type 0 where
@@ -181,15 +181,13 @@ group-end gs b k p = u16-most b k 8
 -- upper ends of claims, one behind another and by membership
 abbrev pub ClaimEnd : List ClaimRecord → ClaimRecord → Type 0
 ClaimEnd cs (count n lo hi) = hi ≤ noEnd
-ClaimEnd cs (inside l r) = Unit {0}
-ClaimEnd cs (apart l r) = Unit {0}
+ClaimEnd cs (lists k l r) = Unit {0}
 
 pub each-end : (xs cs : List ClaimRecord) → ((n lo hi : ℕ) → List·Memᴰ (count n lo hi) cs → hi ≤ noEnd) → Each ClaimEnd xs cs
 each-end xs [] h = none
 each-end xs (count n lo hi ∷ cs) h =
     more (h n lo hi (List·Memᴰ·head refl)) (each-end (xs ++ (count n lo hi ∷ [])) cs (λ m l u i. h m l u (List·Memᴰ·tail i)))
-each-end xs (inside l r ∷ cs) h = more tt (each-end (xs ++ (inside l r ∷ [])) cs (λ m l u i. h m l u (List·Memᴰ·tail i)))
-each-end xs (apart l r ∷ cs) h = more tt (each-end (xs ++ (apart l r ∷ [])) cs (λ m l u i. h m l u (List·Memᴰ·tail i)))
+each-end xs (lists k l r ∷ cs) h = more tt (each-end (xs ++ (lists k l r ∷ [])) cs (λ m l u i. h m l u (List·Memᴰ·tail i)))
 
 end-of-each : {xs cs : List ClaimRecord} → Each ClaimEnd xs cs → (n lo hi : ℕ) → List·Memᴰ (count n lo hi) cs → hi ≤ noEnd
 end-of-each none n lo hi i = absurd (List·Memᴰ·not-nil i)
@@ -198,8 +196,7 @@ end-of-each {xs} (more p e) n lo hi i =
 
 claim-end : (names : ℕ) (cs : List ClaimRecord) (b : List ℕ) → Bytes b → Pass (claimTests names cs b) → ClaimEnd cs (claimOf b)
 claim-end names cs b k p =
-    claim-cases names cs b p (λ e f. rw (claim-count b e) (u16-most b k 8)) (λ e f. rw (claim-inside b e) tt)
-    (λ e f. rw (claim-apart b e) tt)
+    claim-cases names cs b p (λ e f. rw (claim-count b e) (u16-most b k 8)) (λ j e f. rw (claim-lists b j e) tt)
 
 -- what was read is within the limits
 pub read-within : (b : List ℕ) → Bytes b → (d : Records) → readSheet b ≡ read d → SheetWithin d
@@ -227,7 +224,7 @@ name-bytes e groups ns b p = omega (arith, name-frame e groups ns b p)
 
 claim-bytes : (names : ℕ) (cs : List ClaimRecord) (b : List ℕ) → Pass (claimTests names cs b) → lengthOf b + 2 ≤ claimBytes
 claim-bytes names cs b p =
-    claim-cases names cs b p (λ e f. omega arith) (λ e f. omega arith) (λ e f. omega arith)
+    claim-cases names cs b p (λ e f. omega arith) (λ k e f. omega arith)
 
 pub readable-length : (b : List ℕ) (d : Records) → readSheet b ≡ read d → length b ≤ sheetLimit (d .edition)
 unfolding after

@@ -16,7 +16,7 @@ use Rattle.wire.specs.Edition.{Edition, editionNumber, editionOf, labelL
 use Rattle.wire.specs.EditionFacts.{edition-back, edition-fits, name-fits}
 use Rattle.wire.specs.Bytes.{u16At, le16}
 use Rattle.wire.specs.Record.{lengthOf, kindOf, after, framed, Test}
-use Rattle.wire.specs.SheetFormat.{HeadRecord, GroupRecord, NameRecord, ClaimRecord, count, inside, apart, Records}
+use Rattle.wire.specs.SheetFormat.{HeadRecord, GroupRecord, NameRecord, ListKind, listNumber, ClaimRecord, count, lists, Records}
 use Rattle.wire.specs.SheetFormat.{headTests, groupTests, nameTests, claimTests, headOf, groupOf, nameOf, claimOf}
 use Rattle.wire.specs.SheetFormat.{u16s, leftOf, rightOf, allWithin, claimLength, claimFields, claimNames}
 use Rattle.wire.specs.Encoding.{Bytes, GroupRight, NameRight, SideRight, ClaimRight, Right}
@@ -24,7 +24,7 @@ use Rattle.wire.specs.Encoding.{encodeRecord, encodeHead, encodeGroup, e
 use Rattle.laws.specs.Cases.{and-true}
 use Rattle.wire.specs.Passing.{Pass}
 use Rattle.wire.specs.Sorts.{Framed, HeadRight, group-frame, name-frame, SidesFrame}
-use Rattle.wire.specs.Sorts.{claim-cases, claim-frame, claim-count, claim-inside, claim-apart, length-u16s, length-label}
+use Rattle.wire.specs.Sorts.{list-within, claim-cases, claim-frame, claim-count, claim-lists, length-u16s, length-label}
 use Rattle.wire.specs.Fields.{Fields, none, more, u16s-drop, u16s-le16s, length-le16, length-le16s, drop-le16, drop-le16s}
 use Rattle.wire.specs.Fields.{length-encoded, kind-encoded, body-encoded, after-encoded, framed-encoded, encode-read}
 use Rattle.wire.specs.Facts.{right-few, parent-right, ClaimEnd}
@@ -37,7 +37,7 @@ pub record FieldsOf (b : List ℕ) (kind : ℕ) (xs c : List ℕ) : Type 0 where
   pub rest : after b ≡ c
   pub fields : u16s b 4 (length xs) ≡ xs
 
-fields-encoded : (kind : ℕ) {xs : List ℕ} → kind ≤ 6 → length xs ≤ 2 + (sideLimit + sideLimit) → Fields xs → (c : List ℕ)
+fields-encoded : (kind : ℕ) {xs : List ℕ} → kind ≤ 7 → length xs ≤ 2 + (sideLimit + sideLimit) → Fields xs → (c : List ℕ)
     → FieldsOf (encodeRecord kind (flatMap le16 xs) ++ c) kind xs c
 fields-encoded kind {xs} k l f c =
     let n = length-le16s xs in
@@ -175,7 +175,7 @@ u16s-append b i (suc m) n =
     let same : i + 2 * suc m ≡ i + 2 + 2 * m = omega arith in
     rw (suc-add m n, u16s-append b (i + 2) m n, same)
 
--- the fields of a claim of kind 5 or 6
+-- the fields of a claim of kinds 5 to 7
 abbrev sides : List ℕ → List ℕ → List ℕ
 sides l r = length l ∷ length r ∷ l ++ r
 
@@ -200,7 +200,7 @@ unfolding encodeClaim
 claim-back names cs b k p =
     let f = claim-frame names cs b p in
     claim-cases names cs b p (λ e s. rw (claim-count b e) (count-back b k f (s .size) e))
-    (λ e s. rw (claim-inside b e) (sides-back names b k f s 5 e)) (λ e s. rw (claim-apart b e) (sides-back names b k f s 6 e))
+    (λ j e s. rw (claim-lists b j e) (sides-back names b k f s (listNumber j) e))
 
 -- names of claims fit two bytes
 within-fields : (n : ℕ) (xs : List ℕ) → n ≤ noEnd → allWithin n xs ≡ true → Fields xs
@@ -226,7 +226,7 @@ append-same (x ∷ xs) (u ∷ us) {ys} {vs} l e =
 append-same [] (u ∷ us) l e = absurd (omega arith)
 append-same (x ∷ xs) [] l e = absurd (omega arith)
 
--- what an encoded claim of kind 5 or 6 has
+-- what an encoded claim of kinds 5 to 7 has
 record SidesOf (b : List ℕ) (l r : List ℕ) : Type 0 where
   pub lefts : u16At b 4 ≡ length l
   pub rights : u16At b 6 ≡ length r
@@ -243,10 +243,10 @@ sides-of b l r e =
     (sym (u16s-append b 8 (length l) (length r)) ∙ rw (length-append l r) at both) in
     record { lefts = m; rights = n; left = rw m (s .0); right = rw (m, n) (s .1) }
 
-sides-passes : (names : ℕ) (cs : List ClaimRecord) (b l r c : List ℕ) (kind : ℕ) → 5 ≤ kind → kind ≤ 6
+sides-passes : (names : ℕ) (cs : List ClaimRecord) (b l r c : List ℕ) (kind : ℕ) → 5 ≤ kind → kind ≤ 7
     → FieldsOf b kind (sides l r) c → SideRight names l → SideRight names r → Pass (claimTests names cs b)
 unfolding claimTests claimLength claimFields claimNames
-sides-passes names cs b l r c kind five six f L R =
+sides-passes names cs b l r c kind five seven f L R =
     let s = sides-of b l r (f .fields) in
     let n = length-append l r in
     let other = ne-eqb kind 4 (omega arith) in
@@ -256,7 +256,7 @@ sides-passes names cs b l r c kind five six f L R =
     let size : 6 + 2 * (length l + length r) ≡ lengthOf b = omega (arith, f .size) in (
       f .frame,
       (
-        rw (f .kind-is, le-leb 4 kind (omega arith), le-leb kind 6 six),
+        rw (f .kind-is, le-leb 4 kind (omega arith), le-leb kind 7 seven),
         (
           rw (f .kind-is, other, eq-eqb _ _ even, le-leb _ _ least, le-leb _ _ most),
           (
@@ -298,14 +298,14 @@ count-passes names cs b c n lo hi f R =
     )
 
 sides-encoded : (names : ℕ) (l r : List ℕ) → names ≤ nameLimit → SideRight names l → SideRight names r
-    → (kind : ℕ) → kind ≤ 6 → (c : List ℕ) → FieldsOf (encodeRecord kind (flatMap le16 (sides l r)) ++ c) kind (sides l r) c
-sides-encoded names l r most L R kind six c =
+    → (kind : ℕ) → kind ≤ 7 → (c : List ℕ) → FieldsOf (encodeRecord kind (flatMap le16 (sides l r)) ++ c) kind (sides l r) c
+sides-encoded names l r most L R kind seven c =
     let some : names ≤ noEnd = omega arith in
     let fields = fields-append (within-fields names l some (L .allowed)) (within-fields names r some (R .allowed)) in
     let size : length (sides l r) ≤ 2 + (sideLimit + sideLimit) = omega (arith, length-append l r, L .last, R .last) in
     let first : length l ≤ noEnd = omega (arith, L .last) in
     let second : length r ≤ noEnd = omega (arith, R .last) in
-    fields-encoded kind six size (more first (more second fields)) c
+    fields-encoded kind seven size (more first (more second fields)) c
 
 count-value : (b c : List ℕ) (n lo hi : ℕ) → FieldsOf b 4 (n ∷ lo ∷ hi ∷ []) c → claimOf b ≡ count n lo hi
 unfolding u16s
@@ -316,16 +316,6 @@ count-value b c n lo hi f =
     let high : u16At b 8 ≡ hi = cc in
     rw (claim-count b (f .kind-is), name, low, high)
 
--- a claim of two sides, of the kind that `made` is read from
-sides-good : (names : ℕ) → names ≤ nameLimit → (cs : List ClaimRecord) (made : List ℕ → List ℕ → ClaimRecord) (l r c : List ℕ)
-    (kind : ℕ) → 5 ≤ kind → kind ≤ 6 → ((b : List ℕ) → kindOf b ≡ kind → claimOf b ≡ made (leftOf b) (rightOf b))
-    → SideRight names l → SideRight names r
-    → Good (claimTests names cs) claimOf (made l r) (encodeRecord kind (flatMap le16 (sides l r)) ++ c) c
-sides-good names most cs made l r c kind five six value L R =
-    let f = sides-encoded names l r most L R kind six c in
-    let s = sides-of _ l r (f .fields) in
-    (sides-passes names cs _ l r c kind five six f L R, value _ (f .kind-is) ∙ rw (s .left, s .right), f .rest)
-
 pub claim-good : (names : ℕ) → names ≤ nameLimit → (cs : List ClaimRecord) (x : ClaimRecord) (c : List ℕ)
     → ClaimRight names cs x → ClaimEnd cs x → Good (claimTests names cs) claimOf x (encodeClaim x ++ c) c
 unfolding encodeClaim
@@ -334,10 +324,11 @@ claim-good names most cs (count n lo hi) c R e =
     let fields = fields-append (within-fields names (n ∷ []) (omega arith) (R .0)) (more low (more e none)) in
     let f = fields-encoded 4 (omega arith) (omega arith) fields c in
     (count-passes names cs _ c n lo hi f R, count-value _ c n lo hi f, f .rest)
-claim-good names most cs (inside l r) c R e =
-    sides-good names most cs inside l r c 5 (omega arith) (omega arith) claim-inside (R .0) (R .1)
-claim-good names most cs (apart l r) c R e =
-    sides-good names most cs apart l r c 6 (omega arith) (omega arith) claim-apart (R .0) (R .1)
+claim-good names most cs (lists k l r) c R e =
+    let w = list-within k in
+    let f = sides-encoded names l r most (R .0) (R .1) (listNumber k) (w .1) c in
+    let s = sides-of _ l r (f .fields) in
+    (sides-passes names cs _ l r c (listNumber k) (w .0) (w .1) f (R .0) (R .1), claim-lists _ k (f .kind-is) ∙ rw (s .left, s .right), f .rest)
 
 -- the head
 abbrev pub headFor : Records → HeadRecord

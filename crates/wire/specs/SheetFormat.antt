@@ -1,4 +1,5 @@
--- The reading of a sheet, to an end or to a refusal: document 01, "Records of a sheet" and "Turned back", 1 to 7.
+-- The reading of a sheet, to an end or to a refusal: document 01, "Records of a sheet" and "Turned back", 1 to 7; document
+-- 02, card 1 (kind 7).
 use Prim.Native.Nat.{ℕ, zero, suc, _+_, _-_, _*_, _%_}
 use mathlib.Core.Bool.{Bool, true, false, cond, _&&_, _||_, not}
 use mathlib.Core.List.{List, [], _∷_, _++_}
@@ -26,11 +27,25 @@ pub record NameRecord : Type 0 where
   pub group : ℕ
   pub label : List ℕ
 
+-- the kinds of claims on two lists of names: 5 and 6 of document 01, 7 of document 02, card 1
+pub data ListKind : Type 0 where
+  inside : ListKind
+  apart : ListKind
+  place : ListKind
+
+-- the number of such a kind, and the kind with the number n: that is so exactly where n is `listNumber (listKindOf n)`
+unfoldable pub listNumber : ListKind → ℕ
+listNumber inside = 5
+listNumber apart = 6
+listNumber place = 7
+
+unfoldable pub listKindOf : ℕ → ListKind
+listKindOf n = cond (eqb n 5) inside (cond (eqb n 6) apart place)
+
 -- the names of a claim are name numbers
 pub data ClaimRecord : Type 0 where
   count : ℕ → ℕ → ℕ → ClaimRecord
-  inside : List ℕ → List ℕ → ClaimRecord
-  apart : List ℕ → List ℕ → ClaimRecord
+  lists : ListKind → List ℕ → List ℕ → ClaimRecord
 
 pub record Records : Type 0 where
   pub edition : Edition
@@ -97,7 +112,7 @@ nameTests e groups ns b =
     ∷ test 6 (not (used ns (nameOf b .label)))
     ∷ []
 
--- Kinds 4, 5 and 6, claims: name, lo, hi; or m, n, m left names, n right names.
+-- Kinds 4 to 7, claims: name, lo, hi (4); or m, n, m left names, n right names (5 to 7).
 -- n fields of two bytes from place i on
 unfoldable pub u16s : List ℕ → ℕ → ℕ → List ℕ
 u16s b i zero = []
@@ -111,7 +126,7 @@ rightOf b = u16s b (8 + 2 * u16At b 4) (u16At b 6)
 
 unfoldable pub claimOf : List ℕ → ClaimRecord
 claimOf b = cond (eqb (kindOf b) 4) (count (u16At b 4) (u16At b 6) (u16At b 8))
-    (cond (eqb (kindOf b) 5) (inside (leftOf b) (rightOf b)) (apart (leftOf b) (rightOf b)))
+    (lists (listKindOf (kindOf b)) (leftOf b) (rightOf b))
 
 -- every number is from 1 to n
 unfoldable pub allWithin : ℕ → List ℕ → Bool
@@ -134,7 +149,7 @@ claimNames names b = cond (eqb (kindOf b) 4) (allWithin names (u16At b 4 ∷ [])
 -- the tests of a claim, in a sheet of `names` names
 unfoldable pub claimTests : ℕ → List ClaimRecord → List ℕ → List Test
 claimTests names cs b =
-    test 1 (framed b) ∷ test 2 (leb 4 (kindOf b) && leb (kindOf b) 6) ∷ test 3 (claimLength b) ∷ test 4 (claimFields b)
+    test 1 (framed b) ∷ test 2 (leb 4 (kindOf b) && leb (kindOf b) 7) ∷ test 3 (claimLength b) ∷ test 4 (claimFields b)
     ∷ test 5 (claimNames names b)
     ∷ []
 

@@ -12,8 +12,8 @@ use Rattle.wire.specs.Edition.{Edition, editionNumber, editionOf, groupL
 use Rattle.wire.specs.Bytes.{u16At}
 use Rattle.wire.specs.Record.{lengthOf, kindOf, framed}
 use Rattle.wire.specs.SheetFormat.{headTests, groupTests, nameTests, claimTests, groupOf, nameOf, claimOf, leftOf, rightOf}
-use Rattle.wire.specs.SheetFormat.{GroupRecord, NameRecord, ClaimRecord, count, inside, apart, u16s, allWithin, claimLength}
-use Rattle.wire.specs.SheetFormat.{claimFields, claimNames}
+use Rattle.wire.specs.SheetFormat.{GroupRecord, NameRecord, ListKind, inside, apart, place, listNumber, listKindOf, ClaimRecord, count, lists}
+use Rattle.wire.specs.SheetFormat.{u16s, allWithin, claimLength, claimFields, claimNames}
 use Rattle.wire.specs.Encoding.{GroupRight, NameRight, SideRight, ClaimRight}
 use Rattle.laws.specs.Cases.{split, and-true}
 use Rattle.wire.specs.Passing.{Pass, Nonzero}
@@ -130,7 +130,7 @@ name-right e groups ns b p =
       new = not-true _ (p .1 .1 .1 .1 .1 .0);
     }
 
--- a claim: its kind, its length, and for kinds 5 and 6 the two sides
+-- a claim: its kind, its length, and for kinds 5 to 7 the two sides
 pub claim-nonzero : (names : ℕ) (cs : List ClaimRecord) (b : List ℕ) → Nonzero (claimTests names cs b)
 unfolding claimTests
 claim-nonzero names cs b = omega arith
@@ -158,13 +158,28 @@ pub claim-frame : (names : ℕ) (cs : List ClaimRecord) (b : List ℕ) → Pass 
 unfolding claimTests
 claim-frame names cs b p = framed-true b (p .0)
 
+-- the kinds of claims on two lists, by their numbers
+pub list-within : (k : ListKind) → (5 ≤ listNumber k) × (listNumber k ≤ 7)
+unfolding listNumber
+list-within inside = omega arith
+list-within apart = omega arith
+list-within place = omega arith
+
+pub list-number : (n : ℕ) → 5 ≤ n → n ≤ 7 → n ≡ listNumber (listKindOf n)
+unfolding listNumber listKindOf
+list-number n five seven =
+    split (eqb n 5)
+    (λ e. rw e (eqb-true n 5 e))
+    (λ d. split (eqb n 6)
+    (λ e. rw (d, e) (eqb-true n 6 e))
+    (λ f. rw (d, f) (omega (arith, eqb-false n 5 d, eqb-false n 6 f))))
+
 -- the cases of a claim that passes
 pub claim-cases {ℓ} : {C : Type ℓ} (names : ℕ) (cs : List ClaimRecord) (b : List ℕ) → Pass (claimTests names cs b)
-    → (kindOf b ≡ 4 → CountFrame names b → C) → (kindOf b ≡ 5 → SidesFrame names b → C)
-    → (kindOf b ≡ 6 → SidesFrame names b → C) → C
+    → (kindOf b ≡ 4 → CountFrame names b → C) → ((k : ListKind) → kindOf b ≡ listNumber k → SidesFrame names b → C) → C
 unfolding claimTests claimLength claimFields claimNames
-claim-cases names cs b p c4 c5 c6 =
-    let s = and-true (leb 4 (kindOf b)) (leb (kindOf b) 6) (p .1 .0) in
+claim-cases names cs b p c4 c5 =
+    let s = and-true (leb 4 (kindOf b)) (leb (kindOf b) 7) (p .1 .0) in
     split (eqb (kindOf b) 4)
     (λ four.
     c4 (eqb-true _ _ four)
@@ -174,15 +189,9 @@ claim-cases names cs b p c4 c5 c6 =
       lo = leb-true _ _ (rw four at (p .1 .1 .1 .0));
     }))
     (λ other.
-    let sides = sides-of (rw other at (p .1 .1 .1 .0)) (rw other at (p .1 .1 .1 .1 .0)) in
-    split (eqb (kindOf b) 5) (λ five. c5 (eqb-true _ _ five) sides)
-    (λ six. c6 (omega (
-      arith,
-      leb-true 4 (kindOf b) (s .0),
-      leb-true (kindOf b) 6 (s .1),
-      eqb-false (kindOf b) 4 other,
-      eqb-false (kindOf b) 5 six,
-    )) sides))
+    let least : 5 ≤ kindOf b = omega (arith, leb-true 4 (kindOf b) (s .0), eqb-false (kindOf b) 4 other) in
+    c5 (listKindOf (kindOf b)) (list-number (kindOf b) least (leb-true (kindOf b) 7 (s .1)))
+    (sides-of (rw other at (p .1 .1 .1 .0)) (rw other at (p .1 .1 .1 .1 .0))))
   where
     sides-of : (leb 1 (u16At b 4) && leb (u16At b 4) sideLimit && leb 1 (u16At b 6) && leb (u16At b 6) sideLimit
         && eqb (6 + 2 * (u16At b 4 + u16At b 6)) (lengthOf b)) ≡ true
@@ -210,13 +219,11 @@ pub claim-count : (b : List ℕ) → kindOf b ≡ 4 → claimOf b ≡ count (u16
 unfolding claimOf
 claim-count b e = rw e
 
-pub claim-inside : (b : List ℕ) → kindOf b ≡ 5 → claimOf b ≡ inside (leftOf b) (rightOf b)
-unfolding claimOf
-claim-inside b e = rw e
-
-pub claim-apart : (b : List ℕ) → kindOf b ≡ 6 → claimOf b ≡ apart (leftOf b) (rightOf b)
-unfolding claimOf
-claim-apart b e = rw e
+pub claim-lists : (b : List ℕ) (k : ListKind) → kindOf b ≡ listNumber k → claimOf b ≡ lists k (leftOf b) (rightOf b)
+unfolding claimOf listNumber listKindOf
+claim-lists b inside e = rw e
+claim-lists b apart e = rw e
+claim-lists b place e = rw e
 
 side-right : (names : ℕ) (b : List ℕ) (i n : ℕ) → 1 ≤ n → n ≤ sideLimit → allWithin names (u16s b i n) ≡ true
     → SideRight names (u16s b i n)
@@ -235,5 +242,4 @@ pub claim-right : (names : ℕ) (cs : List ClaimRecord) (b : List ℕ) → Pass 
     → ClaimRight names cs (claimOf b)
 claim-right names cs b p =
     claim-cases names cs b p (λ k f. rw (claim-count b k) (f .name, f .lo))
-    (λ k f. rw (claim-inside b k) (sides-right names b f))
-    (λ k f. rw (claim-apart b k) (sides-right names b f))
+    (λ k e f. rw (claim-lists b k e) (sides-right names b f))

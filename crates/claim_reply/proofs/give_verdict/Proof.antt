@@ -1,16 +1,18 @@
--- `give_verdict` meets its contract: for either verdict refusal 14, or its records.
+-- `give_verdict` meets its contract: with sets or alone, refusal 14 or the records of this verdict.
 use Prim.Native.Nat.{_+_, _*_}
 use mathlib.Core.Path.{refl, sym, ap, _∙_}
 use native.Mathlib.Omega.{arith}
 use denote.Ref.{now}
 use lib.ListN.{length-replicate}
 use Rattle.wire.specs.Limits.{verdictBytes, shownBytes}
+use Rattle.reading.specs.ClaimHeld.{claimRecord}
 use Rattle.reading.specs.SheetIn.{size-in}
-use Rattle.claims.specs.Verdict.{verdictNumber}
-use Rattle.claims.specs.Named.{asked-speaks}
+use Rattle.claims.specs.Named.{claimMeant, asked-speaks}
 use Rattle.replies.specs.Wrote.{wrote-then}
 use Rattle.replies.proofs.ReplyLaws.{written}
-use Rattle.claim_reply.proofs.DenialLaws.{verdict-in, verdict-kept, denial-in, shows-breakable}
+use Rattle.claims.specs.Decided.{decisionNumber, decisionShows}
+use Rattle.claim_reply.specs.Answering.{answering-answered}
+use Rattle.claim_reply.proofs.SetsLaws.{verdict-in, verdict-kept, sets-in, shows-witness}
 use borrow.Author.Needs.{needs}
 use Rattle.claim_reply.proofs.give_verdict.Statement.{statement}
 use Rattle.claim_reply.proofs.give_verdict.Tie as tie
@@ -33,8 +35,8 @@ decide-requires c κs =
       simp length-replicate room,
     )
 
-enum-told : tie.Need-enum-told
-enum-told c = search needs
+enum-known-d : tie.Need-enum-known-d
+enum-known-d c = search needs
 
 pack-requires : tie.Need-pack-requires
 pack-requires c κs = search needs
@@ -44,15 +46,17 @@ same-length c = search needs
 
 returns : tie.Need-returns
 returns c =
-    let d = c .before .before .before .before .before .before .before .before .before .decide .ensures .0 in
-    let e = ap verdictNumber (c .before .before .enum-told .given .1) in
-    record {
-      holds = λ n. record {
+    let told = c .before .before .before .d .given .1 in
+    let dec = c .before .before .before .before .before .before .before .before .before .before in
+    let a = dec .before .before .before .before .before .before .before .before .before .args in
+    let w = dec .decide .ensures .0 in
+    answering-answered (claimMeant (now (a .names)) (claimRecord (now (a .sheet)) (a .c))) (record {
+      shown = λ h. absurd (w .alone (ap decisionShows told) h);
+      alone = λ n. record {
         short = λ l. record { returned = c .pack .ensures; unchanged = refl };
         replied = λ l. absurd (omega arith);
       };
-      denied = λ b. absurd (d .holds e b);
-    }
+    })
 
 verdict-number-requires : tie.Need-verdict-number-requires
 verdict-number-requires c κs = search needs
@@ -66,8 +70,8 @@ cast-pack c = search needs
 pack-requires-2 : tie.Need-pack-requires-2
 pack-requires-2 c κs = search needs
 
-enum-told-2 : tie.Need-enum-told-2
-enum-told-2 c = search needs
+enum-known-d-2 : tie.Need-enum-known-d-2
+enum-known-d-2 c = search needs
 
 mul-bytes : tie.Need-mul-bytes
 mul-bytes c = search needs
@@ -83,18 +87,18 @@ same-length-2 c = search needs
 
 returns-2 : tie.Need-returns-2
 returns-2 c =
-    let a = c .before .before .before .before .before .before .before .before .before .before .before .before .before .before .before .before .before .before .args in
+    let told = c .before .before .before .d2 .given .1 in
+    let dec = c .before .before .before .before .before .before .before .before .before .before in
+    let a = dec .before .before .before .before .before .before .before .before .before .args in
     let size = size-in (now (a .groups)) (a .size) in
-    let d = c .before .before .before .before .before .before .before .before .before .decide .ensures .0 in
-    let e = ap verdictNumber (c .before .before .enum-told2 .given .1) in
-    let y = d .denied e in
-    record {
-      holds = λ n. absurd (n (shows-breakable y));
-      denied = λ b. record {
+    let w = dec .decide .ensures .0 in
+    answering-answered (claimMeant (now (a .names)) (claimRecord (now (a .sheet)) (a .c))) (record {
+      shown = λ h. record {
         short = λ l. record { returned = c .pack3 .ensures; unchanged = refl };
         replied = λ l. absurd (omega (arith, size));
       };
-    }
+      alone = λ n. absurd (n (shows-witness (w .shown (ap decisionShows told))));
+    })
 
 verdict-number-requires-2 : tie.Need-verdict-number-requires-2
 verdict-number-requires-2 c κs = search needs
@@ -115,7 +119,7 @@ put-sets-requires : tie.Need-put-sets-requires
 put-sets-requires c κs = search needs
 
 cast-pack-2 : tie.Need-cast-pack-2
-cast-pack-2 c = search needs
+cast-pack-2 c = omega (arith, c .before .before .before .before .before .before .before .before .before .before .before .before .before .before .before .before .before .before .before .before .before .before .before .before .before .before .before .before .before .before .pre .0 .small)
 
 pack-requires-4 : tie.Need-pack-requires-4
 pack-requires-4 c κs = search needs
@@ -128,17 +132,19 @@ same-length-4 c = search needs
 
 returns-3 : tie.Need-returns-3
 returns-3 c =
-    let d = c .before .before .before .before .before .before .before .before .before .before .before .before .before .before .decide .ensures .0 in
-    let e = ap verdictNumber (c .before .before .before .before .before .before .before .enum-told .given .1) in
-    let number = c .before .before .before .before .verdict-number .ensures in
-    let w = c .before .before .before .put-verdict .ensures in
-    record {
-      holds = λ n. record {
+    let told = c .before .before .before .before .before .before .before .before .d .given .1 in
+    let dec = c .before .before .before .before .before .before .before .before .before .before .before .before .before .before .before in
+    let a = dec .before .before .before .before .before .before .before .before .before .args in
+    let w = dec .decide .ensures .0 in
+    let n = c .before .before .before .before .verdict-number .ensures in
+    let p = c .before .before .before .put-verdict .ensures in
+    answering-answered (claimMeant (now (a .names)) (claimRecord (now (a .sheet)) (a .c))) (record {
+      shown = λ h. absurd (w .alone (ap decisionShows told) h);
+      alone = λ h. record {
         short = λ l. absurd (omega arith);
-        replied = λ l. (written refl (w .0) (c .pack2 .ensures), verdict-in (number ∙ e) (w .1));
+        replied = λ l. (written refl (p .0) (c .pack2 .ensures), verdict-in (n ∙ (rw told at (w .number))) (p .1));
       };
-      denied = λ b. absurd (d .holds e b);
-    }
+    })
 
 same-length-5 : tie.Need-same-length-5
 same-length-5 c = search needs
@@ -148,25 +154,27 @@ same-length-6 c = search needs
 
 returns-4 : tie.Need-returns-4
 returns-4 c =
-    let s = c .before .before .before .before .before .before .before .before .before .before .before .before .before .before .before .before .before .before .before .before .before .before .before .before .before .before .before .before .before .before in
+    let told = c .before .before .before .before .before .before .before .before .before .before .before .before .before .before .before .d2 .given .1 in
+    let dec = c .before .before .before .before .before .before .before .before .before .before .before .before .before .before .before .before .before .before .before .before .before .before in
+    let s = dec .before .before .before .before .before .before .before .before .before in
     let a = s .args in
     let size = size-in (now (a .groups)) (a .size) in
-    let d = c .before .before .before .before .before .before .before .before .before .before .before .before .before .before .before .before .before .before .before .before .before .decide .ensures .0 in
-    let e = ap verdictNumber (c .before .before .before .before .before .before .before .before .before .before .before .before .before .before .enum-told2 .given .1) in
-    let y = d .denied e in
-    let number = c .before .before .before .before .before .before .before .before .before .before .before .verdict-number2 .ensures in
-    let w = c .before .before .before .before .before .before .before .before .before .before .put-verdict2 .ensures in
+    let w = dec .decide .ensures .0 in
+    let y = w .shown (ap decisionShows told) in
+    let n = c .before .before .before .before .before .before .before .before .before .before .before .verdict-number2 .ensures in
+    let p = c .before .before .before .before .before .before .before .before .before .before .put-verdict2 .ensures in
     let z = c .before .before .before .put-sets .ensures in
-    record {
-      holds = λ n. absurd (n (shows-breakable y));
-      denied = λ b. record {
+    answering-answered (claimMeant (now (a .names)) (claimRecord (now (a .sheet)) (a .c))) (record {
+      shown = λ h. record {
         short = λ l. absurd (omega (arith, size, c .before .before .before .before .before .before .before .before .before .before .before .before .before .if2 .left));
         replied = λ l. (
-          written (ap (λ m. verdictBytes + shownBytes * m) (sym size)) (wrote-then (w .0) (z .0) (omega arith) (omega arith) (omega arith) (omega arith)) (c .pack4 .ensures),
-          denial-in (s .pre .0 .tree) size (s .pre .0 .some) (asked-speaks (now (a .sheet)) (a .c) (s .pre .1)) y (verdict-in (number ∙ e) (verdict-kept (z .0) (w .1))) (z .1),
+          written (ap (λ m. verdictBytes + shownBytes * m) (sym size)) (wrote-then (p .0) (z .0) (omega arith) (omega arith) (omega arith) (omega arith)) (c .pack4 .ensures),
+          sets-in (s .pre .0 .tree) size (s .pre .0 .some) (asked-speaks (now (a .sheet)) (a .c) (s .pre .1)) y
+              (verdict-in (n ∙ (rw told at (w .number))) (verdict-kept (z .0) (p .1))) (z .1),
         );
       };
-    }
+      alone = λ h. absurd (h (shows-witness y));
+    })
 
 pub give-verdict-spec : {M : Type 1} → statement M
 give-verdict-spec =
@@ -176,7 +184,7 @@ give-verdict-spec =
     slice-aggregate-decide-2
     slice-aggregate-decide-3
     decide-requires
-    enum-told
+    enum-known-d
     pack-requires
     same-length
     returns
@@ -184,7 +192,7 @@ give-verdict-spec =
     put-verdict-requires
     cast-pack
     pack-requires-2
-    enum-told-2
+    enum-known-d-2
     mul-bytes
     add-bytes
     pack-requires-3

@@ -1,6 +1,6 @@
 -- `judge_empty` meets its contract.
 use native.Mathlib.Omega.{arith}
-use Rattle.claims.specs.Counts.{empty-kept, empty-judged}
+use Rattle.claims.specs.Counts.{empty-kept, empty-count}
 use borrow.Author.Needs.{needs}
 use Rattle.claims.proofs.count.judge_empty.Statement.{statement}
 use Rattle.claims.proofs.count.judge_empty.Tie as tie
@@ -21,7 +21,7 @@ returns-2 : tie.Need-returns-2
 returns-2 c =
     let c4 = c .before .before .before .before in
     let s = c4 .before .before .before .before .before .before .before in
-    λ hi. empty-judged (s .args .lo) hi (s .pre .grown .tree) (omega arith) (c4 .any-sets .ensures)
+    λ hi. empty-count (s .args .lo) hi (s .pre .grown .tree) (omega arith) (c4 .any-sets .ensures)
 
 pub judge-empty-spec : {M : Type 1} → statement M
 judge-empty-spec =

@@ -1,6 +1,6 @@
 -- `decide` meets its contract.
 use native.Mathlib.Omega.{arith}
-use Rattle.claims.specs.Decided.{denial-shows, decided-denied, decided-holds}
+use Rattle.claims.specs.Decided.{showing-shows, decided-shown, decided-alone}
 use borrow.Author.Needs.{needs}
 use Rattle.claims.proofs.decide.decide.Statement.{statement}
 use Rattle.claims.proofs.decide.decide.Tie as tie
@@ -29,6 +29,9 @@ place-runs-requires c κs =
       top = d .fitting .found .top;
     })
 
+verdict-on-requires : tie.Need-verdict-on-requires
+verdict-on-requires c κs = search needs
+
 same-length : tie.Need-same-length
 same-length c = search needs
 
@@ -43,14 +46,17 @@ same-length-4 c = search needs
 
 returns : tie.Need-returns
 returns c =
-    let c8 = c .before .before .before .before .before .before .before .before in
-    let c15 = c8 .before .before .before .before .before .before .before in
-    let s = c15 .before .before .before .before .before .before .before .before .before .before in
+    let c9 = c .before .before .before .before .before .before .before .before .before in
+    let c16 = c9 .before .before .before .before .before .before .before in
+    let s = c16 .before .before .before .before .before .before .before .before .before .before in
     let w = s .pre .0 .grown in
-    let j = c15 .judge in
-    let d = j .ensures .0 .found (c8 .if1 .taken) in
-    let t = rw (j .ensures .1) at (c .before .before .before .place-runs .ensures) in
-    (decided-denied (denial-shows (w .tree) (w .rooted) d t), j .ensures .1)
+    let j = c16 .judge in
+    let d = j .ensures .0 .found (c9 .if1 .taken) in
+    let t = rw (j .ensures .1) at (c .before .before .before .before .place-runs .ensures) in
+    (decided-shown (c .verdict-on .ensures _ _) (showing-shows (w .tree) (w .rooted) d t), j .ensures .1)
+
+verdict-on-requires-2 : tie.Need-verdict-on-requires-2
+verdict-on-requires-2 c κs = search needs
 
 same-length-5 : tie.Need-same-length-5
 same-length-5 c = search needs
@@ -63,8 +69,8 @@ same-length-7 c = search needs
 
 returns-2 : tie.Need-returns-2
 returns-2 c =
-    let j = c .before .before .before .before .before .before .before .judge in
-    (decided-holds (j .ensures .0 .lacking (c .if1 .left)), j .ensures .1)
+    let j = c .before .before .before .before .before .before .before .before .judge in
+    (decided-alone (c .verdict-on2 .ensures _ _) (j .ensures .0 .lacking (c .before .if1 .left)), j .ensures .1)
 
 pub decide-spec : {M : Type 1} → statement M
 decide-spec =
@@ -73,11 +79,13 @@ decide-spec =
     judge-requires
     slice-aggregate-place-runs
     place-runs-requires
+    verdict-on-requires
     same-length
     same-length-2
     same-length-3
     same-length-4
     returns
+    verdict-on-requires-2
     same-length-5
     same-length-6
     same-length-7

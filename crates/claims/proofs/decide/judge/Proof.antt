@@ -29,14 +29,6 @@ judge-names-requires c κs =
     let s = c .before .before .before .before .before .before .before .before .before .before .before in
     (s .pre .0, rw (c .before .before .before .before .c2 .given .1) at (s .pre .1))
 
-enum-known-c-3 : tie.Need-enum-known-c-3
-enum-known-c-3 c = search needs
-
-judge-names-requires-2 : tie.Need-judge-names-requires-2
-judge-names-requires-2 c κs =
-    let s = c .before .before .before .before .before .before .before .before .before .before .before in
-    (s .pre .0, rw (c .before .before .before .before .c3 .given .1) at (s .pre .1))
-
 same-length : tie.Need-same-length
 same-length c = search needs
 
@@ -69,21 +61,6 @@ returns-2 c =
     let c4 = c .before .before .before .before in
     (rw (c4 .before .before .before .before .before .c2 .given .1) (c4 .judge-names .ensures), refl)
 
-same-length-7 : tie.Need-same-length-7
-same-length-7 c = search needs
-
-same-length-8 : tie.Need-same-length-8
-same-length-8 c = search needs
-
-same-length-9 : tie.Need-same-length-9
-same-length-9 c = search needs
-
-returns-3 : tie.Need-returns-3
-unfolding claimMeant
-returns-3 c =
-    let c4 = c .before .before .before .before in
-    (rw (c4 .before .before .before .before .before .c3 .given .1) (c4 .judge-names2 .ensures), refl)
-
 pub judge-spec : {M : Type 1} → statement M
 judge-spec =
     tie.close
@@ -93,8 +70,6 @@ judge-spec =
     judge-count-requires
     enum-known-c-2
     judge-names-requires
-    enum-known-c-3
-    judge-names-requires-2
     same-length
     same-length-2
     same-length-3
@@ -102,8 +77,4 @@ judge-spec =
     same-length-4
     same-length-5
     same-length-6
-    returns-2
-    same-length-7
-    same-length-8
-    same-length-9
-    returns-3)
+    returns-2)

@@ -1,8 +1,15 @@
 -- `judge_names` meets its contract.
+use mathlib.Core.Path.{sym, _∙_}
+use mathlib.Core.Bool.{true}
 use native.Mathlib.Omega.{arith}
-use Rattle.reading.specs.ClaimHeld.{leftNames, rightNames}
-use Rattle.claims.specs.Named.{meanings, left-side, right-side, left-named, right-named, meanings-listed}
-use Rattle.claims.specs.Judged.{judged-as, says-groups}
+use borrow.Author.Tests.{ltb-true, ltb-false}
+use lib.Dec.{ltb}
+use Rattle.reading.specs.ClaimHeld.{listAs, leftNames, rightNames}
+use Rattle.reading.specs.SheetIn.{size-in}
+use Rattle.laws.specs.Cases.{and-true}
+use Rattle.claims.specs.Groups.{among-short, among-whole}
+use Rattle.claims.specs.Named.{meanings, meant-length, left-side, right-side, left-named, right-named, lists-speak, meanings-listed}
+use Rattle.claims.specs.Ways.{isPlace, tried-judged, empty-judged}
 use borrow.Author.Needs.{needs}
 use Rattle.claims.proofs.decide.judge_names.Statement.{statement}
 use Rattle.claims.proofs.decide.judge_names.Tie as tie
@@ -32,24 +39,38 @@ groups-meant-requires-2 c κs =
     let w = c .before .before .before .before .before .before .before .before .before .before .before .pre .1 in
     (right-side w, omega (arith, w .held .fewRight))
 
-slice-aggregate-judge-lists : tie.Need-slice-aggregate-judge-lists
-slice-aggregate-judge-lists c = search needs
+lacks-member-requires : tie.Need-lacks-member-requires
+lacks-member-requires c κs = search needs
 
-slice-aggregate-judge-lists-2 : tie.Need-slice-aggregate-judge-lists-2
-slice-aggregate-judge-lists-2 c = search needs
+returns : tie.Need-returns
+returns c =
+    let left = c .before .before .before .before .before .before .before .before in
+    let s = left .before .before .before .before .before .before .before in
+    let a = s .args in
+    let l = left .groups-meant .ensures in
+    let n = meant-length (a .sheet .now) (a .l .at) (a .l .m) (a .names .now) in
+    let e = and-true (isPlace (listAs (a .l .kind))) (ltb (left .groups-meant .result) (a .l .m)) (sym (c .before .lacks-member .ensures) ∙ c .if1 .taken) in
+    empty-judged (listAs (a .l .kind)) _ _ (e .0)
+    (among-short _ (omega (arith, n, l .1 .1, ltb-true (left .groups-meant .result) (a .l .m) (e .1))))
 
-judge-lists-requires : tie.Need-judge-lists-requires
-judge-lists-requires c κs =
-    let c5 = c .before .before .before .before .before in
-    let c10 = c5 .before .before .before .before .before in
-    let s = c10 .before .before .before .before .before .before .before in
+slice-aggregate-ask-lists : tie.Need-slice-aggregate-ask-lists
+slice-aggregate-ask-lists c = search needs
+
+slice-aggregate-ask-lists-2 : tie.Need-slice-aggregate-ask-lists-2
+slice-aggregate-ask-lists-2 c = search needs
+
+ask-lists-requires : tie.Need-ask-lists-requires
+ask-lists-requires c κs =
+    let right = c .before .before .before .before .before .before .before in
+    let left = right .before .before .before .before .before in
+    let s = left .before .before .before .before .before .before .before in
     let w = s .pre .1 in
-    let l = c10 .groups-meant .ensures in
-    let r = c5 .groups-meant2 .ensures in (
+    let l = left .groups-meant .ensures in
+    let r = right .groups-meant2 .ensures in (
       s .pre .0,
       (
-        meanings-listed w _ (left-named w) _ _ (omega (arith, l .0, w .held .fewLeft)) (l .1),
-        meanings-listed w _ (right-named w) _ _ (omega (arith, r .0, w .held .fewRight)) (r .1),
+        meanings-listed w _ (left-named w) _ _ (omega (arith, l .0, w .held .fewLeft)) (l .1 .0),
+        meanings-listed w _ (right-named w) _ _ (omega (arith, r .0, w .held .fewRight, right .groups-meant2 .kept .1 .1 .1 .1 .0)) (r .1 .0),
       ),
     )
 
@@ -59,16 +80,24 @@ same-length c = search needs
 same-length-2 : tie.Need-same-length-2
 same-length-2 c = search needs
 
-returns : tie.Need-returns
-returns c =
+returns-2 : tie.Need-returns-2
+returns-2 c =
     let c4 = c .before .before .before .before in
-    let c10 = c4 .before .before .before .before .before .before in
-    let c15 = c10 .before .before .before .before .before in
-    let a = c15 .before .before .before .before .before .before .before .args in
-    judged-as
-    (says-groups (a .apart) (meanings (a .names .now) (leftNames (a .sheet .now) (a .l))) (meanings (a .names .now)
-    (rightNames (a .sheet .now) (a .l))))
-    (rw (c15 .groups-meant .ensures .1, c10 .groups-meant2 .ensures .1) at (c4 .judge-lists .ensures))
+    let else = c4 .before .before .before .before .before in
+    let right = else .before .before .before in
+    let left = right .before .before .before .before .before in
+    let s = left .before .before .before .before .before .before .before in
+    let a = s .args in
+    let w = s .pre .1 in
+    let l = left .groups-meant .ensures in
+    let size = size-in (a .groups .now) (a .size) in
+    let n = meant-length (a .sheet .now) (a .l .at) (a .l .m) (a .names .now) in
+    tried-judged (listAs (a .l .kind)) (meanings (a .names .now) (leftNames (a .sheet .now) (a .l))) (meanings (a .names .now)
+    (rightNames (a .sheet .now) (a .l)))
+    (λ e. let f = rw e at (sym (else .before .lacks-member .ensures) ∙ else .if1 .left) in
+    among-whole _ (omega (arith, n, l .1 .1, ltb-false (left .groups-meant .result) (a .l .m) f)))
+    (λ g m. omega (arith, size, lists-speak w .0 g m)) (λ g m. omega (arith, size, lists-speak w .1 g m))
+    (rw (l .1 .0, right .groups-meant2 .ensures .1 .0) at (c4 .ask-lists .ensures))
 
 pub judge-names-spec : {M : Type 1} → statement M
 judge-names-spec =
@@ -81,9 +110,11 @@ judge-names-spec =
     add-groups-meant
     slice-aggregate-groups-meant-2
     groups-meant-requires-2
-    slice-aggregate-judge-lists
-    slice-aggregate-judge-lists-2
-    judge-lists-requires
+    lacks-member-requires
+    returns
+    slice-aggregate-ask-lists
+    slice-aggregate-ask-lists-2
+    ask-lists-requires
     same-length
     same-length-2
-    returns)
+    returns-2)

@@ -1,10 +1,10 @@
 -- `ask_left` meets its contract. Apart: none of the first j groups shares a member with g.
 use Prim.Native.Nat.{_-_, _≤_}
 use mathlib.Core.Path.{_≡_, refl, _∙_}
-use mathlib.Core.Bool.{true}
 use mathlib.Core.List.{[], _∷_}
 use native.Mathlib.Omega.{arith}
 use lib.ListN.{length, take}
+use Rattle.wire.specs.SheetFormat.{apart}
 use Rattle.reading.specs.SheetIn.{sheetIn}
 use Rattle.claims.specs.Witnessed.{witnessed-no}
 use Rattle.claims.specs.Groups.{listed-group}
@@ -14,12 +14,12 @@ use Rattle.claims.proofs.lists.ask_left.Statement.{statement}
 use Rattle.claims.proofs.lists.ask_left.Tie as tie
 
 abbrev Inv-loop : tie.InvT-loop
-Inv-loop apart groups size g right n sizes₀ marks₀ j₀ sizes marks j =
+Inv-loop shared groups size g right n sizes₀ marks₀ j₀ sizes marks j =
     (j ≤ n) × (length sizes ≡ length sizes₀) × (length marks ≡ length marks₀)
-    × (WayHad (sheetIn groups size) true (g .0 ∷ []) (take j right) → ⊥)
+    × (WayHad (sheetIn groups size) apart (g .0 ∷ []) (take j right) → ⊥)
 
 abbrev μ-loop : tie.MeasureT-loop
-μ-loop apart groups size g right n sizes₀ marks₀ j₀ sizes marks j = n - j
+μ-loop shared groups size g right n sizes₀ marks₀ j₀ sizes marks j = n - j
 
 loop-holds : tie.Need-loop-holds Inv-loop μ-loop
 loop-holds c =
@@ -110,7 +110,7 @@ same-length-6 : tie.Need-same-length-6 Inv-loop μ-loop
 same-length-6 c = search needs
 
 returns-3 : tie.Need-returns-3 Inv-loop μ-loop
-returns-3 c = inside-tried (search needs) (omega arith) (c .before .before .before .before .ask-place .ensures)
+returns-3 c = inside-tried {b = c .before .before .before .before .before .before .before .before .before .before .before .before .before .args .shared} (search needs) (omega arith) (c .before .before .before .before .ask-place .ensures)
 
 pub ask-left-spec : {M : Type 1} → statement M
 ask-left-spec =

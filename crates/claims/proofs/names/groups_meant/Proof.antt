@@ -7,7 +7,7 @@ use borrow.Author.Needs.{needs}
 use lib.ListN.{length, take}
 use Rattle.wire.specs.SheetFormat.{u16s}
 use Rattle.runs.specs.Told.{numberIn}
-use Rattle.claims.specs.Groups.{groupsAmong}
+use Rattle.claims.specs.Groups.{groupsAmong, listed-length}
 use Rattle.claims.specs.Named.{meanings, meant-first, meant-next, meant-last}
 use Rattle.claims.proofs.names.groups_meant.Statement.{statement}
 use Rattle.claims.proofs.names.groups_meant.Tie as tie
@@ -78,7 +78,8 @@ returns c =
     let at = c .before in
     let s = at .before .before .before .before in
     let v = at .loop .inv in
-    (omega arith, meant-last (s .args .sheet .now) (s .args .from) (s .args .n) (at .loop .i) (s .args .names .now) _ _ (omega arith) (v .3))
+    let e = meant-last (s .args .sheet .now) (s .args .from) (s .args .n) (at .loop .i) (s .args .names .now) _ _ (omega arith) (v .3) in
+    (omega arith, (e, listed-length (at .loop .list) _ (at .loop .k) (omega (arith, v .0, v .1, v .2, s .pre .1)) e))
 
 pub groups-meant-spec : {M : Type 1} → statement M
 groups-meant-spec =

@@ -1,4 +1,4 @@
--- `claim_bytes` meets its contract, by the three cases.
+-- `claim_bytes` meets its contract, by the two cases.
 use mathlib.Core.List.{flatMap}
 use Rattle.wire.specs.Bytes.{le16}
 use Rattle.wire.specs.Encoding.{encodeRecord, encodeClaim}
@@ -6,6 +6,9 @@ use Rattle.reading.proofs.Carried.{lists-bytes}
 use borrow.Author.Needs.{needs}
 use Rattle.reading.proofs.claim.claim_bytes.Statement.{statement}
 use Rattle.reading.proofs.claim.claim_bytes.Tie as tie
+use Rattle.reading.proofs.claim.claim_bytes.Reads as reads
+use Rattle.reading.proofs.claim.claim_bytes.Lts as lts
+use Rattle.reading.proofs.claim.lists_bytes.Reads as lists-bytes-reads
 
 enum-told : tie.Need-enum-told
 enum-told c = search needs
@@ -16,33 +19,14 @@ enum-known-c c = search needs
 lists-bytes-requires : tie.Need-lists-bytes-requires
 lists-bytes-requires c κs = search needs
 
-enum-known-c-2 : tie.Need-enum-known-c-2
-enum-known-c-2 c = search needs
-
-lists-bytes-requires-2 : tie.Need-lists-bytes-requires-2
-lists-bytes-requires-2 c κs = search needs
-
 returns : tie.Need-returns
 unfolding encodeClaim encodeRecord flatMap le16
 returns c = λ s. rw (c .enum-told .given .1)
 
 returns-2 : tie.Need-returns-2
 unfolding encodeClaim
-returns-2 c = λ s. rw (c .before .before .c .given .1, lists-bytes s 5) (c .lists-bytes .ensures)
-
-returns-3 : tie.Need-returns-3
-unfolding encodeClaim
-returns-3 c = λ s. rw (c .before .before .c2 .given .1, lists-bytes s 6) (c .lists-bytes2 .ensures)
+returns-2 c = λ s. rw (c .before .before .c .given .1, lists-bytes s _) (c .lists-bytes .ensures)
 
 pub claim-bytes-spec : {M : Type 1} → statement M
 claim-bytes-spec =
-    tie.close
-    (tie.spec
-    enum-told
-    enum-known-c
-    lists-bytes-requires
-    enum-known-c-2
-    lists-bytes-requires-2
-    returns
-    returns-2
-    returns-3)
+    tie.close (tie.spec enum-told enum-known-c lists-bytes-requires returns returns-2)

@@ -1,9 +1,12 @@
--- `claim_in` meets its contract: the kind tells the three cases apart.
+-- `claim_in` meets its contract: the kind tells the two cases apart.
 use borrow.Author.Tests.{eq-eqb, ne-eqb}
 use Rattle.reading.specs.ClaimTable.{claimIn}
 use borrow.Author.Needs.{needs}
 use Rattle.reading.proofs.claim.claim_in.Statement.{statement}
 use Rattle.reading.proofs.claim.claim_in.Tie as tie
+use Rattle.reading.proofs.claim.claim_in.Reads as reads
+use Rattle.reading.proofs.claim.claim_in.Lts as lts
+use Rattle.reading.proofs.claim.list_kind.Reads as list-kind-reads
 
 mul-at : tie.Need-mul-at
 mul-at c = search needs
@@ -32,32 +35,31 @@ mul-b c = search needs
 shared-slice-read-b : tie.Need-shared-slice-read-b
 shared-slice-read-b c = search needs
 
-add-t17 : tie.Need-add-t17
-add-t17 c = search needs
+add-t16 : tie.Need-add-t16
+add-t16 c = search needs
 
-mul-t18 : tie.Need-mul-t18
-mul-t18 c = search needs
+mul-t17 : tie.Need-mul-t17
+mul-t17 c = search needs
 
-shared-slice-read-t20 : tie.Need-shared-slice-read-t20
-shared-slice-read-t20 c = search needs
+shared-slice-read-t19 : tie.Need-shared-slice-read-t19
+shared-slice-read-t19 c = search needs
 
 returns : tie.Need-returns
 unfolding claimIn
 returns c = simp (eq-eqb _ _ (c .before .if1 .taken))
 
-mul-t9 : tie.Need-mul-t9
-mul-t9 c = search needs
+list-kind-requires : tie.Need-list-kind-requires
+list-kind-requires c κs = search needs
 
-shared-slice-read-t12 : tie.Need-shared-slice-read-t12
-shared-slice-read-t12 c = search needs
+mul-t8 : tie.Need-mul-t8
+mul-t8 c = search needs
+
+shared-slice-read-t11 : tie.Need-shared-slice-read-t11
+shared-slice-read-t11 c = search needs
 
 returns-2 : tie.Need-returns-2
 unfolding claimIn
-returns-2 c = simp (ne-eqb _ _ (c .before .before .if1 .left), eq-eqb _ _ (c .if2 .taken))
-
-returns-3 : tie.Need-returns-3
-unfolding claimIn
-returns-3 c = simp (ne-eqb _ _ (c .before .before .if1 .left), ne-eqb _ _ (c .if2 .left))
+returns-2 c = simp (ne-eqb _ _ (c .before .before .if1 .left), c .before .list-kind .ensures)
 
 pub claim-in-spec : {M : Type 1} → statement M
 claim-in-spec =
@@ -72,11 +74,11 @@ claim-in-spec =
     add-b
     mul-b
     shared-slice-read-b
-    add-t17
-    mul-t18
-    shared-slice-read-t20
+    add-t16
+    mul-t17
+    shared-slice-read-t19
     returns
-    mul-t9
-    shared-slice-read-t12
-    returns-2
-    returns-3)
+    list-kind-requires
+    mul-t8
+    shared-slice-read-t11
+    returns-2)

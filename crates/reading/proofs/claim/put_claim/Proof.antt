@@ -1,7 +1,12 @@
--- `put_claim` meets its contract, by the three cases.
+-- `put_claim` meets its contract, by the two cases.
+
 use borrow.Author.Needs.{needs}
 use Rattle.reading.proofs.claim.put_claim.Statement.{statement}
 use Rattle.reading.proofs.claim.put_claim.Tie as tie
+use Rattle.reading.proofs.claim.put_claim.Reads as reads
+use Rattle.reading.proofs.claim.put_claim.Lts as lts
+use Rattle.reading.proofs.claim.list_number.Reads as list-number-reads
+use Rattle.reading.proofs.tables.put_four.Reads as put-four-reads
 
 mul-at : tie.Need-mul-at
 mul-at c = search needs
@@ -21,6 +26,9 @@ slice-write-places c = search needs
 enum-known-c-2 : tie.Need-enum-known-c-2
 enum-known-c-2 c = search needs
 
+list-number-requires : tie.Need-list-number-requires
+list-number-requires c κs = search needs
+
 put-four-requires-2 : tie.Need-put-four-requires-2
 put-four-requires-2 c κs = search needs
 
@@ -29,18 +37,6 @@ mul-places-2 c = search needs
 
 slice-write-places-2 : tie.Need-slice-write-places-2
 slice-write-places-2 c = search needs
-
-enum-known-c-3 : tie.Need-enum-known-c-3
-enum-known-c-3 c = search needs
-
-put-four-requires-3 : tie.Need-put-four-requires-3
-put-four-requires-3 c κs = search needs
-
-mul-places-3 : tie.Need-mul-places-3
-mul-places-3 c = search needs
-
-slice-write-places-3 : tie.Need-slice-write-places-3
-slice-write-places-3 c = search needs
 
 same-length : tie.Need-same-length
 same-length c = search needs
@@ -59,18 +55,8 @@ same-length-4 : tie.Need-same-length-4
 same-length-4 c = search needs
 
 returns-2 : tie.Need-returns-2
-returns-2 c = let e = c .before .before .before .before .before .c2 .given .1 in
-    record { numbers = rw e (c .before .before .put-four2 .ensures); place = rw e }
-
-same-length-5 : tie.Need-same-length-5
-same-length-5 c = search needs
-
-same-length-6 : tie.Need-same-length-6
-same-length-6 c = search needs
-
-returns-3 : tie.Need-returns-3
-returns-3 c = let e = c .before .before .before .before .before .c3 .given .1 in
-    record { numbers = rw e (c .before .before .put-four3 .ensures); place = rw e }
+returns-2 c = let e = c .before .before .before .before .before .before .c2 .given .1 in
+    record { numbers = rw (e, ← c .before .before .before .list-number .ensures) (c .before .before .put-four2 .ensures); place = rw e }
 
 pub put-claim-spec : {M : Type 1} → statement M
 put-claim-spec =
@@ -82,19 +68,13 @@ put-claim-spec =
     mul-places
     slice-write-places
     enum-known-c-2
+    list-number-requires
     put-four-requires-2
     mul-places-2
     slice-write-places-2
-    enum-known-c-3
-    put-four-requires-3
-    mul-places-3
-    slice-write-places-3
     same-length
     same-length-2
     returns
     same-length-3
     same-length-4
-    returns-2
-    same-length-5
-    same-length-6
-    returns-3)
+    returns-2)

@@ -1,10 +1,15 @@
--- `take_claim` meets its contract: the kind tells the three cases apart.
+-- `take_claim` meets its contract: the kind tells the two cases apart.
 use mathlib.Core.Path.{_∙_}
 use native.Mathlib.Omega.{arith}
-use Rattle.reading.proofs.Taken.{count-taken, inside-taken, apart-taken}
+use Rattle.reading.proofs.ListKinds.{list-read}
+use Rattle.reading.proofs.Taken.{count-taken, lists-taken}
 use borrow.Author.Needs.{needs}
 use Rattle.reading.proofs.claims.take_claim.Statement.{statement}
 use Rattle.reading.proofs.claims.take_claim.Tie as tie
+use Rattle.reading.proofs.claims.take_claim.Reads as reads
+use Rattle.reading.proofs.claims.take_claim.Lts as lts
+use Rattle.reading.proofs.claim.list_kind.Reads as list-kind-reads
+use Rattle.wire.proofs.bytes.word.Reads as word-reads
 
 add-word : tie.Need-add-word
 add-word c = search needs
@@ -25,21 +30,20 @@ word-requires-3 : tie.Need-word-requires-3
 word-requires-3 c κs = search needs
 
 returns : tie.Need-returns
-returns c =
-    count-taken _ _ _ _ _ (c .before .before .before .before .before .pre .1 .1 .1 ∙ c .before .if1 .taken)
+returns c = count-taken _ _ _ _ _ (c .before .before .before .before .before .pre .1 .1 .1 ∙ c .before .if1 .taken)
     (c .before .before .before .word .ensures) (c .before .before .word2 .ensures) (c .word3 .ensures)
 
-add-t7 : tie.Need-add-t7
-add-t7 c = search needs
+list-kind-requires : tie.Need-list-kind-requires
+list-kind-requires c κs = search needs
+
+add-t6 : tie.Need-add-t6
+add-t6 c = search needs
 
 returns-2 : tie.Need-returns-2
 returns-2 c =
-    inside-taken _ _ _ _ (c .before .before .before .word .ensures) (c .before .before .word2 .ensures)
-    (c .before .before .before .before .before .pre .1 .1 .1 ∙ c .if2 .taken)
-
-returns-3 : tie.Need-returns-3
-returns-3 c =
-    apart-taken _ _ _ _ (c .before .before .before .word .ensures) (c .before .before .word2 .ensures) (omega arith)
+    let p = c .before .before .before .before .before .pre in
+    lists-taken _ _ _ _ _ (c .before .before .before .word .ensures) (c .before .before .word2 .ensures)
+    (rw (c .list-kind .ensures) (p .1 .1 .1 ∙ list-read _ (omega (arith, p .1 .0, c .before .if1 .left)) (p .1 .1 .0)))
 
 pub take-claim-spec : {M : Type 1} → statement M
 take-claim-spec =
@@ -52,6 +56,6 @@ take-claim-spec =
     add-word-3
     word-requires-3
     returns
-    add-t7
-    returns-2
-    returns-3)
+    list-kind-requires
+    add-t6
+    returns-2)

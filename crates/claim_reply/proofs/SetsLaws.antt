@@ -8,18 +8,18 @@ use lib.Dec.{eqb}
 use Rattle.wire.specs.Limits.{verdictBytes}
 use Rattle.meaning.specs.Sheet.{Sheet}
 use Rattle.meaning.specs.Tree.{Tree}
-use Rattle.meaning.specs.Claim.{Claim, Breakable}
+use Rattle.meaning.specs.Place.{Question}
+use Rattle.sizes.specs.Witness.{HasWitness, ShownWitness, shown-witness}
 use Rattle.runs.specs.Told.{numberIn}
 use Rattle.choosing.specs.Divided.{markedIn}
 use Rattle.claims.specs.Verdict.{verdictNumber}
 use Rattle.claims.specs.Named.{SpeaksUpTo}
 use Rattle.claims.specs.Decided.{Shows}
 use Rattle.claims.specs.declared.verdict.Verdict.{Verdict}
-use Rattle.claims.specs.declared.verdict.Verdict.the-variants.{Denied}
 use Rattle.replies.specs.Wrote.{Wrote, word-kept}
 use Rattle.replies.specs.Written.{VerdictAt, ShownAt, SetsPut}
-use Rattle.claim_reply.specs.ClaimReply.{shownAt, shownFirst, shownCount, shownMark, VerdictIn, DenialIn}
-use Rattle.claim_reply.proofs.ShownAlike.{shown-fits-alike, shown-breaks-alike}
+use Rattle.claim_reply.specs.ClaimReply.{shownAt, shownFirst, shownCount, shownMark, VerdictIn, SetsIn}
+use Rattle.claim_reply.proofs.ShownAlike.{shown-fits-alike, shown-witness-alike}
 
 -- the verdict's record, and that it stays under the records after it
 pub verdict-in : {out : List ℕ} {v : Verdict} {n : ℕ} → n ≡ verdictNumber v → VerdictAt out n → VerdictIn v out
@@ -32,15 +32,15 @@ verdict-kept w r = record {
   verdict = word-kept w 4 (inl (omega arith)) ∙ r .verdict;
 }
 
--- the records of a denial show what the tables show
-module _ {s : Sheet} {c : Claim} {firsts sizes marks out : List ℕ} {n : ℕ} (t : Tree s) (size : s .size ≡ n) (some : 1 ≤ n)
-    (known : SpeaksUpTo n c) (w : Shows s c firsts sizes marks) (v : VerdictIn Denied out) (p : SetsPut out n firsts sizes marks) where
+-- the records of a reply show what the tables show
+module _ {s : Sheet} {q : Question} {d : Verdict} {firsts sizes marks out : List ℕ} {n : ℕ} (t : Tree s) (size : s .size ≡ n) (some : 1 ≤ n)
+    (known : SpeaksUpTo n q) (w : Shows s q firsts sizes marks) (v : VerdictIn d out) (p : SetsPut out n firsts sizes marks) where
   -- number 0 stands for group 1 in the tables and in the reply alike
   at : (g : ℕ) → g ≤ s .size → ShownAt out (shownAt g) (numberIn firsts g) (numberIn sizes g) (numberIn marks g)
   at g l = p (g - 1) (omega arith)
 
-  pub denial-in : DenialIn s c out
-  denial-in =
+  pub sets-in : SetsIn s d (λ A. ShownWitness q A) out
+  sets-in =
       let first : (g : ℕ) → g ≤ s .size → numberIn firsts g ≡ shownFirst out g = λ g l. sym (at g l .first) in
       let count : (g : ℕ) → g ≤ s .size → numberIn sizes g ≡ shownCount out g = λ g l. sym (at g l .count) in
       let mark : (g : ℕ) → g ≤ s .size → markedIn marks g ≡ eqb (shownMark out g) 1 = λ g l. ap (λ m. eqb m 1) (sym (at g l .mark)) in
@@ -53,9 +53,9 @@ module _ {s : Sheet} {c : Claim} {firsts sizes marks out : List ℕ} {n : ℕ} (
           mark = rw (at g (q .last) .mark) (w .mark g q);
         };
         fits = shown-fits-alike s first count mark t (w .fits);
-        breaks = shown-breaks-alike s first count mark c (subst (λ j. SpeaksUpTo j c) (sym size) known) (w .breaks);
+        shows = shown-witness-alike s first count mark q (subst (λ j. SpeaksUpTo j q) (sym size) known) (w .shows);
       }
 
--- sets that a table shows break the claim
-pub shows-breakable : {s : Sheet} {k : Claim} {firsts sizes marks : List ℕ} → Shows s k firsts sizes marks → Breakable s k
-shows-breakable w = (_, w .fits, w .breaks)
+-- sets that a table shows answer the question
+pub shows-witness : {s : Sheet} {q : Question} {firsts sizes marks : List ℕ} → Shows s q firsts sizes marks → HasWitness s q
+shows-witness {q = q} w = (_, w .fits, shown-witness q _ (w .shows))

@@ -1,28 +1,28 @@
--- `judge_lists` meets its contract: for none of the first i left groups is the claim broken.
+-- `ask_lefts` meets its contract: for none of the first i left groups is there such a member.
 use Prim.Native.Nat.{_-_, _≤_}
 use mathlib.Core.Path.{_≡_, refl, _∙_}
 use native.Mathlib.Omega.{arith}
 use lib.ListN.{length, take}
-use Rattle.reading.specs.SheetIn.{sheetIn, size-in}
+use Rattle.reading.specs.SheetIn.{sheetIn}
 use Rattle.claims.specs.Witnessed.{witnessed-no}
-use Rattle.claims.specs.Groups.{listed-group, listed-known, listed-in}
-use Rattle.claims.specs.Ways.{WayHad, tried-judged, left-way-none, left-way-more, left-way-found}
+use Rattle.claims.specs.Groups.{listed-group}
+use Rattle.claims.specs.Ways.{brokenKind, WayHad, left-way-none, left-way-more, left-way-found}
 use borrow.Author.Needs.{needs}
-use Rattle.claims.proofs.lists.judge_lists.Statement.{statement}
-use Rattle.claims.proofs.lists.judge_lists.Tie as tie
+use Rattle.claims.proofs.lists.ask_lefts.Statement.{statement}
+use Rattle.claims.proofs.lists.ask_lefts.Tie as tie
 
 abbrev Inv-loop : tie.InvT-loop
-Inv-loop apart groups size left m right n sizes₀ marks₀ i₀ sizes marks i =
+Inv-loop shared groups size left m right n sizes₀ marks₀ i₀ sizes marks i =
     (i ≤ m) × (length sizes ≡ length sizes₀) × (length marks ≡ length marks₀)
-    × (WayHad (sheetIn groups size) apart (take i left) (take n right) → ⊥)
+    × (WayHad (sheetIn groups size) (brokenKind shared) (take i left) (take n right) → ⊥)
 
 abbrev μ-loop : tie.MeasureT-loop
-μ-loop apart groups size left m right n sizes₀ marks₀ i₀ sizes marks i = m - i
+μ-loop shared groups size left m right n sizes₀ marks₀ i₀ sizes marks i = m - i
 
 loop-holds : tie.Need-loop-holds Inv-loop μ-loop
 loop-holds c =
     let s = c .before .before .before .before .before in
-    (omega arith, refl, refl, left-way-none (s .args .apart) (s .args .left .now) (take (s .args .n) (s .args .right .now)))
+    (omega arith, refl, refl, left-way-none (s .args .shared) (s .args .left .now) (take (s .args .n) (s .args .right .now)))
 
 group-at-requires : tie.Need-group-at-requires Inv-loop μ-loop
 group-at-requires c κs = let s = c .before .before .before .before .before .before .before in omega (arith, s .pre .1 .0 .long)
@@ -61,11 +61,8 @@ returns c =
     let at = c5 .before .before .before .before .before in
     let s = at .before .before .before .before .before .before in
     let a = s .args in
-    let n = size-in (a .groups .now) (a .size) in
-    tried-judged (a .apart) (s .pre .0 .grown .tree) (listed-known (listed-in (omega (arith, n)) (s .pre .1 .0)))
-    (listed-known (listed-in (omega (arith, n)) (s .pre .1 .1)))
-    (left-way-found (a .apart) (a .left .now) (take (a .n) (a .right .now)) (a .m) (at .loop .i) (omega arith) (s .pre .1 .0 .long)
-    (rw g at (c5 .ask-left .ensures)) (c .if1 .taken))
+    left-way-found (a .shared) (a .left .now) (take (a .n) (a .right .now)) (a .m) (at .loop .i) (omega arith) (s .pre .1 .0 .long)
+    (rw g at (c5 .ask-left .ensures)) (c .if1 .taken)
 
 add-i : tie.Need-add-i Inv-loop μ-loop
 add-i c = search needs
@@ -84,7 +81,7 @@ loop-again c =
       omega arith,
       c5 .ask-left .kept .1 .1 .1 .1 .1 .1 .0 ∙ v .1,
       c5 .ask-left .kept .1 .1 .1 .1 .1 .1 .1 .0 ∙ v .2,
-      left-way-more (a .apart) (a .left .now) (take (a .n) (a .right .now)) (at .loop .i)
+      left-way-more (a .shared) (a .left .now) (take (a .n) (a .right .now)) (at .loop .i)
           (omega (arith, s .pre .1 .0 .long)) (v .3) (rw g at (c5 .ask-left .ensures)) (c .if1 .left),
     )
 
@@ -98,14 +95,11 @@ returns-2 : tie.Need-returns-2 Inv-loop μ-loop
 returns-2 c =
     let at = c .before in
     let s = at .before .before .before .before .before .before in
-    let a = s .args in
-    let n = size-in (a .groups .now) (a .size) in
-    let e : at .loop .i ≡ a .m = omega arith in
-    tried-judged (a .apart) (s .pre .0 .grown .tree) (listed-known (listed-in (omega (arith, n)) (s .pre .1 .0)))
-    (listed-known (listed-in (omega (arith, n)) (s .pre .1 .1))) (witnessed-no (rw e at (at .loop .inv .3)))
+    let e : at .loop .i ≡ s .args .m = omega arith in
+    witnessed-no (rw e at (at .loop .inv .3))
 
-pub judge-lists-spec : {M : Type 1} → statement M
-judge-lists-spec =
+pub ask-lefts-spec : {M : Type 1} → statement M
+ask-lefts-spec =
     tie.close
     (tie.spec
     Inv-loop
