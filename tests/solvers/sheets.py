@@ -270,8 +270,8 @@ def random_sheet(rng, n, claims, most=4):
     return Sheet(groups, asked, 'by chance')
 
 
-def largest(n, shape, rng, claims=64):
-    """A possible sheet of n groups with bounds that matter, for timing."""
+def large_tree(n, shape):
+    """Parents, groups and sizes of a possible sheet of n groups with bounds that matter, for timing."""
     parents = [0] + [{'chain': i - 1, 'star': 1, 'bushy': (i + 2) // 4}[shape]
                      for i in range(2, n + 1)]
     sons = {g: [i + 1 for i, p in enumerate(parents) if p == g] for g in range(1, n + 1)}
@@ -285,11 +285,29 @@ def largest(n, shape, rng, claims=64):
             else:
                 sizes[s] = k if mode == 2 and i == 0 else max(1, k - i)
         groups.append((parents[g - 1], max(0, k - 5), k + 5 if g % 4 else None, mode))
+    return parents, groups, sizes
+
+
+def largest(n, shape, rng):
+    """With 64 claims of kinds 4 to 6."""
+    parents, groups, sizes = large_tree(n, shape)
     asked = []
-    for c in range(claims):
+    for c in range(64):
         g, h = rng.randint(1, n), rng.randint(1, n)
         asked.append([
             ('count', g, max(0, sizes[g] - 5), sizes[g] + 5),
             ('inside', [g, rng.randint(1, n)], [h, rng.randint(1, n), parents[g - 1] or 1]),
             ('apart', [g], [h, rng.randint(1, n)])][c % 3])
     return Sheet(groups, asked, '%s of %d' % (shape, n))
+
+
+def largest_places(n, shape, rng):
+    """With 64 places of 8 names a side, the left ones by turns on one way up and anywhere; the first is a yes."""
+    parents, groups, _ = large_tree(n, shape)
+    asked = []
+    for c in range(64):
+        way = way_up(parents, rng.randint(1, n - 1) if c else 1)
+        left = rng.choices(way if c % 2 == 0 else range(1, n + 1), k=8)
+        right = [s for s in range(1, n + 1) if s not in (way if c % 2 == 0 else left)]
+        asked.append(('place', left, rng.choices(right, k=8)))
+    return Sheet(groups, asked, 'places in a %s of %d' % (shape, n))
