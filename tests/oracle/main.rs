@@ -451,8 +451,6 @@ fn wanted() -> Vec<String> {
                 }
             }
         }
-    }
-    if HAS_CLAIM {
         all.push(PAIRS_ONLY.to_string());
     }
     for kind in 5..8 {
