@@ -221,6 +221,49 @@ pub fn run(seed: u64) {
     }
     println!("self-test, ranges as bounds: {sheets} sheets ({possible} possible, {other} with other ranges than bounds)");
 
+    // All places under a root and three sons, hi up to 2 and a son's lo up to 1: two people are enough.
+    let (mut sheets, mut possible, mut held, mut pairs_only) = (0u64, 0u64, 0u64, 0u64);
+    let sides: Vec<Vec<Named>> = (0..16)
+        .map(|s: u32| if s == 0 { vec![None] } else { (0..4).filter(|g| s >> g & 1 == 1).map(Some).collect() })
+        .collect();
+    let claim = |l: usize, r: usize| Claim::Lists { kind: ListKind::Place, left: sides[l].clone(), right: sides[r].clone() };
+    let claims: Vec<Claim> = (0..256).map(|c| claim(c / 16, c % 16)).collect();
+    for code in 0..72 * 216u64 {
+        let son = |k: u64| Group { parent: Some(0), lo: k % 2, hi: Some(k / 2 % 3), mode: 0 };
+        let (root, k) = (code / 216, code % 216);
+        let root = Group { parent: None, lo: root % 3, hi: Some(root / 3 % 3), mode: (root / 9) as u16 };
+        let groups = vec![root, son(k), son(k / 6), son(k / 36)];
+        let sheet = Sheet { sons: make_sons(&groups), groups, names: Vec::new(), claims: Vec::new() };
+        sheets += 1;
+        let mut some = false;
+        let mut showing = [false; 256];
+        families(&sheet, 2, |f| {
+            some = true;
+            for (s, c) in showing.iter_mut().zip(&claims) {
+                *s = *s || shown(c, f);
+            }
+        });
+        if !some {
+            continue;
+        }
+        possible += 1;
+        let small = Small::new(&sheet, 10_000_000).expect("a small sheet");
+        let large = Large::new(&sheet);
+        for (c, claim) in claims.iter().enumerate() {
+            held += showing[c] as u64;
+            assert_eq!(showing[c], small.shown(claim), "{claim:?}, enumeration\n{}", show(&sheet));
+            assert_eq!(showing[c], large.shown(claim), "{claim:?}, closed forms\n{}", show(&sheet));
+            // Any two of its left sets can share such a member, all can't.
+            let (l, r) = (c / 16, c % 16);
+            let pairs = (1..16usize).filter(|p| p & !l == 0 && p.count_ones() == 2);
+            pairs_only += (l.count_ones() > 2 && !showing[c] && pairs.into_iter().all(|p| showing[16 * p + r])) as u64;
+        }
+    }
+    assert!(held > 0 && pairs_only > 0, "some case was never met");
+    println!(
+        "self-test, places: {sheets} sheets ({possible} possible), all places: {held} hold, {pairs_only} only of any two left sets"
+    );
+
     // Enumeration against closed forms, also without upper ends.
     let (mut sheets, mut possible, mut verdicts) = (0u64, 0u64, Verdicts::default());
     while sheets < 60_000 {
@@ -248,5 +291,5 @@ pub fn run(seed: u64) {
         "self-test, enumeration and closed forms: {sheets} sheets ({possible} possible); claims: {}",
         verdicts.say()
     );
-    println!("self-test: 3 passed, 0 failed");
+    println!("self-test: 4 passed, 0 failed");
 }
