@@ -4,6 +4,7 @@
 const MAX_G: usize = 128;
 const MAX_S: usize = 128;
 const MAX_Q: usize = 64;
+const MAX_SIDE: usize = 8;
 const MAX_ROWS: usize = 2048;
 const ENDLESS: u32 = u32::MAX;
 const NO_UPPER: u32 = 65535;
@@ -149,12 +150,12 @@ pub fn read(s: &[u8], t: &mut Tables) -> Result<(), Refusal> {
                     return Err((5, no));
                 }
             }
-            5 | 6 => {
+            5..=7 => {
                 if len % 2 == 1 || !(10..=38).contains(&len) {
                     return Err((3, no));
                 }
                 let (m, n) = (get16(s, at + 4) as usize, get16(s, at + 6) as usize);
-                if m == 0 || m > 8 || n == 0 || n > 8 || 6 + 2 * (m + n) != len {
+                if m == 0 || m > MAX_SIDE || n == 0 || n > MAX_SIDE || 6 + 2 * (m + n) != len {
                     return Err((4, no));
                 }
                 for k in 0..m + n {
@@ -496,8 +497,25 @@ fn unfold(t: &Tables, f: &Marked, c: usize, out: &mut Shown) {
 const OUT: u8 = 1;
 const IN: u8 = 2;
 
-fn breaks(s: &[u8], t: &Tables, claim: usize, f: &mut Marked, out: &mut Shown) -> bool {
-    let at = t.claim_at[claim] as usize;
+// Sets that fit, with one member in every group of 'within' and in none of 'without'.
+fn place(t: &Tables, within: &[usize], without: &[usize], f: &mut Marked, out: &mut Shown) -> bool {
+    let mut may = [IN | OUT; MAX_G + 1];
+    for &g in within {
+        may[g] &= IN;
+    }
+    for &g in without {
+        may[g] &= OUT;
+    }
+    fold_marked(t, &t.lo, &t.hi, &may, f);
+    let found = !f.z[1][1].none();
+    if found {
+        unfold(t, f, 1, out);
+    }
+    found
+}
+
+// Sets that fit and break the claim; of kind 7, that have its member.
+fn shows(s: &[u8], t: &Tables, at: usize, f: &mut Marked, out: &mut Shown) -> bool {
     let kind = get16(s, at + 2);
     if kind == 4 {
         let g = t.named[get16(s, at + 4) as usize] as usize;
@@ -531,44 +549,28 @@ fn breaks(s: &[u8], t: &Tables, claim: usize, f: &mut Marked, out: &mut Shown) -
         }
         return false;
     }
-    let (m, n) = (get16(s, at + 4) as usize, get16(s, at + 6) as usize);
-    let named = |k: usize| t.named[get16(s, at + 8 + 2 * k) as usize] as usize;
-    if kind == 5 {
-        for k in 0..m {
-            let x = named(k);
-            if x == 0 {
-                continue;
-            }
-            let mut may = [IN | OUT; MAX_G + 1];
-            may[x] &= IN;
-            for l in m..m + n {
-                may[named(l)] &= OUT;
-            }
-            fold_marked(t, &t.lo, &t.hi, &may, f);
-            if !f.z[1][1].none() {
-                unfold(t, f, 1, out);
-                return true;
-            }
-        }
-        return false;
-    }
-    for k in 0..m {
-        for l in m..m + n {
-            let (x, y) = (named(k), named(l));
-            if x == 0 || y == 0 {
-                continue;
-            }
-            let mut may = [IN | OUT; MAX_G + 1];
-            may[x] &= IN;
-            may[y] &= IN;
-            fold_marked(t, &t.lo, &t.hi, &may, f);
-            if !f.z[1][1].none() {
-                unfold(t, f, 1, out);
-                return true;
+    // The groups of each side; names of the empty set are left out.
+    let mut groups = [[0; MAX_SIDE]; 2];
+    let mut many = [0; 2];
+    let mut k = at + 8;
+    for side in 0..2 {
+        for _ in 0..get16(s, at + 4 + 2 * side) {
+            let g = t.named[get16(s, k) as usize] as usize;
+            k += 2;
+            if g != 0 {
+                groups[side][many[side]] = g;
+                many[side] += 1;
+            } else if kind == 7 && side == 0 {
+                return false;
             }
         }
     }
-    false
+    let (left, right) = (&groups[0][..many[0]], &groups[1][..many[1]]);
+    match kind {
+        5 => left.iter().any(|&x| place(t, &[x], right, f, out)),
+        6 => left.iter().any(|&x| right.iter().any(|&y| place(t, &[x, y], &[], f, out))),
+        _ => place(t, left, right, f, out),
+    }
 }
 
 pub fn claim(sheet: &[u8], claim: u32, reply: &mut [u8]) -> u64 {
@@ -586,15 +588,17 @@ pub fn claim(sheet: &[u8], claim: u32, reply: &mut [u8]) -> u64 {
     }
     let mut f = Marked { z: [[NONE; 2]; MAX_G + 1], before: [[NONE; 2]; MAX_G + 1] };
     let mut out = Shown { first: [1; MAX_G + 1], count: [0; MAX_G + 1], mark: [0; MAX_G + 1] };
-    let broken = breaks(sheet, &t, claim as usize, &mut f, &mut out);
-    let size = if broken { 6 + 14 * t.groups } else { 6 };
+    let at = t.claim_at[claim as usize] as usize;
+    let shown = shows(sheet, &t, at, &mut f, &mut out);
+    let holds = shown == (get16(sheet, at + 2) == 7);
+    let size = if shown { 6 + 14 * t.groups } else { 6 };
     if reply.len() < size {
         return pack(14, 0);
     }
     put16(reply, 0, 4);
     put16(reply, 2, 18);
-    put16(reply, 4, !broken as u16);
-    if broken {
+    put16(reply, 4, holds as u16);
+    if shown {
         for g in 1..=t.groups {
             let at = 6 + 14 * (g - 1);
             put16(reply, at, 12);

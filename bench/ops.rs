@@ -103,6 +103,30 @@ fn loose(sheet: &[u8], last_lo: u16) -> Vec<u8> {
     out
 }
 
+// All claims of a sheet.
+fn claims(what: &str, s: &[u8], x: &mut [u8], y: &mut [u8]) {
+    let q = word(s, 10) as u32;
+    for c in 1..=q {
+        let (a, b) = (claim(s, c, x), engine::claim(s, c, y));
+        assert!(a == b && x[..6] == y[..6], "{what}, claim {c}");
+    }
+    say(
+        what,
+        middle(
+            || {
+                for c in 1..=q {
+                    black_box(claim(black_box(s), c, x));
+                }
+            },
+            || {
+                for c in 1..=q {
+                    black_box(engine::claim(black_box(s), c, y));
+                }
+            },
+        ),
+    );
+}
+
 fn main() {
     let folder = std::env::args().nth(1).expect("a folder of sheets");
     let mut x = vec![0u8; 2560];
@@ -141,27 +165,9 @@ fn main() {
                     },
                 ),
             );
-            let q = word(&s, 10) as u32;
-            for c in 1..=q {
-                let (a, b) = (claim(&s, c, &mut x), engine::claim(&s, c, &mut y));
-                assert!(a == b && x[..6] == y[..6], "{shape} {size}, claim {c}");
-            }
-            say(
-                &format!("claims {shape} {size}"),
-                middle(
-                    || {
-                        for c in 1..=q {
-                            black_box(claim(black_box(&s), c, &mut x));
-                        }
-                    },
-                    || {
-                        for c in 1..=q {
-                            black_box(engine::claim(black_box(&s), c, &mut y));
-                        }
-                    },
-                ),
-            );
+            claims(&format!("claims {shape} {size}"), &s, &mut x, &mut y);
         }
+        claims(&format!("places {shape} 128"), &sheet(&format!("{shape}-places")), &mut x, &mut y);
         let s = sheet(&format!("{shape}-128"));
         let reg = rows(&s, 2048);
         for (lo, what) in [(0, "fits"), (65534, "broken at the last group")] {

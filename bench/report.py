@@ -10,13 +10,15 @@ import sys
 import time
 
 sys.path.insert(0, os.path.join(os.path.dirname(os.path.abspath(__file__)), '..', 'tests', 'solvers'))
-from models import Cvc5Sizes, GlpkSizes, Unanswered, Z3Sizes, search_range  # noqa: E402
-from sheets import Library, largest, record  # noqa: E402
+from models import Cvc5Sizes, GlpkSizes, Unanswered, Z3Sizes, claims_shown, search_range  # noqa: E402
+from sheets import Library, largest, largest_places, record  # noqa: E402
 
 folder, ops, stack, driver, flags = sys.argv[1:]
 SHAPES, SIZES = ['chain', 'star', 'bushy'], [16, 32, 64, 128]
 LABELS = {'first': b'%03dSIXTEEN-BYTES', 'last': b'SIXTEEN-BYTES%03d'}  # of a largest sheet, by the bytes that differ
 RUNS = 3
+OPERATIONS = {'ranges': 'all ranges', 'claims': '64 claims of kinds 4 to 6', 'places': '64 claims of kind 7',
+              'register': 'register of 2,048 rows'}
 
 
 def longest(sheet, label):
@@ -27,7 +29,7 @@ def longest(sheet, label):
     for i in range(1, 129):
         out += struct.pack('<HHH', 20, 3, i) + label % i
     for c in range(64):
-        out += record(5 + c % 2, [8, 8] + [1 + (c + 7 * k) % 128 for k in range(16)])
+        out += record(5 + c % 3, [8, 8] + [1 + (c + 7 * k) % 128 for k in range(16)])
     assert len(out) == 6924
     return out
 
@@ -64,21 +66,17 @@ def cvc5_ranges(s):
     return out
 
 
-def claims_with(plain, marked, s):
-    return [plain.count_broken(c) if c[0] == 'count' else marked.place_broken(c) for c in s.claims]
-
-
 def glpk_claims(s):
-    return claims_with(GlpkSizes(s), GlpkSizes(s, marked=True), s)
+    return claims_shown(GlpkSizes(s), GlpkSizes(s, marked=True), s)
 
 
 def z3_claims(s):
-    return claims_with(Z3Sizes(s).plain(), Z3Sizes(s).marked(), s)
+    return claims_shown(Z3Sizes(s).plain(), Z3Sizes(s).marked(), s)
 
 
 def cvc5_claims(s):
     plain, marked = Cvc5Sizes(s), Cvc5Sizes(s, marked=True)
-    out = claims_with(plain, marked, s)
+    out = claims_shown(plain, marked, s)
     plain.close()
     marked.close()
     return out
@@ -87,8 +85,10 @@ def cvc5_claims(s):
 def main():
     rng = random.Random(11)
     sheets = {(shape, n): largest(n, shape, rng) for shape in SHAPES for n in SIZES}
+    for shape in SHAPES:
+        sheets[shape, 'places'] = largest_places(128, shape, rng)
     for (shape, n), s in sheets.items():
-        with open('%s/%s-%d.sheet' % (folder, shape, n), 'wb') as f:
+        with open('%s/%s-%s.sheet' % (folder, shape, n), 'wb') as f:
             f.write(s.bytes())
     for where, label in LABELS.items():
         with open('%s/largest-%s.sheet' % (folder, where), 'wb') as f:
@@ -114,8 +114,8 @@ def main():
         parts = what.split()
         if parts[0] in ('ranges', 'claims') and parts[-1] != '128':
             continue
-        label = what.replace('claims', '64 claims,').replace('ranges', 'ranges,').replace('register', 'register of 2,048 rows,')
-        goal = {'reading': '1.2', 'claims': '2'}.get(parts[0], '1.5')
+        label = ', '.join([OPERATIONS[parts[0]], ' '.join(parts[1:])]) if parts[0] in OPERATIONS else what
+        goal = {'reading': '1.2', 'claims': '2', 'places': '2'}.get(parts[0], '1.5')
         print('| %s | %s | %s | %.2f | at most %s |' % (label, show(a), show(b), a / b, goal))
     print('\n`scan` goes through groups, rules and rows in this order; `walk` takes all rules in one walk over '
           'the rows. Reading is a call with an empty register.\n')
@@ -124,21 +124,26 @@ def main():
     print('| operation | tree | %s |\n|---|---|%s' % (' | '.join('%d groups' % n for n in SIZES), '---|' * len(SIZES)))
     for op in ['ranges', 'claims']:
         for shape in SHAPES:
-            print('| %s | %s | %s |' % ('64 claims' if op == 'claims' else op, shape,
+            print('| %s | %s | %s |' % (OPERATIONS[op], shape,
                                         ' | '.join(show(measured['%s %s %d' % (op, shape, n)][0]) for n in SIZES)))
 
     print('\n## Against solvers, 128 groups\n')
     print('Model building included, start-up of Python not. GLPK and z3 through their Python modules, cvc5 as one '
           'process per sheet; all three over sizes. All answers agreed with ours.\n')
     print('| task | tree | ours | GLPK | z3 | cvc5 | fastest over ours | goal |\n|---|---|---|---|---|---|---|---|')
-    for op, label, solvers in [('ranges', 'all ranges', [glpk_ranges, z3_ranges, cvc5_ranges]),
-                               ('claims', '64 claims', [glpk_claims, z3_claims, cvc5_claims])]:
+    ranges_by, claims_by = [glpk_ranges, z3_ranges, cvc5_ranges], [glpk_claims, z3_claims, cvc5_claims]
+    for op, solvers, goal in [('ranges', ranges_by, 300), ('claims', claims_by, 10), ('places', claims_by, 30)]:
         for shape in SHAPES:
-            s = sheets[shape, 128]
+            s = sheets[shape, 'places' if op == 'places' else 128]
+            label = OPERATIONS[op]
             if op == 'ranges':
                 want = library.ranges(s)
             else:
-                want = [library.claim(s, i + 1) is not True for i in range(len(s.claims))]
+                said = [library.claim(s, i + 1) for i in range(len(s.claims))]
+                want = [runs is not None for _, runs in said]
+                label += ', %d hold' % sum(holds for holds, _ in said)
+                if len(set(want)) < 2:
+                    sys.exit('only one answer to %s\n%s' % (label, s))
             ours = measured['%s %s 128' % (op, shape)][0]
             times = []
             for solver in solvers:
@@ -153,15 +158,15 @@ def main():
             fastest = min(t for t in times if t is not None)
             print('| %s | %s | %s | %s | %.0f | at least %d |' % (
                 label, shape, show(ours),
-                ' | '.join('no answer' if t is None else show(t) for t in times), fastest / ours,
-                300 if op == 'ranges' else 10))
+                ' | '.join('no answer' if t is None else show(t) for t in times), fastest / ours, goal))
 
     print('\n## Stack of the deepest call\n')
-    print('On a painted stack, below the caller, for a sheet of 128 groups.\n')
+    print('On a painted stack, below the caller, for a sheet of 128 groups; the claim of kind 7 is a yes.\n')
     print('| operation | chain | star | bushy |\n|---|---|---|---|')
     depth = {}
     for shape in SHAPES:
-        out = subprocess.run([stack, '%s/%s-128.sheet' % (folder, shape)], check=True, capture_output=True, text=True)
+        paths = ['%s/%s-%s.sheet' % (folder, shape, which) for which in (128, 'places')]
+        out = subprocess.run([stack] + paths, check=True, capture_output=True, text=True)
         for line in out.stdout.splitlines():
             what, used = line.split('\t')
             depth.setdefault(what, []).append('%s bytes' % format(int(used), ','))

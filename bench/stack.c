@@ -1,5 +1,6 @@
 /* How deep the stack goes in one call: a thread on a painted stack, and the lowest byte that the
-   call changed.  stack SHEET  prints a line 'operation bytes' for each. */
+   call changed.  stack SHEET PLACES  prints a line 'operation bytes' for each. The first claims of SHEET
+   are of kinds 4, 5 and 6; the first claim of PLACES is of kind 7 and a yes. */
 #define _GNU_SOURCE
 #include <pthread.h>
 #include <stdio.h>
@@ -11,8 +12,8 @@
 
 enum { STACK = 8 << 20, PAINT = 0xa7 };
 
-static uint8_t sheet[8192], reply[SHEET_MAX_REPLY], *stack;
-static size_t len;
+static uint8_t sheet[8192], places[8192], reply[SHEET_MAX_REPLY], *stack;
+static size_t len, places_len;
 static int what;
 static size_t used;
 
@@ -29,10 +30,11 @@ static void *run(void *unused)
     case 2: got = sheet_claim(sheet, len, 1, reply, sizeof reply); break;
     case 3: got = sheet_claim(sheet, len, 2, reply, sizeof reply); break;
     case 4: got = sheet_claim(sheet, len, 3, reply, sizeof reply); break;
-    case 5: got = sheet_register(sheet, len, NULL, 0, reply, sizeof reply); break;
+    case 5: got = sheet_claim(places, places_len, 1, reply, sizeof reply); break;
+    case 6: got = sheet_register(sheet, len, NULL, 0, reply, sizeof reply); break;
     }
-    if (sheet_refusal_of(got) != 0) {
-        fprintf(stderr, "refused %u\n", (unsigned)sheet_refusal_of(got));
+    if (sheet_refusal_of(got) != 0 || (what == 5 && sheet_get16(reply + 4) != SHEET_HOLDS)) {
+        fprintf(stderr, "operation %d: refused %u, or a no\n", what, (unsigned)sheet_refusal_of(got));
         exit(1);
     }
     uint8_t *p = stack;
@@ -42,18 +44,27 @@ static void *run(void *unused)
     return NULL;
 }
 
+static size_t load(const char *path, uint8_t *to, size_t most)
+{
+    FILE *f = fopen(path, "rb");
+    if (!f)
+        exit(2);
+    size_t n = fread(to, 1, most, f);
+    fclose(f);
+    return n;
+}
+
 int main(int argc, char **argv)
 {
-    static const char *names[] = {"", "ranges", "claim (count)", "claim (inside)", "claim (apart)", "register"};
-    FILE *f = argc == 2 ? fopen(argv[1], "rb") : NULL;
-    if (!f)
+    static const char *names[] = {"", "ranges", "claim (count)", "claim (inside)", "claim (apart)", "claim (place)", "register"};
+    if (argc != 3)
         return 2;
-    len = fread(sheet, 1, sizeof sheet, f);
-    fclose(f);
+    len = load(argv[1], sheet, sizeof sheet);
+    places_len = load(argv[2], places, sizeof places);
     stack = mmap(NULL, STACK, PROT_READ | PROT_WRITE, MAP_PRIVATE | MAP_ANONYMOUS, -1, 0);
     if (stack == MAP_FAILED)
         return 2;
-    for (what = 1; what <= 5; what++) {
+    for (what = 1; what <= 6; what++) {
         pthread_attr_t attr;
         pthread_t thread;
         pthread_attr_init(&attr);

@@ -34,7 +34,7 @@ enum {
     SHEET_MAX_NAMES = 128,
     SHEET_MAX_CLAIMS = 64,
     SHEET_MAX_LABEL = 16,
-    SHEET_MAX_LIST = 8,         /* names on one side of a claim of kind 5 or 6 */
+    SHEET_MAX_LIST = 8,         /* names on one side of a claim of kind 5, 6 or 7 */
     SHEET_MAX_BOUND = 65534,    /* greatest lo, and greatest hi that is an end */
     SHEET_NO_UPPER_END = 65535, /* as hi, in a group and in a count claim */
     SHEET_MAX_BYTES = 6924,     /* the longest sheet that can be read */
@@ -53,6 +53,7 @@ enum sheet_kind {
     SHEET_KIND_COUNT = 4,   /* L = 8: name, lo, hi; two bytes each */
     SHEET_KIND_INSIDE = 5,  /* L = 6 + 2(m + n): m, n, m left names, n right names */
     SHEET_KIND_APART = 6,   /* the same */
+    SHEET_KIND_PLACE = 7,   /* the same */
     SHEET_KIND_RANGE = 17,  /* reply, L = 18: least, greatest, first, count; four bytes each */
     SHEET_KIND_VERDICT = 18,/* reply, L = 4: verdict, two bytes */
     SHEET_KIND_SHOWN = 19,  /* reply, L = 12: first, count (four bytes each), mark (two bytes) */
@@ -99,7 +100,7 @@ enum sheet_rule {
     SHEET_RULE_ABOVE_HI = 6
 };
 
-/* Verdicts. */
+/* Verdicts; of a claim of kind 7, no and yes. */
 enum sheet_verdict {
     SHEET_DENIED = 0,
     SHEET_HOLDS = 1
@@ -107,8 +108,8 @@ enum sheet_verdict {
 
 /* Bytes of a reply. groups is the G of the sheet's head. */
 #define SHEET_RANGES_REPLY(groups) ((size_t)20 * (groups))
-#define SHEET_HOLDS_REPLY ((size_t)6)
-#define SHEET_DENIED_REPLY(groups) ((size_t)6 + (size_t)14 * (groups))
+#define SHEET_VERDICT_REPLY ((size_t)6)                               /* the verdict alone */
+#define SHEET_SHOWN_REPLY(groups) ((size_t)6 + (size_t)14 * (groups)) /* a verdict with sets */
 #define SHEET_REGISTER_REPLY ((size_t)8)
 /* Enough for every reply. */
 #define SHEET_MAX_REPLY ((size_t)20 * SHEET_MAX_GROUPS)
@@ -149,13 +150,19 @@ uint64_t sheet_ranges(const uint8_t *sheet, size_t sheet_len,
                       uint8_t *reply, size_t reply_len);
 
 /* The verdict on one claim, numbered from 1 in the order of the sheet.
-   Refusals 1 to 9 and 14. Reply: one record of kind 18 (6 bytes), at 4 the verdict; it holds when
-   all finite sets that fit the sheet do as it says. A denial adds G records of kind 19 (14 bytes
-   each, the first at 6), which show sets that fit and break the claim:
+   Refusals 1 to 9 and 14. Reply: one record of kind 18 (6 bytes), at 4 the verdict.
+   - A claim of kind 4, 5 or 6 holds when all finite sets that fit the sheet do as it says. A denial
+     shows sets that fit and break it.
+   - A claim of kind 7 holds when some finite sets that fit have a member in every left set and in
+     no right set; a name of the empty set is a no on the left and passed over on the right. A yes
+     shows such sets, with that member as member 0: the mark is 1 in every left group and 0 in every
+     right group.
+   The other verdict is a reply by itself (SHEET_VERDICT_REPLY). Sets are shown by G more records
+   (SHEET_SHOWN_REPLY), of kind 19 (14 bytes each, the first at 6):
        at 4 first (1 or more), at 8 count, at 12 mark.
    Group g is shown with the members first, .., first + count - 1, and with member 0 where mark
-   is 1. Which such sets are shown is free. A denial that doesn't find room for all its records is
-   refused by 14. */
+   is 1. Which such sets are shown is free. A verdict with sets that doesn't find room for all its
+   records is refused by 14. */
 uint64_t sheet_claim(const uint8_t *sheet, size_t sheet_len, uint32_t claim,
                      uint8_t *reply, size_t reply_len);
 

@@ -57,14 +57,22 @@ static void count_claim(struct bytes *b, uint32_t of, uint32_t lo, uint32_t hi)
     word(b, hi);
 }
 
-/* Inside or apart, one name on each side. */
+/* Inside, apart or place: m left names, n right names. */
+static void list_claim(struct bytes *b, uint32_t kind, uint32_t m, const uint32_t *left, uint32_t n,
+                       const uint32_t *right)
+{
+    begin(b, 6 + 2 * (m + n), kind);
+    word(b, m);
+    word(b, n);
+    for (uint32_t i = 0; i < m; i++)
+        word(b, left[i]);
+    for (uint32_t i = 0; i < n; i++)
+        word(b, right[i]);
+}
+
 static void pair_claim(struct bytes *b, uint32_t kind, uint32_t left, uint32_t right)
 {
-    begin(b, 10, kind);
-    word(b, 1);
-    word(b, 1);
-    word(b, left);
-    word(b, right);
+    list_claim(b, kind, 1, &left, 1, &right);
 }
 
 /* groups: bit g - 1 for group g, for the first 32 groups. */
@@ -93,6 +101,25 @@ static void clinic(struct bytes *b)
     count_claim(b, 2, 4, 5);
     pair_claim(b, SHEET_KIND_APART, 4, 3);
     pair_claim(b, SHEET_KIND_INSIDE, 2, 4);
+}
+
+/* A root of two members, covered by three sons of at most one each. */
+static void three_sons(struct bytes *b)
+{
+    const uint32_t sons[] = {2, 3, 4}, nobody = 5;
+    b->len = 0;
+    head(b, 4, 5, 3);
+    group(b, 0, 2, 2, SHEET_COVER);
+    for (int i = 0; i < 3; i++)
+        group(b, 1, 0, 1, 0);
+    name(b, 1, "ALL");
+    name(b, 2, "A");
+    name(b, 3, "B");
+    name(b, 4, "C");
+    name(b, 0, "NOBODY");
+    list_claim(b, SHEET_KIND_PLACE, 2, sons, 1, &nobody);
+    list_claim(b, SHEET_KIND_PLACE, 3, sons, 1, &nobody);
+    list_claim(b, SHEET_KIND_PLACE, 1, sons + 2, 2, sons);
 }
 
 static void refused(const char *what, uint64_t got)
@@ -129,30 +156,44 @@ static int shown(const uint8_t *record, uint32_t member)
     return first <= member && member - first < count;
 }
 
-static void show_claim(const struct bytes *sheet, uint32_t claim, uint8_t *reply, size_t len)
+/* Prints the verdict; whether sets are shown with it. */
+static int show_claim(const struct bytes *sheet, uint32_t claim, uint8_t *reply, size_t len)
 {
     char what[32];
     uint64_t got = sheet_claim(sheet->at, sheet->len, claim, reply, len);
     snprintf(what, sizeof what, "claim %u", (unsigned)claim);
     if (sheet_refusal_of(got) != SHEET_OK) {
         refused(what, got);
-        return;
+        return 0;
     }
-    int holds = sheet_get16(reply + 4) == SHEET_HOLDS;
-    printf("%s: %s, %u bytes\n", what, holds ? "holds" : "denied", (unsigned)sheet_second_of(got));
-    if (!holds && claim == 3) {
-        /* Which sets are shown is free, so say only what must be true of them: somebody is in
-           LEFT (group 2) and not in NEW (group 4), and LEFT has 4 or 5. */
-        const uint8_t *left = reply + 6 + 14, *new = reply + 6 + 3 * 14;
-        uint32_t first = sheet_get32(left + 4), run = sheet_get32(left + 8);
-        uint32_t size = run + sheet_get16(left + 12);
-        int found = shown(left, 0) && !shown(new, 0);
-        /* What a run has beyond another run begins or ends it. */
-        if (run > 0)
-            found |= !shown(new, first) || !shown(new, first + run - 1);
-        printf("  somebody in LEFT and not in NEW: %s; LEFT has 4 or 5: %s\n", found ? "yes" : "no",
-               size == 4 || size == 5 ? "yes" : "no");
-    }
+    printf("%s: %s, %u bytes\n", what, sheet_get16(reply + 4) == SHEET_HOLDS ? "holds" : "denied",
+           (unsigned)sheet_second_of(got));
+    return sheet_second_of(got) > SHEET_VERDICT_REPLY;
+}
+
+/* Claim 3 of the clinic. Which sets are shown is free, so say only what must be true of them:
+   somebody is in LEFT (group 2) and not in NEW (group 4), and LEFT has 4 or 5. */
+static void show_denial(const uint8_t *reply)
+{
+    const uint8_t *left = reply + SHEET_SHOWN_REPLY(1), *new = reply + SHEET_SHOWN_REPLY(3);
+    uint32_t first = sheet_get32(left + 4), run = sheet_get32(left + 8);
+    uint32_t size = run + sheet_get16(left + 12);
+    int found = shown(left, 0) && !shown(new, 0);
+    /* What a run has beyond another run begins or ends it. */
+    if (run > 0)
+        found |= !shown(new, first) || !shown(new, first + run - 1);
+    printf("  somebody in LEFT and not in NEW: %s; LEFT has 4 or 5: %s\n", found ? "yes" : "no",
+           size == 4 || size == 5 ? "yes" : "no");
+}
+
+/* The groups of member 0. */
+static void show_member(const uint8_t *reply, size_t groups)
+{
+    printf("  member 0 is in groups");
+    for (size_t g = 1; g <= groups; g++)
+        if (shown(reply + SHEET_SHOWN_REPLY(g - 1), 0))
+            printf(" %u", (unsigned)g);
+    printf("\n");
 }
 
 static void show_register(const char *what, const struct bytes *sheet, const struct bytes *reg,
@@ -193,10 +234,21 @@ int main(void)
     show_ranges("ranges", &sheet, reply, sizeof reply);
     show_ranges("ranges, buffer of 79", &sheet, reply, SHEET_RANGES_REPLY(4) - 1);
     for (uint32_t c = 0; c <= 4; c++)
-        show_claim(&sheet, c, reply, sizeof reply);
-    show_claim(&sheet, 1, reply, SHEET_HOLDS_REPLY);
-    show_claim(&sheet, 3, reply, SHEET_HOLDS_REPLY);
-    show_claim(&sheet, 3, reply, SHEET_DENIED_REPLY(4));
+        if (show_claim(&sheet, c, reply, sizeof reply))
+            show_denial(reply);
+    show_claim(&sheet, 1, reply, SHEET_VERDICT_REPLY);
+    show_claim(&sheet, 3, reply, SHEET_VERDICT_REPLY);
+    if (show_claim(&sheet, 3, reply, SHEET_SHOWN_REPLY(4)))
+        show_denial(reply);
+
+    /* Places: somebody in A and B, which leaves C for the root's other member; in all three; in C alone. */
+    three_sons(&other);
+    for (uint32_t c = 1; c <= 3; c++)
+        if (show_claim(&other, c, reply, sizeof reply))
+            show_member(reply, 4);
+    show_claim(&other, 1, reply, SHEET_SHOWN_REPLY(4) - 1);
+    show_claim(&other, 2, reply, SHEET_VERDICT_REPLY);
+    show_claim(&other, 2, reply, SHEET_VERDICT_REPLY - 1);
 
     /* Ten recipients: 1 to 4 in LEFT (of them 1 to 3 in NEW), 5 to 10 in RIGHT. */
     for (uint32_t m = 1; m <= 10; m++)
@@ -211,6 +263,7 @@ int main(void)
     show_register("empty register", &sheet, &reg, reply, sizeof reply);
 
     /* A clinic that cannot be. */
+    other.len = 0;
     head(&other, 3, 0, 0);
     group(&other, 0, 0, 3, SHEET_DISJOINT);
     group(&other, 1, 2, SHEET_NO_UPPER_END, 0);

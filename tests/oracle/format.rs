@@ -26,8 +26,47 @@ pub type Named = Option<usize>;
 #[derive(Clone, Debug)]
 pub enum Claim {
     Count { set: Named, lo: u64, hi: Option<u64> },
-    Inside { left: Vec<Named>, right: Vec<Named> },
-    Apart { left: Vec<Named>, right: Vec<Named> },
+    Lists { kind: ListKind, left: Vec<Named>, right: Vec<Named> },
+}
+
+#[derive(Clone, Copy, Debug, PartialEq)]
+pub enum ListKind {
+    Inside,
+    Apart,
+    Place,
+}
+
+// By their record kinds, from 5 on.
+pub const LIST_KINDS: [ListKind; 3] = [ListKind::Inside, ListKind::Apart, ListKind::Place];
+
+impl ListKind {
+    pub fn word(self) -> &'static str {
+        ["inside", "apart", "place"][self as usize]
+    }
+
+    // Where the member is of whom sets are shown; has: whether it is in a set.
+    pub fn sought(self, left: &[Named], right: &[Named], has: impl Fn(&Named) -> bool) -> bool {
+        match self {
+            ListKind::Inside => left.iter().any(&has) && !right.iter().any(&has),
+            ListKind::Apart => left.iter().any(&has) && right.iter().any(&has),
+            ListKind::Place => left.iter().all(&has) && !right.iter().any(&has),
+        }
+    }
+}
+
+impl Claim {
+    pub fn word(&self) -> &'static str {
+        match self {
+            Claim::Count { .. } => "count",
+            Claim::Lists { kind, .. } => kind.word(),
+        }
+    }
+
+    // Whether the claim holds where its reply shows sets: a denial shows sets that break it, and the yes of a place those
+    // that have its member.
+    pub fn holds_by_sets(&self) -> bool {
+        matches!(self, Claim::Lists { kind: ListKind::Place, .. })
+    }
 }
 
 #[derive(Clone, Debug)]
@@ -94,6 +133,13 @@ pub fn replaced(sheet: &[u8], ranges: impl Iterator<Item = (u32, u32)>) -> Optio
         bytes[at + 8..at + 10].copy_from_slice(&(greatest.min(65535) as u16).to_le_bytes());
     }
     Some(bytes)
+}
+
+// The kind of the record with this number, where there is one.
+pub fn kind_of(sheet: &[u8], number: u32) -> Option<u16> {
+    let mut reader = Reader { rest: sheet, no: 0 };
+    (1..number).try_for_each(|_| reader.next().map(|_| ())).ok()?;
+    Some(reader.next().ok()?.0)
 }
 
 fn upper(hi: u16) -> Option<u64> {
@@ -185,7 +231,7 @@ pub fn read_sheet(bytes: &[u8]) -> Result<Sheet, Refusal> {
                 }
                 claims.push(Claim::Count { set: look_up(name)?, lo: lo as u64, hi: upper(hi) });
             }
-            5 | 6 => {
+            5..=7 => {
                 let l = body.len() + 2;
                 if l % 2 != 0 || l < 10 || l > 38 {
                     return Err((3, no));
@@ -199,11 +245,7 @@ pub fn read_sheet(bytes: &[u8]) -> Result<Sheet, Refusal> {
                     all.push(look_up(word(body, 4 + 2 * i))?);
                 }
                 let right = all.split_off(m);
-                claims.push(if kind == 5 {
-                    Claim::Inside { left: all, right }
-                } else {
-                    Claim::Apart { left: all, right }
-                });
+                claims.push(Claim::Lists { kind: LIST_KINDS[kind as usize - 5], left: all, right });
             }
             _ => return Err((2, no)),
         }
@@ -279,27 +321,53 @@ pub fn broken_rule(sheet: &Sheet, members: &[(u128, u64)]) -> (u16, u16) {
     (0, 0)
 }
 
-// Whether these members break the claim.
-pub fn breaks(claim: &Claim, members: &[(u128, u64)]) -> bool {
-    let inside = |m: u128, set: &Named| set.is_some_and(|g| m >> g & 1 == 1);
-    let any = |m: u128, sets: &[Named]| sets.iter().any(|s| inside(m, s));
+fn within(m: u128, set: &Named) -> bool {
+    set.is_some_and(|g| m >> g & 1 == 1)
+}
+
+// Whether the claim's reply may show these members, the last of them member 0: they break it, or have the member of a
+// place as member 0.
+fn may_show(claim: &Claim, members: &[(u128, u64)]) -> bool {
     match claim {
         Claim::Count { set, lo, hi } => {
             let count: u64 =
-                members.iter().filter(|&&(m, _)| inside(m, set)).map(|&(_, w)| w).sum();
+                members.iter().filter(|&&(m, _)| within(m, set)).map(|&(_, w)| w).sum();
             count < *lo || hi.is_some_and(|hi| count > hi)
         }
-        Claim::Inside { left, right } => {
-            members.iter().any(|&(m, w)| w > 0 && any(m, left) && !any(m, right))
-        }
-        Claim::Apart { left, right } => {
-            members.iter().any(|&(m, w)| w > 0 && any(m, left) && any(m, right))
+        Claim::Lists { kind, left, right } => {
+            let asked = if claim.holds_by_sets() { members.len() - 1 } else { 0 };
+            members[asked..].iter().any(|&(m, _)| kind.sought(left, right, |s| within(m, s)))
         }
     }
 }
 
+// A reply that shows sets: its frames, and that the sets fit and are such as the claim's reply may show.
+pub fn check_shown(sheet: &Sheet, claim: &Claim, reply: &[u8]) -> Result<(), String> {
+    if reply[..6] != [4, 0, 18, 0, claim.holds_by_sets() as u8, 0] {
+        return Err(format!("verdict record {:?}", &reply[..6]));
+    }
+    let mut runs = Vec::new();
+    for (g, r) in reply[6..].chunks(14).enumerate() {
+        let (first, count, mark) = (dword(r, 4), dword(r, 8), word(r, 12));
+        if word(r, 0) != 12 || word(r, 2) != 19 || first < 1 || mark > 1 {
+            return Err(format!("record {} of the sets is {r:?}", g + 1));
+        }
+        runs.push((first, count, mark));
+    }
+    let members = expand(&runs);
+    let (g, rule) = broken_rule(sheet, &members);
+    if g != 0 {
+        return Err(format!("the sets don't fit: group {g}, rule {rule}; {runs:?}"));
+    }
+    if !may_show(claim, &members) {
+        let fault = if claim.holds_by_sets() { "member 0 has another place" } else { "the sets don't break the claim" };
+        return Err(format!("{fault}; {runs:?}"));
+    }
+    Ok(())
+}
+
 // Runs (first, count, mark) as members with weights, by cutting at all ends. Every entry has
-// weight 1 or more.
+// weight 1 or more, and the last is member 0.
 pub fn expand(runs: &[(u32, u32, u16)]) -> Vec<(u128, u64)> {
     let mut cuts: Vec<u64> = Vec::new();
     for &(first, count, _) in runs {
@@ -351,11 +419,8 @@ pub fn show(sheet: &Sheet) -> String {
             Claim::Count { set: s, lo, hi } => {
                 format!("claim {}: count of {} is {} to {}\n", i + 1, set(s), lo, end(hi))
             }
-            Claim::Inside { left, right } => {
-                format!("claim {}: {} inside {}\n", i + 1, list(left), list(right))
-            }
-            Claim::Apart { left, right } => {
-                format!("claim {}: {} apart {}\n", i + 1, list(left), list(right))
+            Claim::Lists { kind, left, right } => {
+                format!("claim {}: {} {} {}\n", i + 1, list(left), kind.word(), list(right))
             }
         };
     }

@@ -41,6 +41,8 @@ pub struct Tree {
     pub mode: Vec<u16>,
     pub sons: Vec<Vec<usize>>,
     can: Vec<bool>, // can one member be in it at all?
+    // At times a cover group that needs all but one of what its sons can have: two of them can share a member, three can't.
+    short: Option<usize>,
 }
 
 impl Tree {
@@ -74,7 +76,9 @@ impl Tree {
         for i in 1..n {
             sons[parent[i]].push(i);
         }
-        let mut tree = Tree { parent, mode, sons, can: vec![true; n] };
+        let wide: Vec<usize> = (0..n).filter(|&g| sons[g].len() >= 3).collect();
+        let short = (!wide.is_empty() && rng.chance(15)).then(|| rng.pick(&wide));
+        let mut tree = Tree { parent, mode, sons, can: vec![true; n], short };
         // Mostly no cover on leaves: it leaves them empty, and all above that they force.
         let keep = rng.below(30);
         for g in 0..n {
@@ -84,6 +88,9 @@ impl Tree {
             if tree.sons[g].len() >= 2 && tree.mode[g] & 5 == 5 && !rng.chance(keep) {
                 tree.mode[g] &= 4;
             }
+        }
+        if let Some(g) = short {
+            tree.mode[g] = 2;
         }
         for g in (0..n).rev() {
             let (m, sons) = (tree.mode[g], &tree.sons[g]);
@@ -256,6 +263,15 @@ pub fn draft(rng: &mut Rng) -> Draft {
         }
     }
 
+    if let Some(g) = tree.short {
+        bounds.fill((0, 65535));
+        for &s in &tree.sons[g] {
+            bounds[s].1 = 1 + rng.below(2) as u16;
+            bounds[g].0 += bounds[s].1;
+        }
+        bounds[g].0 -= 1;
+    }
+
     // Claims first, in terms of groups; the names that they need are made on the way.
     let wanted = match rng.below(12) {
         0 => 0,
@@ -270,7 +286,10 @@ pub fn draft(rng: &mut Rng) -> Draft {
     let mut namer = Namer { groups: Vec::new(), limit };
     let mut claims = Vec::new();
     for _ in 0..wanted {
-        let g = rng.index(n);
+        let (g, way) = match tree.short {
+            Some(g) if rng.chance(30) => (g, 3),
+            _ => (rng.index(n), rng.below(6)),
+        };
         let size: u64 = members.iter().filter(|m| m.0 >> g & 1 == 1).map(|m| m.1).sum();
         if rng.chance(30) {
             let group = if rng.chance(6) { 0 } else { g as u16 + 1 };
@@ -291,13 +310,14 @@ pub fn draft(rng: &mut Rng) -> Draft {
             claims.push(record(4, &words(&[name, lo, hi])));
             continue;
         }
-        let kind = 5 + rng.below(2) as u16;
+        let kind = 5 + rng.below(3) as u16;
         let most = if rng.chance(15) { 8 } else { 3 };
         let (mut m, mut k) = (1 + rng.index(most), 1 + rng.index(most));
         let mut left: Vec<usize> = Vec::new();
         let mut right: Vec<usize> = Vec::new();
+        let mut right_empty = 6;
         let sons = &tree.sons[g];
-        match rng.below(4) {
+        match way {
             0 if !sons.is_empty() => {
                 left.push(g);
                 right.extend(sons.iter().take(8));
@@ -320,6 +340,23 @@ pub fn draft(rng: &mut Rng) -> Draft {
                     right.push(tree.near(rng, g));
                 }
             }
+            // All sons of one group, mostly with nobody on the other side.
+            3 if !sons.is_empty() => {
+                left.extend(sons.iter().take(8));
+                right.push(tree.near(rng, g));
+                (m, k) = (left.len(), 1);
+                right_empty = 70;
+            }
+            // A way that one member may go.
+            4 => {
+                let set = tree.member(rng);
+                let (within, without): (Vec<usize>, Vec<usize>) = (0..n).partition(|&x| set >> x & 1 == 1);
+                for (side, many, from) in [(&mut left, m, within), (&mut right, k, without)] {
+                    for _ in 0..many {
+                        side.push(if from.is_empty() { tree.near(rng, g) } else { rng.pick(&from) });
+                    }
+                }
+            }
             _ => {
                 for _ in 0..m {
                     left.push(tree.near(rng, g));
@@ -330,10 +367,16 @@ pub fn draft(rng: &mut Rng) -> Draft {
                 }
             }
         }
+        if rng.chance(4) {
+            right[rng.index(k)] = left[rng.index(m)];
+        }
+        // Names of the empty set: one here and there, at times all of the right side.
         let mut list = vec![m as u16, k as u16];
-        for x in left.iter().chain(&right) {
-            let group = if rng.chance(4) { 0 } else { *x as u16 + 1 };
-            list.push(namer.name(rng, group));
+        for (side, empty) in [(left, 3), (right, if rng.chance(right_empty) { 100 } else { 3 })] {
+            for x in side {
+                let group = if rng.chance(empty) { 0 } else { x as u16 + 1 };
+                list.push(namer.name(rng, group));
+            }
         }
         claims.push(record(kind, &words(&list)));
     }
@@ -424,7 +467,7 @@ pub fn damage(rng: &mut Rng, d: &Draft) -> Vec<u8> {
             set_word(&mut records[at], 0, x);
         }
         1 => {
-            let x = rng.pick(&[0, 1, 2, 3, 4, 5, 6, 7, 8, 17, 32, 256, 258, 259, 260, 65535]);
+            let x = rng.pick(&[0, 1, 2, 3, 4, 5, 6, 7, 8, 9, 17, 32, 256, 258, 259, 260, 263, 65535]);
             set_word(&mut records[at], 2, x);
         }
         2 | 3 | 4 | 5 => {

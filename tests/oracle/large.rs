@@ -12,7 +12,7 @@
 // the sheet with lo(g) raised to k is. For one member's place the same forms are used for all
 // others' counts, over every choice of the sons that have that member.
 
-use crate::format::{Claim, Group, Sheet};
+use crate::format::{Claim, Group, ListKind, Sheet};
 
 pub const MOST: u64 = 127 * 65534;
 
@@ -156,19 +156,20 @@ impl<'a> Large<'a> {
         others[0][1].is_some()
     }
 
-    pub fn breaks(&self, claim: &Claim) -> bool {
+    // Whether the reply to the claim shows sets.
+    pub fn shown(&self, claim: &Claim) -> bool {
         match claim {
             Claim::Count { set, lo, hi } => {
                 let (least, greatest) = set.map_or((0, Some(0)), |g| self.range(g));
                 least < *lo || hi.is_some_and(|h| greatest.is_none_or(|g| g > h))
             }
-            Claim::Inside { left, right } => {
-                let out: Vec<usize> = right.iter().flatten().copied().collect();
-                distinct(left).iter().any(|&g| !out.contains(&g) && self.place(&[g], &out))
-            }
-            Claim::Apart { left, right } => {
-                let right = distinct(right);
-                distinct(left).iter().any(|&a| right.iter().any(|&b| self.place(&[a, b], &[])))
+            Claim::Lists { kind, left, right } => {
+                let (l, r) = (distinct(left), distinct(right));
+                match kind {
+                    ListKind::Inside => l.iter().any(|&g| !r.contains(&g) && self.place(&[g], &r)),
+                    ListKind::Apart => l.iter().any(|&a| r.iter().any(|&b| self.place(&[a, b], &[]))),
+                    ListKind::Place => !left.contains(&None) && self.place(&l, &r),
+                }
             }
         }
     }

@@ -75,11 +75,28 @@ fn call(ask: &Ask, sheet: &[u8], reply: *mut u8, len: usize) -> u64 {
     }
 }
 
-// What must come back: a refusal, these bytes, or a denial of this claim.
+// What must come back: a refusal, these bytes, or a verdict on this claim with sets.
 enum Want<'a> {
     Refused(u32, u32),
     Bytes(Vec<u8>),
-    Denial(&'a Sheet, &'a Claim),
+    Shown(&'a Sheet, &'a Claim),
+}
+
+impl Want<'_> {
+    // The bytes of the reply; a refusal has none.
+    fn length(&self) -> usize {
+        match self {
+            Want::Refused(..) => 0,
+            Want::Bytes(b) => b.len(),
+            Want::Shown(s, _) => verdict_with_sets(s.groups.len()),
+        }
+    }
+}
+
+const VERDICT: usize = 6;
+
+fn verdict_with_sets(groups: usize) -> usize {
+    VERDICT + 14 * groups
 }
 
 const GUARD: usize = 24;
@@ -168,13 +185,13 @@ impl Run {
                 }
                 bytes.len()
             }
-            Want::Denial(s, claim) => {
-                let need = 6 + 14 * s.groups.len();
+            Want::Shown(s, claim) => {
+                let need = want.length();
                 if (number, second) != (0, need as u64) {
-                    let why = format!("{said}, wanted 0 and {need} (a denial)");
+                    let why = format!("{said}, wanted 0 and {need} (a verdict with sets)");
                     self.fail(sheet, ask, len, &why);
                 }
-                if let Err(why) = denial(s, claim, &buffer[GUARD..GUARD + need]) {
+                if let Err(why) = check_shown(s, claim, &buffer[GUARD..GUARD + need]) {
                     self.fail(sheet, ask, len, &why);
                 }
                 need
@@ -196,26 +213,33 @@ impl Run {
             Ask::Claim(_) => "claim",
             Ask::Register(_) => "register",
         };
-        let need = match &want {
-            Want::Refused(n, r) => {
-                self.met(&format!("{op}: refusal {n:2}"));
-                // A refusal by 1 to 13 doesn't ask how long the buffer is.
-                let len = rng.pick(&[0, 1, 5, 6, 7, 8, 9, 20, 26, 2560, 4000]);
-                self.try_one(sheet, ask, len, &Want::Refused(*n, *r));
-                return;
-            }
-            Want::Bytes(b) => b.len(),
-            Want::Denial(s, _) => 6 + 14 * s.groups.len(),
-        };
-        self.met(&format!("{op}: answered"));
-        let more = need + rng.pick(&[1, 2, 7, 14, 20, 300]);
-        for len in [need, more] {
+        if let Want::Refused(n, _) = want {
+            self.met(&format!("{op}: refusal {n:2}"));
+            // A refusal by 1 to 13 doesn't ask how long the buffer is.
+            let len = rng.pick(&[0, 1, 5, 6, 7, 8, 9, 20, 26, 2560, 4000]);
             self.try_one(sheet, ask, len, &want);
+            return;
         }
-        let less = rng.index(need);
-        for len in [need - 1, less, rng.pick(&[0, 5, 6, 7]).min(need - 1)] {
-            self.met(&format!("{op}: refusal 14"));
-            self.try_one(sheet, ask, len, &Want::Refused(14, 0));
+        self.met(&format!("{op}: answered"));
+        let need = want.length();
+        let (less, more) = (rng.index(need), need + rng.pick(&[1, 2, 7, 14, 20, 300]));
+        let mut lengths = vec![need - 1, need, less, more];
+        if let Ask::Claim(_) = ask {
+            // Around the length of either reply.
+            let full = verdict_with_sets(word(sheet, 6) as usize);
+            lengths.extend([VERDICT - 1, VERDICT, full - 1, full]);
+            lengths.sort_unstable();
+            lengths.dedup();
+        } else {
+            lengths.push(rng.pick(&[0, 5, 6, 7]).min(need - 1));
+        }
+        for len in lengths {
+            if len < need {
+                self.met(&format!("{op}: refusal 14"));
+                self.try_one(sheet, ask, len, &Want::Refused(14, 0));
+            } else {
+                self.try_one(sheet, ask, len, &want);
+            }
         }
     }
 
@@ -236,6 +260,9 @@ impl Run {
             Ok(s) => s,
             Err((n, r)) => {
                 self.met("sheets: not readable");
+                if let Some(kind @ 4..=9) = kind_of(&bytes, r) {
+                    self.met(&format!("sheets: refusal {n} at kind {kind}"));
+                }
                 if HAS_RANGES {
                     self.case(rng, &bytes, &Ask::Ranges, Want::Refused(n, r));
                 }
@@ -342,25 +369,28 @@ impl Run {
             for k in 0..few {
                 let c = (start + k) % q;
                 let claim = &sheet.claims[c as usize];
-                let broken = large.breaks(claim);
-                if small.as_ref().is_some_and(|s| s.breaks(claim) != broken) {
+                let shown = large.shown(claim);
+                if small.as_ref().is_some_and(|s| s.shown(claim) != shown) {
                     self.fail(bytes, &Ask::Claim(c + 1), 0, "the oracle's two methods differ");
                 }
-                let kind = match claim {
-                    Claim::Count { .. } => "count",
-                    Claim::Inside { .. } => "inside",
-                    Claim::Apart { .. } => "apart",
-                };
+                let holds = claim.holds_by_sets() == shown;
+                let kind = claim.word();
                 let size = if small.is_some() { "small" } else { "large" };
-                let verdict = if broken { "denied" } else { "holds" };
+                let verdict = if holds { "holds" } else { "denied" };
                 self.met(&format!("claim: {kind} {verdict}, {size}"));
-                let want = || if broken {
-                    Want::Denial(sheet, claim)
+                if let (false, Claim::Lists { kind: ListKind::Place, left, right }) = (shown, claim) {
+                    let pair = |a: &Named, b: &Named| Claim::Lists { kind: ListKind::Place, left: vec![*a, *b], right: right.clone() };
+                    if left.iter().all(|a| left.iter().all(|b| large.shown(&pair(a, b)))) {
+                        self.met(PAIRS_ONLY);
+                    }
+                }
+                let want = || if shown {
+                    Want::Shown(sheet, claim)
                 } else {
-                    Want::Bytes(vec![4, 0, 18, 0, 1, 0])
+                    Want::Bytes(vec![4, 0, 18, 0, holds as u8, 0])
                 };
                 self.case(rng, bytes, &Ask::Claim(c + 1), want());
-                // The same sets fit the replaced sheet: what it shows of a denial fits this one.
+                // The same sets fit the replaced sheet: those that its reply shows fit this one.
                 if let (0, Some(b)) = (k, &again) {
                     self.met(&format!("replaced: {kind} {verdict}"));
                     self.of_replaced(rng, b, &Ask::Claim(c + 1), want());
@@ -383,30 +413,6 @@ impl Off {
         let moved = |end: u32, by: i64| if end > 65534 { end } else { (end as i64 + by).clamp(0, 65534) as u32 };
         (moved(dword(record, 4), self.lo), moved(dword(record, 8), self.hi))
     }
-}
-
-// A denial's reply: its frames, and that the sets it shows fit and break the claim.
-fn denial(sheet: &Sheet, claim: &Claim, reply: &[u8]) -> Result<(), String> {
-    if reply[..6] != [4, 0, 18, 0, 0, 0] {
-        return Err(format!("verdict record {}, wanted a denial", hex(&reply[..6])));
-    }
-    let mut runs = Vec::new();
-    for (g, r) in reply[6..].chunks(14).enumerate() {
-        let (first, count, mark) = (dword(r, 4), dword(r, 8), word(r, 12));
-        if word(r, 0) != 12 || word(r, 2) != 19 || first < 1 || mark > 1 {
-            return Err(format!("record {} of the denial is {}", g + 1, hex(r)));
-        }
-        runs.push((first, count, mark));
-    }
-    let members = expand(&runs);
-    let (g, rule) = broken_rule(sheet, &members);
-    if g != 0 {
-        return Err(format!("the denial's sets don't fit: group {g}, rule {rule}; {runs:?}"));
-    }
-    if !breaks(claim, &members) {
-        return Err(format!("the denial's sets don't break the claim; {runs:?}"));
-    }
-    Ok(())
 }
 
 fn hex(b: &[u8]) -> String {
@@ -435,7 +441,7 @@ fn wanted() -> Vec<String> {
         }
     }
     if HAS_CLAIM {
-        for kind in ["count", "inside", "apart"] {
+        for kind in ["count"].into_iter().chain(LIST_KINDS.map(ListKind::word)) {
             for verdict in ["holds", "denied"] {
                 for size in ["small", "large"] {
                     all.push(format!("claim: {kind} {verdict}, {size}"));
@@ -445,7 +451,14 @@ fn wanted() -> Vec<String> {
                 }
             }
         }
+        all.push(PAIRS_ONLY.to_string());
     }
+    for kind in 5..8 {
+        for n in 3..6 {
+            all.push(format!("sheets: refusal {n} at kind {kind}"));
+        }
+    }
+    all.push("sheets: refusal 2 at kind 8".to_string());
     if HAS_RANGES {
         for what in ["other bounds", "as it was", "an end above 65,534"] {
             all.push(format!("replaced: {what}"));
@@ -453,6 +466,9 @@ fn wanted() -> Vec<String> {
     }
     all
 }
+
+// A place is one member's, not a pair of sets at a time.
+const PAIRS_ONLY: &str = "claim: place denied, where any two left sets have it";
 
 const WORKERS: u64 = 2;
 

@@ -5,6 +5,7 @@ use crate::format::*;
 use crate::gen::Rng;
 use crate::large::{arrangement, Large};
 use crate::small::Small;
+use std::collections::BTreeMap;
 
 // Families over members 0..people; a set is the bits of its members.
 fn families(sheet: &Sheet, people: u32, mut each: impl FnMut(&[u32])) {
@@ -46,16 +47,21 @@ fn fits(sheet: &Sheet, family: &[u32]) -> bool {
     })
 }
 
-fn broken(claim: &Claim, family: &[u32]) -> bool {
+// The family breaks the claim; or it has some member in all left sets of a place and in no right set.
+fn shown(claim: &Claim, family: &[u32]) -> bool {
     let set = |n: &Named| n.map_or(0, |g| family[g]);
     let union = |l: &[Named]| l.iter().map(set).fold(0, |a, b| a | b);
+    let common = |l: &[Named]| l.iter().map(set).fold(u32::MAX, |a, b| a & b);
     match claim {
         Claim::Count { set: s, lo, hi } => {
             let count = set(s).count_ones() as u64;
             count < *lo || hi.is_some_and(|h| count > h)
         }
-        Claim::Inside { left, right } => union(left) & !union(right) != 0,
-        Claim::Apart { left, right } => union(left) & union(right) != 0,
+        Claim::Lists { kind, left, right } => 0 != match kind {
+            ListKind::Inside => union(left) & !union(right),
+            ListKind::Apart => union(left) & union(right),
+            ListKind::Place => common(left) & !union(right),
+        },
     }
 }
 
@@ -76,19 +82,19 @@ fn random_sheet(rng: &mut Rng, n: usize, most: u64, endless: u64) -> Sheet {
     }
     let sons = make_sons(&groups);
     let mut claims = Vec::new();
-    let set = |rng: &mut Rng| if rng.chance(7) { None } else { Some(rng.index(n)) };
-    for _ in 0..6 {
-        let list = |rng: &mut Rng| -> Vec<Named> {
-            (0..1 + rng.below(2)).map(|_| set(rng)).collect()
+    // The right side is more often empty, or few members are in no set of it.
+    let set = |rng: &mut Rng, empty: u64| if rng.chance(empty) { None } else { Some(rng.index(n)) };
+    for _ in 0..8 {
+        let list = |rng: &mut Rng, empty: u64| -> Vec<Named> {
+            (0..1 + rng.below(3)).map(|_| set(rng, empty)).collect()
         };
-        claims.push(match rng.below(3) {
+        claims.push(match rng.below(4) {
             0 => Claim::Count {
-                set: list(rng)[0],
+                set: set(rng, 7),
                 lo: rng.below(most + 1),
                 hi: if rng.chance(40) { None } else { Some(rng.below(most + 1)) },
             },
-            1 => Claim::Inside { left: list(rng), right: list(rng) },
-            _ => Claim::Apart { left: list(rng), right: list(rng) },
+            k => Claim::Lists { kind: LIST_KINDS[k as usize - 1], left: list(rng, 7), right: list(rng, 50) },
         });
     }
     Sheet { groups, sons, names: Vec::new(), claims }
@@ -104,10 +110,27 @@ fn with_ranges(sheet: &Sheet, range: impl Fn(usize) -> (u64, Option<u64>)) -> Op
     (!same).then_some(out)
 }
 
+// How often claims of each kind were denied and held.
+#[derive(Default)]
+struct Verdicts(BTreeMap<&'static str, [u64; 2]>);
+
+impl Verdicts {
+    fn met(&mut self, claim: &Claim, shown: bool) {
+        let holds = claim.holds_by_sets() == shown;
+        self.0.entry(claim.word()).or_default()[holds as usize] += 1;
+    }
+
+    fn say(&self) -> String {
+        assert!(self.0.len() == 4 && self.0.values().flatten().all(|&n| n > 0), "some verdict was never met");
+        let kinds = self.0.iter().map(|(kind, [denied, holds])| format!("{kind} {holds} hold and {denied} denied"));
+        kinds.collect::<Vec<_>>().join(", ")
+    }
+}
+
 pub fn run(seed: u64) {
     // All finite, so that a few people are enough: the root's hi bounds them.
     let mut rng = Rng::new(seed);
-    let (mut sheets, mut possible, mut claims, mut denied, mut other) = (0u64, 0u64, 0u64, 0u64, 0u64);
+    let (mut sheets, mut possible, mut other, mut verdicts) = (0u64, 0u64, 0u64, Verdicts::default());
     while sheets < 12_000 {
         let n = 1 + rng.index(4);
         let people = if n == 4 { 3 } else { 4 };
@@ -119,7 +142,7 @@ pub fn run(seed: u64) {
         sheets += 1;
         let mut some = false;
         let mut ranges = vec![(u64::MAX, 0); n];
-        let mut deny = vec![false; sheet.claims.len()];
+        let mut showing = vec![false; sheet.claims.len()];
         let mut fitting = Vec::new();
         families(&sheet, people, |f| {
             some = true;
@@ -128,8 +151,8 @@ pub fn run(seed: u64) {
                 let c = f[g].count_ones() as u64;
                 ranges[g] = (ranges[g].0.min(c), ranges[g].1.max(c));
             }
-            for (d, c) in deny.iter_mut().zip(&sheet.claims) {
-                *d |= broken(c, f);
+            for (s, c) in showing.iter_mut().zip(&sheet.claims) {
+                *s |= shown(c, f);
             }
         });
         let small = Small::new(&sheet, 10_000_000).expect("a small sheet");
@@ -159,15 +182,15 @@ pub fn run(seed: u64) {
         assert!(fitting.iter().all(|f| runs[0].count_ones() <= f[0].count_ones()), "the smallest\n{text}");
         assert!(runs.iter().all(|r| r & !runs[0] == 0), "a run outside the root's\n{text}");
         for (c, claim) in sheet.claims.iter().enumerate() {
-            claims += 1;
-            denied += deny[c] as u64;
-            assert_eq!(deny[c], small.breaks(claim), "claim {}, enumeration\n{text}", c + 1);
-            assert_eq!(deny[c], large.breaks(claim), "claim {}, closed forms\n{text}", c + 1);
+            verdicts.met(claim, showing[c]);
+            assert_eq!(showing[c], small.shown(claim), "claim {}, enumeration\n{text}", c + 1);
+            assert_eq!(showing[c], large.shown(claim), "claim {}, closed forms\n{text}", c + 1);
         }
     }
-    assert!(other > 0 && denied > 0 && possible < sheets, "some case was never met");
+    assert!(other > 0 && possible < sheets, "some case was never met");
     println!(
-        "self-test, families of sets: {sheets} sheets ({possible} possible, {other} with other ranges than bounds), {claims} claims ({denied} denied)"
+        "self-test, families of sets: {sheets} sheets ({possible} possible, {other} with other ranges than bounds); claims: {}",
+        verdicts.say()
     );
 
     // No sheet of up to three groups with bounds up to 2 gets other ranges or another arrangement from its ranges as
@@ -198,8 +221,51 @@ pub fn run(seed: u64) {
     }
     println!("self-test, ranges as bounds: {sheets} sheets ({possible} possible, {other} with other ranges than bounds)");
 
+    // All places under a root and three sons, hi up to 2 and a son's lo up to 1: two people are enough.
+    let (mut sheets, mut possible, mut held, mut pairs_only) = (0u64, 0u64, 0u64, 0u64);
+    let sides: Vec<Vec<Named>> = (0..16)
+        .map(|s: u32| if s == 0 { vec![None] } else { (0..4).filter(|g| s >> g & 1 == 1).map(Some).collect() })
+        .collect();
+    let claim = |l: usize, r: usize| Claim::Lists { kind: ListKind::Place, left: sides[l].clone(), right: sides[r].clone() };
+    let claims: Vec<Claim> = (0..256).map(|c| claim(c / 16, c % 16)).collect();
+    for code in 0..72 * 216u64 {
+        let son = |k: u64| Group { parent: Some(0), lo: k % 2, hi: Some(k / 2 % 3), mode: 0 };
+        let (root, k) = (code / 216, code % 216);
+        let root = Group { parent: None, lo: root % 3, hi: Some(root / 3 % 3), mode: (root / 9) as u16 };
+        let groups = vec![root, son(k), son(k / 6), son(k / 36)];
+        let sheet = Sheet { sons: make_sons(&groups), groups, names: Vec::new(), claims: Vec::new() };
+        sheets += 1;
+        let mut some = false;
+        let mut showing = [false; 256];
+        families(&sheet, 2, |f| {
+            some = true;
+            for (s, c) in showing.iter_mut().zip(&claims) {
+                *s = *s || shown(c, f);
+            }
+        });
+        if !some {
+            continue;
+        }
+        possible += 1;
+        let small = Small::new(&sheet, 10_000_000).expect("a small sheet");
+        let large = Large::new(&sheet);
+        for (c, claim) in claims.iter().enumerate() {
+            held += showing[c] as u64;
+            assert_eq!(showing[c], small.shown(claim), "{claim:?}, enumeration\n{}", show(&sheet));
+            assert_eq!(showing[c], large.shown(claim), "{claim:?}, closed forms\n{}", show(&sheet));
+            // Any two of its left sets can share such a member, all can't.
+            let (l, r) = (c / 16, c % 16);
+            let pairs = (1..16usize).filter(|p| p & !l == 0 && p.count_ones() == 2);
+            pairs_only += (l.count_ones() > 2 && !showing[c] && pairs.into_iter().all(|p| showing[16 * p + r])) as u64;
+        }
+    }
+    assert!(held > 0 && pairs_only > 0, "some case was never met");
+    println!(
+        "self-test, places: {sheets} sheets ({possible} possible), all places: {held} hold, {pairs_only} only of any two left sets"
+    );
+
     // Enumeration against closed forms, also without upper ends.
-    let (mut sheets, mut possible, mut claims, mut denied) = (0u64, 0u64, 0u64, 0u64);
+    let (mut sheets, mut possible, mut verdicts) = (0u64, 0u64, Verdicts::default());
     while sheets < 60_000 {
         let n = 1 + rng.index(6);
         let sheet = random_sheet(&mut rng, n, 3, 25);
@@ -216,14 +282,14 @@ pub fn run(seed: u64) {
             assert_eq!(small.ranges[g], large.range(g), "range of {}\n{text}", g + 1);
         }
         for (c, claim) in sheet.claims.iter().enumerate() {
-            claims += 1;
-            let d = small.breaks(claim);
-            denied += d as u64;
-            assert_eq!(d, large.breaks(claim), "claim {}\n{text}", c + 1);
+            let shown = small.shown(claim);
+            verdicts.met(claim, shown);
+            assert_eq!(shown, large.shown(claim), "claim {}\n{text}", c + 1);
         }
     }
     println!(
-        "self-test, enumeration and closed forms: {sheets} sheets ({possible} possible), {claims} claims ({denied} denied)"
+        "self-test, enumeration and closed forms: {sheets} sheets ({possible} possible); claims: {}",
+        verdicts.say()
     );
-    println!("self-test: 3 passed, 0 failed");
+    println!("self-test: 4 passed, 0 failed");
 }

@@ -6,7 +6,7 @@
 // and a group that some legal member without any finite hi is in has no greatest count. In every
 // other group each member is also in a group with a finite hi, so the sum of these bounds it.
 
-use crate::format::{Claim, Named, Sheet};
+use crate::format::{Claim, Sheet};
 
 pub struct Small {
     vectors: Vec<u32>,
@@ -139,15 +139,10 @@ impl Small {
         Some(to as usize)
     }
 
-    // Whether some sets that fit break the claim; asked only of a possible sheet.
-    pub fn breaks(&self, claim: &Claim) -> bool {
+    // Whether the reply to the claim shows sets: some that fit break it, or have the member of a place. Asked only of a
+    // possible sheet.
+    pub fn shown(&self, claim: &Claim) -> bool {
         let zero = vec![0; self.caps.len()];
-        let mask = |sets: &[Named]| sets.iter().flatten().fold(0u32, |m, g| m | 1 << g);
-        let some = |test: &dyn Fn(u32) -> bool| {
-            self.vectors
-                .iter()
-                .any(|&v| test(v) && self.step(&zero, 0, v).is_some_and(|s| self.good[s]))
-        };
         match claim {
             Claim::Count { set, lo, hi } => {
                 let (least, greatest) = set.map_or((0, Some(0)), |g| self.ranges[g]);
@@ -158,14 +153,10 @@ impl Small {
                         (Some(a), Some(b)) => a > b,
                     }
             }
-            Claim::Inside { left, right } => {
-                let (l, r) = (mask(left), mask(right));
-                some(&|v| v & l != 0 && v & r == 0)
-            }
-            Claim::Apart { left, right } => {
-                let (l, r) = (mask(left), mask(right));
-                some(&|v| v & l != 0 && v & r != 0)
-            }
+            Claim::Lists { kind, left, right } => self.vectors.iter().any(|&v| {
+                kind.sought(left, right, |set| set.is_some_and(|g| v >> g & 1 == 1))
+                    && self.step(&zero, 0, v).is_some_and(|s| self.good[s])
+            }),
         }
     }
 }

@@ -32,13 +32,11 @@ def count(of, lo, hi):
     return record(4, of, lo, hi)
 
 
-def inside(left, right):
-    return record(5, len(left), len(right), *left, *right)
+def lists(kind):
+    return lambda left, right: record(kind, len(left), len(right), *left, *right)
 
 
-def apart(left, right):
-    return record(6, len(left), len(right), *left, *right)
-
+inside, apart, place = lists(5), lists(6), lists(7)
 
 printed = (
     head(4, 4, 3)
@@ -58,17 +56,20 @@ claim 3 denied
 largest = head(128, 128, 64) + group(0, 127, 127, 3) + group(1, 1, 1, 0) * 127
 largest += b''.join(name(i, 'SIXTEEN-BYTES%03d' % i) for i in range(1, 129))
 eight, other = list(range(2, 10)), list(range(121, 129))
-for c in range(16):
+for c in range(8):
     largest += apart(eight, other)           # holds: the sons are disjoint
     largest += inside(eight, eight[::-1])    # holds
     largest += inside(eight, other)          # denied: none of them is empty
     largest += apart(eight, other[:7] + [1]) # denied: the root has them all
+    largest += place([2] * 8, other)         # holds
+    largest += place([1] * 8, eight)         # holds: the root has others
+    largest += place(eight, other)           # denied: the sons are disjoint
+    largest += place([2] * 8, other[:7] + [2]) # denied: on both sides
 assert len(largest) == 6924
 largest_lines = b'1 127 127 1 127\n'
 largest_lines += b''.join(b'%d 1 1 %d 1\n' % (g, g - 1) for g in range(2, 129))
-for c in range(0, 64, 4):
-    for k, verdict in enumerate([b'holds', b'holds', b'denied', b'denied']):
-        largest_lines += b'claim %d %s\n' % (c + k + 1, verdict)
+for c in range(64):
+    largest_lines += b'claim %d %s\n' % (c + 1, [b'holds', b'holds', b'denied', b'denied'][c % 4])
 
 no_end = head(1, 1, 3) + group(0, 0, NO_END, 0) + name(1, 'A')
 no_end += count(1, 0, 65534) + count(1, 0, NO_END) + count(1, 1, NO_END)
@@ -101,6 +102,31 @@ claim 8 holds
 claim 9 denied
 '''
 
+# Of two members three sons of one each can't share one, two can.
+places = (
+    head(4, 5, 7)
+    + group(0, 2, 2, 2) + group(1, 0, 1, 0) * 3
+    + name(1, 'ROOT') + name(2, 'A') + name(3, 'B') + name(4, 'C') + name(0, 'NOBODY')
+    + place([2, 3], [5])        # holds: nobody on the right is passed over
+    + place([2, 3, 4], [5])     # denied
+    + place([2, 5], [4])        # denied: nobody is in NOBODY
+    + place([2], [4, 5, 3])     # holds
+    + apart([2], [3])           # denied
+    + place([1], [2, 3, 4])     # denied: cover
+    + place([1, 3], [2]))       # holds
+places_lines = b'''1 2 2 1 2
+2 0 1 1 1
+3 0 1 2 1
+4 0 1 2 1
+claim 1 holds
+claim 2 denied
+claim 3 denied
+claim 4 holds
+claim 5 denied
+claim 6 denied
+claim 7 holds
+'''
+
 wide = head(128, 0, 0) + group(0, 0, NO_END, 2) + group(1, 0, 65534, 0) * 127
 wide_lines = b'1 0 8322818 1 0\n' + b''.join(b'%d 0 65534 1 0\n' % g for g in range(2, 129))
 
@@ -113,7 +139,8 @@ CASES = [
     ('printed case', printed, printed_lines),
     ('one group', one, b'1 0 3 1 0\n'),
     ('no upper end', no_end, b'1 0 - 1 0\nclaim 1 denied\nclaim 2 holds\nclaim 3 denied\n'),
-    ('all claim kinds', kinds, kinds_lines),
+    ('counts, inside and apart', kinds, kinds_lines),
+    ('places', places, places_lines),
     ('one of the largest', largest, largest_lines),
     ('127 sons of 65,534 under cover', wide, wide_lines),
     ('impossible', impossible, b'refused 8 0\n'),
@@ -124,6 +151,8 @@ CASES = [
     ('1: last record cut', printed[:-1], b'refused 1 12\n'),
     ('1: last record missing', printed[:-12], b'refused 1 12\n'),
     ('2: a group first', printed[12:], b'refused 2 1\n'),
+    ('2: a claim of kind 8',
+     head(1, 1, 1) + group(0, 0, 3, 0) + name(1, 'A') + lists(8)([1], [1]), b'refused 2 4\n'),
     ('3: head of length 12', record(1, 1, 1, 0, 0, 0) + group(0, 0, 3, 0), b'refused 3 1\n'),
     ('4: edition 2', record(1, 2, 1, 0, 0) + group(0, 0, 3, 0), b'refused 4 1\n'),
     ('5: own parent', head(2, 0, 0) + group(0, 0, 3, 0) + group(2, 0, 3, 0), b'refused 5 3\n'),

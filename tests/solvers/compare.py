@@ -9,10 +9,11 @@ import random
 import sys
 from collections import Counter
 
-from models import Cvc5Sets, GlpkSizes, Unanswered, Z3Sizes, ends_questions
-from sheets import Library, breaks, by_hand, fits, random_sheet, shown_sets
+from models import Cvc5Sets, GlpkSizes, Unanswered, Z3Sizes, claims_shown, ends_questions
+from sheets import KINDS, Library, by_hand, fits, may_show, random_sheet, shown_sets
 
 tally, missing = Counter(), Counter()
+VERDICT = '%s claims, %s'
 
 
 def differ(sheet, solver, what):
@@ -22,16 +23,22 @@ def differ(sheet, solver, what):
 
 
 def agree(sheet, solver, what, ours, theirs):
+    """One answer; it is counted under what comes before the colon."""
     if ours != theirs:
         differ(sheet, solver, '%s: library %s, solver %s' % (what, ours, theirs))
-    tally['%s: %s' % (solver, what.split()[0])] += 1
+    tally['%s: %s' % (solver, what.split(':')[0])] += 1
+
+
+def agree_claims(sheet, solver, ours, answers):
+    for claim, holds, shown, theirs in zip(sheet.claims, ours.holds, ours.shown, answers):
+        agree(sheet, solver, VERDICT % (claim[0], 'hold' if holds else 'denied') + ': %s' % (claim,), shown, theirs)
 
 
 class Ours:
-    """What the library says of a sheet, with each denial's sets checked."""
+    """What the library says of a sheet, with the sets that it shows checked."""
 
     def __init__(self, library, sheet, operations, expand):
-        self.ranges, self.denied = None, None
+        self.ranges, self.shown = None, []
         self.possible = None
         if 'ranges' in operations:
             self.ranges = library.ranges(sheet)
@@ -44,13 +51,13 @@ class Ours:
                 if (v is not None) != self.possible:
                     differ(sheet, 'itself', 'claim %d: possible or not' % (i + 1))
             if self.possible:
-                self.denied = [v is not True for v in said]
-                for i, v in enumerate(said):
-                    if v is not True and (expand or sum(r[1] for r in v) < 100000):
-                        sets = shown_sets(v)
-                        if not fits(sheet, sets) or not breaks(sheet.claims[i], sets):
-                            differ(sheet, 'plain check', 'denial of claim %d: %s' % (i + 1, v))
-                        tally['denials whose sets were checked'] += 1
+                self.holds, self.shown = [v[0] for v in said], [v[1] is not None for v in said]
+                for i, (_, runs) in enumerate(said):
+                    if runs is not None and (expand or sum(r[1] for r in runs) < 100000):
+                        sets = shown_sets(runs)
+                        if not fits(sheet, sets) or not may_show(sheet.claims[i], sets):
+                            differ(sheet, 'plain check', 'sets shown of claim %d: %s' % (i + 1, runs))
+                        tally['replies whose sets were checked'] += 1
 
 
 def with_cvc5(sheet, ours):
@@ -63,14 +70,14 @@ def with_cvc5(sheet, ours):
             ends = list(ends_questions(ours.ranges))
             for g, op, k, _ in ends:
                 model.check(model.end(g, op, k))
-        for c in sheet.claims if ours.denied is not None else []:
-            model.check(model.broken(c))
+        for c in sheet.claims if ours.shown else []:
+            model.check(model.shown(c))
     answers = model.answers()
     agree(sheet, name, 'possible', ours.possible, answers.pop(0))
     for g, op, k, want in ends:
         agree(sheet, name, 'range end: group %d %s %d' % (g, op, k), want, answers.pop(0))
-    for i in range(len(ours.denied or [])):
-        agree(sheet, name, 'claim %d' % (i + 1), ours.denied[i], answers.pop(0))
+    if ours.shown:
+        agree_claims(sheet, name, ours, answers)
 
 
 def with_z3(sheet, ours):
@@ -81,11 +88,8 @@ def with_z3(sheet, ours):
         return
     for g, op, k, want in ends_questions(ours.ranges or []):
         agree(sheet, name, 'range end: group %d %s %d' % (g, op, k), want, model.end(g, op, k))
-    if ours.denied is not None:
-        marked = Z3Sizes(sheet).marked()
-        for i, c in enumerate(sheet.claims):
-            theirs = model.count_broken(c) if c[0] == 'count' else marked.place_broken(c)
-            agree(sheet, name, 'claim %d' % (i + 1), ours.denied[i], theirs)
+    if ours.shown:
+        agree_claims(sheet, name, ours, claims_shown(model, Z3Sizes(sheet).marked(), sheet))
 
 
 def with_glpk(sheet, ours):
@@ -95,12 +99,9 @@ def with_glpk(sheet, ours):
     if not ours.possible:
         return
     for g, r in enumerate(ours.ranges or []):
-        agree(sheet, name, 'range of group %d' % (g + 1), r, model.range(g + 1))
-    if ours.denied is not None:
-        marked = GlpkSizes(sheet, marked=True)
-        for i, c in enumerate(sheet.claims):
-            theirs = model.count_broken(c) if c[0] == 'count' else marked.place_broken(c)
-            agree(sheet, name, 'claim %d' % (i + 1), ours.denied[i], theirs)
+        agree(sheet, name, 'range: group %d' % (g + 1), r, model.range(g + 1))
+    if ours.shown:
+        agree_claims(sheet, name, ours, claims_shown(model, GlpkSizes(sheet, marked=True), sheet))
 
 
 def main():
@@ -128,8 +129,6 @@ def main():
             continue
         kind = 'small' if small else 'large'
         tally['%s sheets, %s' % (kind, 'possible' if ours.possible else 'impossible')] += 1
-        for denied in ours.denied or []:
-            tally['claims denied' if denied else 'claims that hold'] += 1
         for solver in solvers:
             try:
                 solver(s, ours)
@@ -145,6 +144,12 @@ def main():
     agreed = sum(n for k, n in tally.items() if ' (sets): ' in k or ' (sizes): ' in k)
     if agreed == 0 or not tally['small sheets, possible']:
         print('nothing was compared')
+        sys.exit(1)
+    wanted = ['%s: %s' % (model.name, VERDICT % (kind, verdict)) for model in (Cvc5Sets, Z3Sizes, GlpkSizes)
+              for kind in KINDS for verdict in ('hold', 'denied')]
+    unmet = [k for k in wanted if not tally[k]]
+    if 'claim' in operations and unmet:
+        print('never met: ' + '; '.join(unmet))
         sys.exit(1)
     print('solvers: %d answers agree on %d sheets, seed %d' % (agreed, len(sheets), o.seed))
 

@@ -5,7 +5,9 @@ the counts of some sets that meet the structural rules exactly when
     f(son) <= f(parent); f(son) = f(parent) under 'same'; sum of f(sons) <= f(g) under 'disjoint';
     f(g) <= sum of f(sons) under 'cover'.
 Whether a member can be in some place is asked with a second such table m of zeros and ones for that
-member, the others' sizes f, and lo <= f + m <= hi."""
+member, the others' sizes f, and lo <= f + m <= hi.
+
+A question on a claim is whether its reply shows sets: some that fit break it, or have a place's member."""
 import subprocess
 
 from sheets import COVER, DISJOINT, MOST, SAME
@@ -24,6 +26,7 @@ class Cvc5Sets:
         self.sheet = sheet
         lines = ['(set-logic ALL)', '(set-option :incremental true)']
         lines.append('(define-fun e () (Set Int) (as set.empty (Set Int)))')
+        lines.append('(declare-const x Int)')
         for g in sheet.numbers:
             lines.append('(declare-const s%d (Set Int))' % g)
         for g in sheet.numbers:
@@ -65,13 +68,16 @@ class Cvc5Sets:
             raise Unanswered
         return [a == 'sat' for a in out]
 
-    def broken(self, claim):
+    def shown(self, claim):
         of = lambda s: 's%d' % s if s else 'e'
         if claim[0] == 'count':
             low = '(< (set.card %s) %d)' % (of(claim[1]), claim[2])
             if claim[3] is None:
                 return low
             return '(or %s (> (set.card %s) %d))' % (low, of(claim[1]), claim[3])
+        if claim[0] == 'place':
+            has = lambda sets: ' '.join('(set.member x %s)' % of(s) for s in sets)
+            return '(and true %s (not (or false %s)))' % (has(claim[1]), has(claim[2]))
         left, right = union([s for s in claim[1] if s]), union([s for s in claim[2] if s])
         if claim[0] == 'inside':
             return '(not (set.subset %s %s))' % (left, right)
@@ -98,6 +104,17 @@ def ends_questions(ranges):
         else:
             yield i + 1, '=', greatest, True
             yield i + 1, '>', greatest, False
+
+
+def member_sought(claim):
+    """Where the member is whom shown sets have: in some group of each list, and in none of the last groups."""
+    kind, left, right = claim
+    groups = lambda sets: sorted({s for s in sets if s})
+    if kind == 'inside':
+        return [groups(left)], groups(right)
+    if kind == 'apart':
+        return [groups(left), groups(right)], []
+    return [groups([s]) for s in left], groups(right)
 
 
 # z3 over sizes.
@@ -178,18 +195,17 @@ class Z3Sizes:
     def at_least(self, g, k):
         return self.found(g, self.f[g] >= k)
 
-    def count_broken(self, claim):
+    def count_shown(self, claim):
         _, g, lo, hi = claim
         if g == 0:
             return lo > 0
         x = self.f[g]
         return self.check(self.z3.Or(x < lo, x > hi) if hi is not None else x < lo)
 
-    def place_broken(self, claim):
-        z3, m = self.z3, self.members
-        some = lambda l: z3.Or([m[s] == 1 for s in l if s]) if any(l) else z3.BoolVal(False)
-        right = some(claim[2])
-        return self.check(some(claim[1]), right if claim[0] == 'apart' else z3.Not(right))
+    def member_shown(self, claim):
+        within, without = member_sought(claim)
+        return self.check(*[self.z3.Or([self.members[g] == 1 for g in some]) for some in within],
+                          *[self.members[g] == 0 for g in without])
 
 
 # GLPK over sizes: an integer programme.
@@ -295,22 +311,21 @@ class GlpkSizes:
         greatest = self.best(g, self.glp.GLP_MAX)
         return least, None if greatest > MOST else greatest
 
-    def count_broken(self, claim):
+    def count_shown(self, claim):
         _, g, lo, hi = claim
         if g == 0:
             return lo > 0
         least, greatest = self.range(g)
         return least < lo or (hi is not None and (greatest is None or greatest > hi))
 
-    def place_broken(self, claim):
-        left = sorted({s for s in claim[1] if s})
-        right = sorted({s for s in claim[2] if s})
-        if not left or (claim[0] == 'apart' and not right):
+    def member_shown(self, claim):
+        within, without = member_sought(claim)
+        if not all(within):
             return False
-        rows = [self.row([(self.n + s, 1) for s in left], 1, None)]
-        if right:
-            terms = [(self.n + s, 1) for s in right]
-            rows.append(self.row(terms, 1, None) if claim[0] == 'apart' else self.row(terms, 0, 0))
+        terms = lambda groups: [(self.n + g, 1) for g in groups]
+        rows = [self.row(terms(some), 1, None) for some in within]
+        if without:
+            rows.append(self.row(terms(without), 0, 0))
         answer = self.solve()
         self.drop(rows)
         return answer
@@ -380,16 +395,21 @@ class Cvc5Sizes:
     def at_least(self, g, k):
         return self.check('(>= f%d %d)' % (g, k), 'f%d' % g)
 
-    def count_broken(self, claim):
+    def count_shown(self, claim):
         _, g, lo, hi = claim
         if g == 0:
             return lo > 0
         return self.check('(or (< f%d %d) %s)' % (g, lo, '(> f%d %d)' % (g, hi) if hi is not None else 'false'))
 
-    def place_broken(self, claim):
-        some = lambda l: '(or false false %s)' % ' '.join('(= m%d 1)' % s for s in l if s)
-        right = some(claim[2])
-        return self.check('(and %s %s)' % (some(claim[1]), right if claim[0] == 'apart' else '(not %s)' % right))
+    def member_shown(self, claim):
+        within, without = member_sought(claim)
+        some = lambda groups: '(or false false %s)' % ' '.join('(= m%d 1)' % g for g in groups)
+        return self.check('(and true %s (not %s))' % (' '.join(map(some, within)), some(without)))
+
+
+def claims_shown(plain, marked, sheet):
+    """The answers of a solver on all claims, by its model of sizes and the one with a member's place."""
+    return [plain.count_shown(c) if c[0] == 'count' else marked.member_shown(c) for c in sheet.claims]
 
 
 def search_range(model, g):

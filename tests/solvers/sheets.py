@@ -7,11 +7,12 @@ NO_END = 65535
 NONE = 4294967295
 MOST = 127 * 65534
 DISJOINT, COVER, SAME = 1, 2, 4
+KINDS = {'count': 4, 'inside': 5, 'apart': 6, 'place': 7}
 
 
 class Sheet:
     """groups: (parent, lo, hi or None, mode), parents from 1, 0 for the root.
-    claims: ('count', set, lo, hi or None), ('inside' or 'apart', left sets, right sets);
+    claims: ('count', set, lo, hi or None), ('inside', 'apart' or 'place', left sets, right sets);
     a set is a group's number, or 0 for the empty one."""
 
     def __init__(self, groups, claims=(), what=''):
@@ -43,11 +44,10 @@ class Sheet:
         claims = []
         for c in self.claims:
             if c[0] == 'count':
-                claims.append(record(4, [name(c[1]), c[2], end(c[3])]))
+                claims.append(record(KINDS[c[0]], [name(c[1]), c[2], end(c[3])]))
             else:
                 left, right = [name(s) for s in c[1]], [name(s) for s in c[2]]
-                claims.append(record(5 if c[0] == 'inside' else 6,
-                                     [len(left), len(right)] + left + right))
+                claims.append(record(KINDS[c[0]], [len(left), len(right)] + left + right))
         out = record(1, [1, len(self.groups), len(named), len(claims)])
         for parent, lo, hi, mode in self.groups:
             out += record(2, [parent, lo, end(hi), mode])
@@ -96,19 +96,20 @@ class Library:
         return out
 
     def claim(self, sheet, number):
-        """None for an impossible sheet, True for holds, the runs shown for denied."""
+        """None for an impossible sheet, else whether the claim holds and the runs shown, None where no sets are: those
+        of a denial, and of a place's yes."""
         refusal, second, reply = self.ask('c 2560 %d %s' % (number, sheet.bytes().hex()))
         if refusal == 8:
             return None
         assert refusal == 0, (refusal, second, str(sheet))
         length, kind, verdict = struct.unpack_from('<HHH', reply)
         assert (length, kind) == (4, 18) and verdict in (0, 1)
-        if verdict == 1:
+        if (verdict == 1) != (sheet.claims[number - 1][0] == 'place'):
             assert second == 6
-            return True
+            return verdict == 1, None
         assert second == 6 + 14 * len(sheet.groups)
-        return [struct.unpack_from('<IIH', reply, 6 + 14 * g + 4)
-                for g in range(len(sheet.groups))]
+        return verdict == 1, [struct.unpack_from('<IIH', reply, 6 + 14 * g + 4)
+                              for g in range(len(sheet.groups))]
 
 
 def shown_sets(runs):
@@ -134,13 +135,16 @@ def fits(sheet, sets):
     return True
 
 
-def breaks(claim, sets):
+def may_show(claim, sets):
+    """Whether a reply may show these sets: they break the claim, or member 0 is where a place has it."""
     of = lambda s: sets[s - 1] if s else set()
     if claim[0] == 'count':
         n = len(of(claim[1]))
         return n < claim[2] or (claim[3] is not None and n > claim[3])
     left = set().union(*map(of, claim[1]))
     right = set().union(*map(of, claim[2]))
+    if claim[0] == 'place':
+        return all(0 in of(s) for s in claim[1]) and 0 not in right
     return bool(left - right) if claim[0] == 'inside' else bool(left & right)
 
 
@@ -149,6 +153,7 @@ def by_hand():
     count = lambda s, lo, hi: ('count', s, lo, hi)
     inside = lambda a, b: ('inside', a, b)
     apart = lambda a, b: ('apart', a, b)
+    place = lambda a, b: ('place', a, b)
     s = Sheet
     return [
         s([(0, 10, 12, 3), (1, 0, 5, 0), (1, 2, 6, 0), (2, 3, None, 0)],
@@ -169,7 +174,8 @@ def by_hand():
         s([(0, 0, None, 0)], [count(1, 0, 65534), count(1, 0, None)], 'root without upper end'),
         s([(0, 0, 4, 0), (1, 0, 4, 0)],
           [inside([0], [1]), inside([0], [0]), apart([0], [0]), apart([0], [1]), inside([1], [0]),
-           inside([1], [0, 1]), count(0, 0, 0), count(0, 1, 5)], 'the empty-set name'),
+           inside([1], [0, 1]), count(0, 0, 0), count(0, 1, 5), place([0], [1]), place([1, 0], [2]),
+           place([1], [0]), place([1], [0, 2]), place([1], [1])], 'the empty-set name'),
         s([(0, 5, 5, 2), (1, 3, 5, 0), (1, 3, 5, 0)], [count(2, 3, 5), count(2, 3, 4)],
           'trap: sons of a cover-only root capped'),
         s([(0, 5, 5, 1), (1, 0, 3, 0), (1, 0, 1, 0)], [count(2, 1, 3), count(2, 0, 3)],
@@ -178,13 +184,20 @@ def by_hand():
           'trap: ancestry alone'),
         s([(0, 2, 2, 2), (1, 0, 1, 0), (1, 0, 1, 0), (1, 0, 1, 0)],
           [apart([2], [3]), apart([3], [4]), inside([2], [3, 4]), inside([1], [2, 3]),
-           inside([1], [2, 3, 4])], 'cover root of 2 over three sons of 1'),
+           inside([1], [2, 3, 4]), place([2, 3], [0]), place([2, 4], [3]), place([3, 4], [2]),
+           place([2, 3, 4], [0]), place([1], [2, 3]), place([1], [2, 3, 4])],
+          'cover root of 2 over three sons of 1'),
         s([(0, 4, 4, 0), (1, 4, 4, 0), (2, 4, 4, 0), (1, 0, 4, 0)],
           [inside([4], [3]), inside([1], [3]), inside([3], [4])], 'equal deep in the tree'),
         s([(0, 0, None, 2), (1, 0, 65534, 0), (1, 0, 65534, 0)],
           [count(1, 0, 65534), count(1, 0, None), count(2, 0, 65534)], 'counts above 65,534'),
         s([(0, 0, 65534, 0)], [count(1, 0, 65534), count(1, 0, 65533)], 'hi 65,534'),
     ]
+
+
+def way_up(parents, g):
+    """A group and all above it."""
+    return [g] + way_up(parents, parents[g - 1]) if g else []
 
 
 def random_sheet(rng, n, claims, most=4):
@@ -238,21 +251,27 @@ def random_sheet(rng, n, claims, most=4):
     asked = []
     for _ in range(claims):
         g = rng.randint(1, n)
-        kind = rng.choice(['count', 'inside', 'inside', 'apart'])
+        kind = rng.choice(['count', 'inside', 'inside', 'apart', 'place', 'place'])
         if kind == 'count':
             k = sizes[g]
             asked.append((kind, g, max(0, min(65534, k - rng.randint(0, 2))),
                           rng.choice([None, min(65534, k), min(65534, k + 1)])))
         elif kind == 'inside' and sons[g] and rng.random() < 0.3:
             asked.append((kind, [g], sons[g][:8]))
+        elif kind == 'place' and rng.random() < 0.3:
+            asked.append((kind, sons[g][:8] or [g], [0]))
+        elif kind == 'place' and rng.random() < 0.5:
+            way = way_up(parents, g)
+            out = [s for s in range(1, n + 1) if s not in way] or [0]
+            asked.append((kind, rng.choices(way, k=rng.randint(1, 8)), rng.choices(out, k=rng.randint(1, 8))))
         else:
             asked.append((kind, [near(g) for _ in range(rng.randint(1, 2))],
                           [near(g) for _ in range(rng.randint(1, 3))]))
     return Sheet(groups, asked, 'by chance')
 
 
-def largest(n, shape, rng, claims=64):
-    """A possible sheet of n groups with bounds that matter, for timing."""
+def large_tree(n, shape):
+    """Parents, groups and sizes of a possible sheet of n groups with bounds that matter, for timing."""
     parents = [0] + [{'chain': i - 1, 'star': 1, 'bushy': (i + 2) // 4}[shape]
                      for i in range(2, n + 1)]
     sons = {g: [i + 1 for i, p in enumerate(parents) if p == g] for g in range(1, n + 1)}
@@ -266,11 +285,29 @@ def largest(n, shape, rng, claims=64):
             else:
                 sizes[s] = k if mode == 2 and i == 0 else max(1, k - i)
         groups.append((parents[g - 1], max(0, k - 5), k + 5 if g % 4 else None, mode))
+    return parents, groups, sizes
+
+
+def largest(n, shape, rng):
+    """With 64 claims of kinds 4 to 6."""
+    parents, groups, sizes = large_tree(n, shape)
     asked = []
-    for c in range(claims):
+    for c in range(64):
         g, h = rng.randint(1, n), rng.randint(1, n)
         asked.append([
             ('count', g, max(0, sizes[g] - 5), sizes[g] + 5),
             ('inside', [g, rng.randint(1, n)], [h, rng.randint(1, n), parents[g - 1] or 1]),
             ('apart', [g], [h, rng.randint(1, n)])][c % 3])
     return Sheet(groups, asked, '%s of %d' % (shape, n))
+
+
+def largest_places(n, shape, rng):
+    """With 64 places of 8 names a side, the left ones by turns on one way up and anywhere; the first is a yes."""
+    parents, groups, _ = large_tree(n, shape)
+    asked = []
+    for c in range(64):
+        way = way_up(parents, rng.randint(1, n - 1) if c else 1)
+        left = rng.choices(way if c % 2 == 0 else range(1, n + 1), k=8)
+        right = [s for s in range(1, n + 1) if s not in (way if c % 2 == 0 else left)]
+        asked.append(('place', left, rng.choices(right, k=8)))
+    return Sheet(groups, asked, 'places in a %s of %d' % (shape, n))
