@@ -60,8 +60,10 @@ fn say(what: &str, times: (f64, f64)) {
     println!("{what}\t{:.0}\t{:.0}", times.0, times.1);
 }
 
+// The same number returned and the same bytes written; what an earlier call left behind them is not compared.
 fn same(what: &str, a: (u64, &[u8]), b: (u64, &[u8])) {
-    assert!(a == b, "{what}: the two differ, {:?} and {:?}", a.0, b.0);
+    let written = |x: (u64, &[u8])| x.1[..x.0 as u32 as usize].to_vec();
+    assert!(a.0 == b.0 && written(a) == written(b), "{what}: the two differ, {:?} and {:?}", a.0, b.0);
 }
 
 fn word(b: &[u8], at: usize) -> usize {
