@@ -92,7 +92,7 @@ empty-judged place l r e m =
     witnessed-no (λ v. let w = every-has (v .0) l _ (v .2 .1 .left) 0 m in omega (arith, w .0))
 
 -- kind 6 (true) or 5 (false): claims that one left set breaks
-abbrev pub brokenKind : Bool → ListKind
+unfoldable pub brokenKind : Bool → ListKind
 brokenKind false = inside
 brokenKind true = apart
 
@@ -104,6 +104,7 @@ left-one e (along {g = g} m p o q) = (g, m, λ k i. along i p o q)
 left-one e (within-all p) = absurd (true≢false e)
 
 broken-one : (b : Bool) → isPlace (brokenKind b) ≡ false
+unfolding brokenKind
 broken-one false = refl
 broken-one true = refl
 
@@ -188,6 +189,7 @@ module _ {s : Sheet} where
 
   pub inside-tried : {g : ℕ} {r sizes marks : List ℕ} {b x : Bool} → b ≡ false → 1 ≤ g → PlaceJudged s (g ∷ []) r sizes marks x
       → Tried s (brokenKind b) (g ∷ []) r sizes marks x
+  unfolding brokenKind
   inside-tried {g} {r} e a w =
       rw e (witnessed-as (λ v. (g ∷ [], r, away (List·Memᴰ·head refl) a, v)) (λ v. inside-only (v .2) (v .3)) w)
 

@@ -29,7 +29,11 @@ ghost use Rattle.claims.specs.Decided.{Decided};
 fn lacks_member(kind: ListKind, k: usize, n: u16) -> bool
     ensures { λ r. ⌜ r ≡ (isPlace (listAs kind) && ltb k n) ⌝ }
 {
-    if is_place(kind) { k < n as usize } else { false }
+    if is_place(kind) {
+        k < n as usize
+    } else {
+        false
+    }
 }
 
 // Whether some sets that fit answer the claim of kinds 5 to 7 on two lists of names.

@@ -68,7 +68,7 @@ pub fn put_range(out: &mut [u8], at: usize, least: u32, greatest: u32, first: u3
     put_long(out, at + 16, count);
 }
 
-// A group's run and mark in a denial, of kind 19.
+// A group's run and mark, of kind 19.
 pub fn put_shown(out: &mut [u8], at: usize, first: u32, count: u32, mark: u16)
     requires { ⌜ at + shownBytes ≤ length (now out) ⌝ }
     ensures kept { λ _. ⌜ Wrote (now (out .entry)) at shownBytes (now (out .exit)) ⌝ }

@@ -17,10 +17,10 @@ ghost use Rattle.wire.specs.Capacity.{groupCapacity};
 // most bytes that are taken as a sheet
 const SHEET_BYTES: usize = 8192;
 
-// the longest replies: ranges, and a denial
+// the longest replies: ranges, and a verdict with sets
 const RANGES_BYTES: usize = RANGE_BYTES * GROUP_CAPACITY;
 
-const DENIAL_BYTES: usize = VERDICT_BYTES + SHOWN_BYTES * GROUP_CAPACITY;
+const SHOWN_SETS_BYTES: usize = VERDICT_BYTES + SHOWN_BYTES * GROUP_CAPACITY;
 
 // a four-byte field of a reply, 0 where it is cut
 fn field(reply: &[u8], at: usize) -> u64 {
@@ -97,7 +97,7 @@ fn print_groups(reply: &[u8], size: u64) {
 
 // The line of one claim; answers whether there is such a claim.
 fn print_claim(sheet: &[u8], claim: u32) -> bool {
-    let mut reply = [0u8; DENIAL_BYTES];
+    let mut reply = [0u8; SHOWN_SETS_BYTES];
     let answer = group_sheet::claim::sheet_claim(sheet, claim, &mut reply);
     if answer / PAIR != 0 {
         return false;

@@ -8,7 +8,7 @@ use Rattle.wire.specs.SheetFormat.{apart}
 use Rattle.reading.specs.SheetIn.{sheetIn}
 use Rattle.claims.specs.Witnessed.{witnessed-no}
 use Rattle.claims.specs.Groups.{listed-group}
-use Rattle.claims.specs.Ways.{WayHad, right-way-none, right-way-more, right-way-found, inside-tried}
+use Rattle.claims.specs.Ways.{brokenKind, WayHad, right-way-none, right-way-more, right-way-found, inside-tried}
 use borrow.Author.Needs.{needs}
 use Rattle.claims.proofs.lists.ask_left.Statement.{statement}
 use Rattle.claims.proofs.lists.ask_left.Tie as tie
@@ -55,6 +55,7 @@ same-length-2 c =
     c5 .ask-both .kept .1 .1 .1 .1 .1 .0 ∙ c5 .before .before .before .before .before .loop .inv .2
 
 returns : tie.Need-returns Inv-loop μ-loop
+unfolding brokenKind
 returns c =
     let c5 = c .before .before .before .before .before in
     let h = c5 .before .before .before .group-at .ensures in
@@ -91,6 +92,7 @@ same-length-4 : tie.Need-same-length-4 Inv-loop μ-loop
 same-length-4 c = search needs
 
 returns-2 : tie.Need-returns-2 Inv-loop μ-loop
+unfolding brokenKind
 returns-2 c =
     let at = c .before in
     let s = at .before .before .before .before .before .before in
@@ -110,7 +112,7 @@ same-length-6 : tie.Need-same-length-6 Inv-loop μ-loop
 same-length-6 c = search needs
 
 returns-3 : tie.Need-returns-3 Inv-loop μ-loop
-returns-3 c = inside-tried {b = c .before .before .before .before .before .before .before .before .before .before .before .before .before .args .shared} (search needs) (omega arith) (c .before .before .before .before .ask-place .ensures)
+returns-3 c = inside-tried (search needs) (omega arith) (c .before .before .before .before .ask-place .ensures)
 
 pub ask-left-spec : {M : Type 1} → statement M
 ask-left-spec =

@@ -1,6 +1,6 @@
 -- `ask_lists` meets its contract, by the three kinds.
 use Rattle.claims.specs.Groups.{all-groups}
-use Rattle.claims.specs.Ways.{place-tried}
+use Rattle.claims.specs.Ways.{brokenKind, place-tried}
 use borrow.Author.Needs.{needs}
 use Rattle.claims.proofs.lists.ask_lists.Statement.{statement}
 use Rattle.claims.proofs.lists.ask_lists.Tie as tie
@@ -30,6 +30,7 @@ same-length-2 : tie.Need-same-length-2
 same-length-2 c = search needs
 
 returns : tie.Need-returns
+unfolding brokenKind
 returns c =
     let c4 = c .before .before .before .before in
     rw (c4 .before .before .before .enum-told .given .1) (c4 .ask-lefts .ensures)
@@ -41,6 +42,7 @@ same-length-4 : tie.Need-same-length-4
 same-length-4 c = search needs
 
 returns-2 : tie.Need-returns-2
+unfolding brokenKind
 returns-2 c =
     let c4 = c .before .before .before .before in
     rw (c4 .before .before .before .enum-told2 .given .1) (c4 .ask-lefts2 .ensures)
