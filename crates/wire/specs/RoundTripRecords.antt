@@ -18,7 +18,7 @@ use Rattle.wire.specs.Bytes.{u16At, le16}
 use Rattle.wire.specs.Record.{lengthOf, kindOf, after, framed, Test}
 use Rattle.wire.specs.SheetFormat.{HeadRecord, GroupRecord, NameRecord, ListKind, listNumber, ClaimRecord, count, lists, Records}
 use Rattle.wire.specs.SheetFormat.{headTests, groupTests, nameTests, claimTests, headOf, groupOf, nameOf, claimOf}
-use Rattle.wire.specs.SheetFormat.{u16s, leftOf, rightOf, allWithin, claimLength, claimFields, claimNames}
+use Rattle.wire.specs.SheetFormat.{lastClaim, u16s, leftOf, rightOf, allWithin, claimLength, claimFields, claimNames}
 use Rattle.wire.specs.Encoding.{Bytes, GroupRight, NameRight, SideRight, ClaimRight, Right}
 use Rattle.wire.specs.Encoding.{encodeRecord, encodeHead, encodeGroup, encodeName, encodeClaim}
 use Rattle.laws.specs.Cases.{and-true}
@@ -37,7 +37,7 @@ pub record FieldsOf (b : List ℕ) (kind : ℕ) (xs c : List ℕ) : Type 0 where
   pub rest : after b ≡ c
   pub fields : u16s b 4 (length xs) ≡ xs
 
-fields-encoded : (kind : ℕ) {xs : List ℕ} → kind ≤ 7 → length xs ≤ 2 + (sideLimit + sideLimit) → Fields xs → (c : List ℕ)
+fields-encoded : (kind : ℕ) {xs : List ℕ} → kind ≤ lastClaim → length xs ≤ 2 + (sideLimit + sideLimit) → Fields xs → (c : List ℕ)
     → FieldsOf (encodeRecord kind (flatMap le16 xs) ++ c) kind xs c
 fields-encoded kind {xs} k l f c =
     let n = length-le16s xs in
@@ -243,10 +243,10 @@ sides-of b l r e =
     (sym (u16s-append b 8 (length l) (length r)) ∙ rw (length-append l r) at both) in
     record { lefts = m; rights = n; left = rw m (s .0); right = rw (m, n) (s .1) }
 
-sides-passes : (names : ℕ) (cs : List ClaimRecord) (b l r c : List ℕ) (kind : ℕ) → 5 ≤ kind → kind ≤ 7
+sides-passes : (names : ℕ) (cs : List ClaimRecord) (b l r c : List ℕ) (kind : ℕ) → 5 ≤ kind → kind ≤ lastClaim
     → FieldsOf b kind (sides l r) c → SideRight names l → SideRight names r → Pass (claimTests names cs b)
 unfolding claimTests claimLength claimFields claimNames
-sides-passes names cs b l r c kind five seven f L R =
+sides-passes names cs b l r c kind five last f L R =
     let s = sides-of b l r (f .fields) in
     let n = length-append l r in
     let other = ne-eqb kind 4 (omega arith) in
@@ -256,7 +256,7 @@ sides-passes names cs b l r c kind five seven f L R =
     let size : 6 + 2 * (length l + length r) ≡ lengthOf b = omega (arith, f .size) in (
       f .frame,
       (
-        rw (f .kind-is, le-leb 4 kind (omega arith), le-leb kind 7 seven),
+        rw (f .kind-is, le-leb 4 kind (omega arith), le-leb kind lastClaim last),
         (
           rw (f .kind-is, other, eq-eqb _ _ even, le-leb _ _ least, le-leb _ _ most),
           (
@@ -298,14 +298,14 @@ count-passes names cs b c n lo hi f R =
     )
 
 sides-encoded : (names : ℕ) (l r : List ℕ) → names ≤ nameLimit → SideRight names l → SideRight names r
-    → (kind : ℕ) → kind ≤ 7 → (c : List ℕ) → FieldsOf (encodeRecord kind (flatMap le16 (sides l r)) ++ c) kind (sides l r) c
-sides-encoded names l r most L R kind seven c =
+    → (kind : ℕ) → kind ≤ lastClaim → (c : List ℕ) → FieldsOf (encodeRecord kind (flatMap le16 (sides l r)) ++ c) kind (sides l r) c
+sides-encoded names l r most L R kind last c =
     let some : names ≤ noEnd = omega arith in
     let fields = fields-append (within-fields names l some (L .allowed)) (within-fields names r some (R .allowed)) in
     let size : length (sides l r) ≤ 2 + (sideLimit + sideLimit) = omega (arith, length-append l r, L .last, R .last) in
     let first : length l ≤ noEnd = omega (arith, L .last) in
     let second : length r ≤ noEnd = omega (arith, R .last) in
-    fields-encoded kind seven size (more first (more second fields)) c
+    fields-encoded kind last size (more first (more second fields)) c
 
 count-value : (b c : List ℕ) (n lo hi : ℕ) → FieldsOf b 4 (n ∷ lo ∷ hi ∷ []) c → claimOf b ≡ count n lo hi
 unfolding u16s

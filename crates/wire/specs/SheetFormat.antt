@@ -113,6 +113,9 @@ nameTests e groups ns b =
     ∷ []
 
 -- Kinds 4 to 7, claims: name, lo, hi (4); or m, n, m left names, n right names (5 to 7).
+abbrev pub lastClaim : ℕ
+lastClaim = 7
+
 -- n fields of two bytes from place i on
 unfoldable pub u16s : List ℕ → ℕ → ℕ → List ℕ
 u16s b i zero = []
@@ -149,7 +152,7 @@ claimNames names b = cond (eqb (kindOf b) 4) (allWithin names (u16At b 4 ∷ [])
 -- the tests of a claim, in a sheet of `names` names
 unfoldable pub claimTests : ℕ → List ClaimRecord → List ℕ → List Test
 claimTests names cs b =
-    test 1 (framed b) ∷ test 2 (leb 4 (kindOf b) && leb (kindOf b) 7) ∷ test 3 (claimLength b) ∷ test 4 (claimFields b)
+    test 1 (framed b) ∷ test 2 (leb 4 (kindOf b) && leb (kindOf b) lastClaim) ∷ test 3 (claimLength b) ∷ test 4 (claimFields b)
     ∷ test 5 (claimNames names b)
     ∷ []
 

@@ -13,7 +13,7 @@ use Rattle.wire.specs.Bytes.{u16At}
 use Rattle.wire.specs.Record.{lengthOf, kindOf, framed}
 use Rattle.wire.specs.SheetFormat.{headTests, groupTests, nameTests, claimTests, groupOf, nameOf, claimOf, leftOf, rightOf}
 use Rattle.wire.specs.SheetFormat.{GroupRecord, NameRecord, ListKind, inside, apart, place, listNumber, listKindOf, ClaimRecord, count, lists}
-use Rattle.wire.specs.SheetFormat.{u16s, allWithin, claimLength, claimFields, claimNames}
+use Rattle.wire.specs.SheetFormat.{lastClaim, u16s, allWithin, claimLength, claimFields, claimNames}
 use Rattle.wire.specs.Encoding.{GroupRight, NameRight, SideRight, ClaimRight}
 use Rattle.laws.specs.Cases.{split, and-true}
 use Rattle.wire.specs.Passing.{Pass, Nonzero}
@@ -159,15 +159,15 @@ unfolding claimTests
 claim-frame names cs b p = framed-true b (p .0)
 
 -- the kinds of claims on two lists, by their numbers
-pub list-within : (k : ListKind) → (5 ≤ listNumber k) × (listNumber k ≤ 7)
+pub list-within : (k : ListKind) → (5 ≤ listNumber k) × (listNumber k ≤ lastClaim)
 unfolding listNumber
 list-within inside = omega arith
 list-within apart = omega arith
 list-within place = omega arith
 
-pub list-number : (n : ℕ) → 5 ≤ n → n ≤ 7 → n ≡ listNumber (listKindOf n)
+pub list-number : (n : ℕ) → 5 ≤ n → n ≤ lastClaim → n ≡ listNumber (listKindOf n)
 unfolding listNumber listKindOf
-list-number n five seven =
+list-number n five last =
     split (eqb n 5)
     (λ e. rw e (eqb-true n 5 e))
     (λ d. split (eqb n 6)
@@ -179,7 +179,7 @@ pub claim-cases {ℓ} : {C : Type ℓ} (names : ℕ) (cs : List ClaimRecord) (b 
     → (kindOf b ≡ 4 → CountFrame names b → C) → ((k : ListKind) → kindOf b ≡ listNumber k → SidesFrame names b → C) → C
 unfolding claimTests claimLength claimFields claimNames
 claim-cases names cs b p c4 c5 =
-    let s = and-true (leb 4 (kindOf b)) (leb (kindOf b) 7) (p .1 .0) in
+    let s = and-true (leb 4 (kindOf b)) (leb (kindOf b) lastClaim) (p .1 .0) in
     split (eqb (kindOf b) 4)
     (λ four.
     c4 (eqb-true _ _ four)
@@ -190,7 +190,7 @@ claim-cases names cs b p c4 c5 =
     }))
     (λ other.
     let least : 5 ≤ kindOf b = omega (arith, leb-true 4 (kindOf b) (s .0), eqb-false (kindOf b) 4 other) in
-    c5 (listKindOf (kindOf b)) (list-number (kindOf b) least (leb-true (kindOf b) 7 (s .1)))
+    c5 (listKindOf (kindOf b)) (list-number (kindOf b) least (leb-true (kindOf b) lastClaim (s .1)))
     (sides-of (rw other at (p .1 .1 .1 .0)) (rw other at (p .1 .1 .1 .1 .0))))
   where
     sides-of : (leb 1 (u16At b 4) && leb (u16At b 4) sideLimit && leb 1 (u16At b 6) && leb (u16At b 6) sideLimit
