@@ -9,7 +9,7 @@ use Rattle.wire.specs.Limits.{verdictBytes}
 use Rattle.meaning.specs.Sheet.{Sheet}
 use Rattle.meaning.specs.Tree.{Tree}
 use Rattle.meaning.specs.Place.{Question}
-use Rattle.sizes.specs.Witness.{HasWitness, ShownWitness, shown-witness}
+use Rattle.sizes.specs.Witness.{HasWitness, ShownWitness, witness-at}
 use Rattle.runs.specs.Told.{numberIn}
 use Rattle.choosing.specs.Divided.{markedIn}
 use Rattle.claims.specs.Verdict.{verdictNumber}
@@ -58,4 +58,4 @@ module _ {s : Sheet} {q : Question} {d : Verdict} {firsts sizes marks out : List
 
 -- sets that a table shows answer the question
 pub shows-witness : {s : Sheet} {q : Question} {firsts sizes marks : List ℕ} → Shows s q firsts sizes marks → HasWitness s q
-shows-witness {q = q} w = (_, w .fits, shown-witness q _ (w .shows))
+shows-witness {q = q} w = (_, w .fits, witness-at q _ 0 (w .shows))

@@ -116,9 +116,6 @@ all-groups size (h ∷ l) w g m =
 pub listed-group : {t : List ℕ} {n size : ℕ} → Listed t n size → (i : ℕ) → i < n → (1 ≤ getD t i 0) × (getD t i 0 ≤ size)
 listed-group {t} {n} {size} w i l = all-groups size (take n t) (w .groups) (getD t i 0) (getD-in-take t n i l (w .long))
 
-pub listed-known : {t : List ℕ} {n size : ℕ} → Listed t n size → AllUpTo size (take n t)
-listed-known {t} {n} {size} w g m = all-groups size (take n t) (w .groups) g m .1
-
 -- the groups among numbers of a sheet, or 0
 pub among-known : (size : ℕ) (l : List ℕ) → AllUpTo size l → AllUpTo size (groupsAmong l)
 among-known size l h g m = all-groups size (groupsAmong l) (among-all size l h) g m .1

@@ -12,7 +12,7 @@ use Rattle.meaning.specs.Sets.{Sets}
 use Rattle.meaning.specs.Place.{listsAsk}
 use Rattle.meaning.specs.Shown.{shown, above}
 use Rattle.sizes.specs.ClaimsMath.{leftIn, Meeting, every-has, Known, Way, away, along, within-all, way-meeting, meeting-way}
-use Rattle.sizes.specs.ClaimsMath.{meeting-shown, witness-meeting}
+use Rattle.sizes.specs.ClaimsMath.{meeting-witness, witness-meeting}
 use Rattle.runs.specs.Told.{numberIn}
 use Rattle.choosing.specs.Divided.{markedIn}
 use Rattle.claims.specs.Witnessed.{Witnessed, witnessed-yes, witnessed-no, witnessed-as}
@@ -73,7 +73,7 @@ tried-judged {s} {sizes} {marks} b l r h k n w =
       fitting = v .3 .fitting;
       shows = λ st o.
           let A = shown st (numberIn sizes) (markedIn marks) (above (s .size) st (numberIn sizes)) in
-          meeting-shown b l r A
+          meeting-witness b l r A 0
           (meeting-names b A l r 0 h
           (way-meeting A (among-known (s .size) l k) (among-known (s .size) r n) (v .2) 0 (above-one s st (numberIn sizes)) (v .3 .placed)));
     })

@@ -1,17 +1,18 @@
 -- Laws of the sons of a group and of sums over them.
 use Prim.Native.Nat.{ℕ, zero, suc, _+_, _≤_, _<_, zero-le}
 use mathlib.Core.Path.{_≡_, refl, sym, _∙_}
-use mathlib.Core.Bool.{true, false, _&&_}
+use mathlib.Core.Bool.{Bool, true, false, _&&_}
 use native.Mathlib.Omega.{arith}
 use native.Mathlib.Nat.{le-refl}
 use borrow.Author.Tests.{ltb-true, eqb-true, lt-ltb, eq-eqb}
 use lib.Dec.{ltb, eqb}
-use Rattle.laws.specs.Sum.{sum}
+use Rattle.laws.specs.Sum.{sum, bit}
 use Rattle.laws.specs.Cases.{split, and-true, compare-le, compare-eq, not-true-false}
-use Rattle.laws.specs.SumLaws.{sum-le, sum-eq, sum-zero, sum-add, sum-term, sum-prefix, sum-gap, locate}
+use Rattle.laws.specs.SumLaws.{true-bit, sum-le, sum-eq, sum-zero, sum-add, sum-term, sum-prefix, sum-gap, locate}
 use Rattle.meaning.specs.Sheet.{Sheet, Group, Son}
 use Rattle.meaning.specs.Tree.{Tree}
 use Rattle.meaning.specs.Sons.{isSon, only, sons}
+use Rattle.meaning.specs.Fits.{Meets}
 
 -- a group whose test says that it is a son, and a son's test
 pub son-of : (s : Sheet) (p g : ℕ) → g ≤ s .size → isSon s p g ≡ true → Son s p g
@@ -120,3 +121,11 @@ sons-one {s} {p} {g} {h} f j k l x y =
     (λ n. compare-le g h
     (λ o. absurd (omega (arith, sons-prefix f k, only-prefix f h j (omega arith))))
     (λ o. absurd (omega (arith, sons-prefix f j, only-prefix f g k (omega arith)))))
+
+-- a member of a 'cover' group and its sons, as bits
+pub cover-bits : {s : Sheet} {M : ℕ → Bool} → Meets s M → (p : ℕ) → Group s p → s .cover p ≡ true
+    → bit (M p) ≤ sons s p (λ g. bit (M g))
+cover-bits {M = M} m p q e =
+    split (M p)
+    (λ x. let c = m .covered p q e x in rw x (omega (arith, sons-term (λ g. bit (M g)) (c .1), true-bit (c .2))))
+    (λ x. rw x zero-le)

@@ -22,7 +22,7 @@ use Rattle.meaning.specs.Fits.{Meets, Fits, Possible, Attains, groupsOf}
 use Rattle.meaning.specs.Claim.{Breakable, countNamed}
 use Rattle.meaning.specs.Place.{every, Placeable, Question, allSay, somePlace}
 use Rattle.meaning.specs.OfRecords.{sheetOf, claimed}
-use Rattle.meaning.proofs.SonLaws.{sons-term, sons-locate, sons-one, sons-sum}
+use Rattle.meaning.proofs.SonLaws.{sons-locate, sons-one, sons-sum, cover-bits}
 
 -- a group record: parent, lo, hi, mode
 abbrev group : ℕ → ℕ → ℕ → ℕ → GroupRecord
@@ -151,14 +151,6 @@ two-apart {M = M} w p g h a b d e =
     split (M g)
     (λ x. split (M h) (λ y. absurd (d (w .apart p g h a b e x y))) (λ y. rw (x, y, first x) (omega arith)))
     (λ x. split (M h) (λ y. rw (x, y, second y) (omega arith)) (λ y. rw (x, y) zero-le))
-
--- a 'cover' group and its sons, as bits
-cover-bits : {s : Sheet} {M : ℕ → Bool} → Meets s M → (p : ℕ) → Group s p → s .cover p ≡ true
-    → bit (M p) ≤ sons s p (λ g. bit (M g))
-cover-bits {M = M} m p q e =
-    split (M p)
-    (λ x. let c = m .covered p q e x in rw x (omega (arith, sons-term (λ g. bit (M g)) (c .1), true-bit (c .2))))
-    (λ x. rw x zero-le)
 
 -- The counts of a 'cover' group's sons exceed its own at least by what they count one member too often.
 cover-room : {s : Sheet} {A : Sets ℕ} → Fits s A → (p : ℕ) → Group s p → s .cover p ≡ true → (i : ℕ) → i < A .bound

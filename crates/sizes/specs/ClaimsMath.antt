@@ -32,7 +32,7 @@ use Rattle.sizes.specs.Possible.{Sizes, fits-sizes, sizes-sets}
 use Rattle.sizes.specs.Runs.{Starts, runs-first, shown-count}
 use Rattle.meaning.specs.Shown.{shown}
 use Rattle.sizes.specs.ClaimsPlace.{placeIn, AtPlace, place}
-use Rattle.sizes.specs.Witness.{Witness, HasWitness, ShownWitness}
+use Rattle.sizes.specs.Witness.{Witness, HasWitness, WitnessAt, witness-at}
 use Rattle.sizes.specs.ClaimsCount.{narrowHi, narrowLo, narrowHi-sizes, narrowLo-sizes}
 
 -- A member that answers a claim on two lists: in one left set (kinds 5 and 6) or in every one (kind 7), and in one right set
@@ -244,16 +244,11 @@ meeting-way s A l r apart i w =
       },
     )
 
--- such a member makes the sets a witness, as number 0 one that a reply may show; and every witness has one
-pub meeting-shown : {X : Type 0} (b : ListKind) (l r : List ℕ) (A : Sets X) → Meeting A b l r 0 → ShownWitness (listsAsk b l r) A
-meeting-shown inside l r A w = fails-breaks (within l r) A (0, w)
-meeting-shown apart l r A w = fails-breaks (separate l r) A (0, w)
-meeting-shown format.place l r A w = record { listed = w .listed; left = w .left; right = w .right }
-
-meeting-witness : {X : Type 0} (b : ListKind) (l r : List ℕ) (A : Sets X) (i : ℕ) → Meeting A b l r i → Witness (listsAsk b l r) A
+-- such a member makes the sets a witness, and every witness has one
+pub meeting-witness : {X : Type 0} (b : ListKind) (l r : List ℕ) (A : Sets X) (i : ℕ) → Meeting A b l r i → WitnessAt (listsAsk b l r) A i
 meeting-witness inside l r A i w = fails-breaks (within l r) A (i, w)
 meeting-witness apart l r A i w = fails-breaks (separate l r) A (i, w)
-meeting-witness format.place l r A i w = (i, record { listed = w .listed; left = w .left; right = w .right })
+meeting-witness format.place l r A i w = record { listed = w .listed; left = w .left; right = w .right }
 
 pub witness-meeting : {X : Type 0} (b : ListKind) (l r : List ℕ) (A : Sets X) → Witness (listsAsk b l r) A → (i : ℕ) × Meeting A b l r i
 witness-meeting inside l r A w = breaks-fails (within l r) A w
@@ -272,7 +267,7 @@ witness-lists {s} t b l r k n = (
       (v .0, v .1, v .2, c .0, c .1, c .2),
   λ w.
       let v = place (w .0) (w .1) t .1 (w .3, w .4, w .5) in
-      (v .0, v .1, meeting-witness b l r (v .0) (v .2) (way-meeting (v .0) k n (w .2) (v .2) (v .3) (v .4))),
+      (v .0, v .1, witness-at (listsAsk b l r) (v .0) (v .2) (meeting-witness b l r (v .0) (v .2) (way-meeting (v .0) k n (w .2) (v .2) (v .3) (v .4)))),
 )
 
 -- kind 4

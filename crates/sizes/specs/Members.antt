@@ -15,7 +15,7 @@ use Rattle.meaning.specs.Sons.{isSon, only, sons}
 use Rattle.sizes.specs.Balanced.{Balanced}
 use Rattle.laws.specs.Cases.{split}
 use Rattle.laws.specs.SumLaws.{bit-le, bit-le-true, bit-eq, bit-true, true-bit, sum-one, sum-but, bit-most}
-use Rattle.meaning.proofs.SonLaws.{son-of, son-parent, sons-eq, sons-term, sons-locate, sons-add, sons-zero, sons-one}
+use Rattle.meaning.proofs.SonLaws.{son-of, son-parent, sons-eq, sons-locate, sons-add, sons-zero, sons-one, cover-bits}
 
 -- two sons of a 'disjoint' group that have a member are one son
 one-son : {s : Sheet} {M : ℕ → Bool} → Meets s M → (p : ℕ) → s .disjoint p ≡ true → (g h : ℕ) → g < h → h < suc (s .size)
@@ -48,10 +48,7 @@ meets-balanced {s} {M} m = record {
         (λ e. rw e (bit-le (M g) (M p) (m .inside p g (son-of s p g (omega arith) e))))
         (λ e. rw e zero-le))
         (one-son m p d);
-    covered = λ c. split
-        (M p)
-        (λ t. let w = m .covered p q c t in rw t (omega (arith, sons-term (λ g. bit (M g)) (w .1), true-bit (w .2))))
-        (λ t. rw t zero-le);
+    covered = cover-bits m p q;
   };
 }
 

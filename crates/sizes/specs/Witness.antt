@@ -15,11 +15,15 @@ Witness (somePlace l r) A = (i : ℕ) × Placed A l r i
 abbrev pub HasWitness : Sheet → Question → Type 0
 HasWitness s q = (A : Sets ℕ) × Fits s A × Witness q A
 
--- as a reply shows them: the member of kind 7 is number 0
-abbrev pub ShownWitness : {X : Type 0} → Question → Sets X → Type 0
-ShownWitness (allSay c) A = Breaks c A
-ShownWitness (somePlace l r) A = Placed A l r 0
+-- the same with the number of that member
+abbrev pub WitnessAt : {X : Type 0} → Question → Sets X → ℕ → Type 0
+WitnessAt (allSay c) A i = Breaks c A
+WitnessAt (somePlace l r) A i = Placed A l r i
 
-pub shown-witness : {X : Type 0} (q : Question) (A : Sets X) → ShownWitness q A → Witness q A
-shown-witness (allSay c) A w = w
-shown-witness (somePlace l r) A w = (0, w)
+pub witness-at : {X : Type 0} (q : Question) (A : Sets X) (i : ℕ) → WitnessAt q A i → Witness q A
+witness-at (allSay c) A i w = w
+witness-at (somePlace l r) A i w = (i, w)
+
+-- as a reply shows them: it is number 0
+abbrev pub ShownWitness : {X : Type 0} → Question → Sets X → Type 0
+ShownWitness q A = WitnessAt q A 0
