@@ -7,17 +7,17 @@ use Rattle.meaning.specs.Place.{Question, allSay, somePlace}
 use Rattle.sizes.specs.Witness.{HasWitness, ShownWitness}
 use Rattle.claims.specs.Decided.{verdictOn}
 use Rattle.replies.specs.Reply.{Call, OnceRoom}
-use Rattle.claim_reply.specs.ClaimReply.{SetsIn, VerdictIn, Answered}
+use Rattle.claim_reply.specs.ClaimReply.{SetsIn, VerdictIn, VerdictFor}
 
 pub record Answering (s : Sheet) (q : Question) (c : Call) : Type 0 where
   pub shown : HasWitness s q → OnceRoom (verdictBytes + shownBytes * s .size) c (SetsIn s (verdictOn q true) (λ A. ShownWitness q A))
   pub alone : (HasWitness s q → ⊥) → OnceRoom verdictBytes c (VerdictIn (verdictOn q false))
 
 -- it is what the contract says of each kind
-pub answering-answered : {s : Sheet} {c : Call} (q : Question) → Answering s q c → Answered s q c
+pub answering-answered : {s : Sheet} {c : Call} (q : Question) → Answering s q c → VerdictFor s q c
 answering-answered (allSay k) w = record { holds = w .alone; denied = w .shown }
 answering-answered (somePlace l r) w = record { holds = w .shown; denied = w .alone }
 
-pub answered-answering : {s : Sheet} {c : Call} (q : Question) → Answered s q c → Answering s q c
+pub answered-answering : {s : Sheet} {c : Call} (q : Question) → VerdictFor s q c → Answering s q c
 answered-answering (allSay k) w = record { shown = w .denied; alone = w .holds }
 answered-answering (somePlace l r) w = record { shown = w .holds; alone = w .denied }

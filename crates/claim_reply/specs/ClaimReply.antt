@@ -14,7 +14,7 @@ use Rattle.meaning.specs.Sheet.{Sheet, Group}
 use Rattle.meaning.specs.Sets.{Sets}
 use Rattle.meaning.specs.Fits.{Fits}
 use Rattle.meaning.specs.Claim.{Claim, Breaks, Breakable}
-use Rattle.meaning.specs.Place.{Placed, Placeable, Question, allSay, somePlace}
+use Rattle.meaning.specs.Place.{Fills, Fillable, Question, allSay, somePlace}
 use Rattle.meaning.specs.OfRecords.{sheetOf, claimAt}
 use Rattle.meaning.specs.Shown.{shown, above}
 use Rattle.claims.specs.Verdict.{verdictNumber}
@@ -66,7 +66,7 @@ DenialIn s k out = SetsIn s Denied (λ A. Breaks k A) out
 
 -- those of a yes to kind 7 have member 0 in every left set and in no right set
 abbrev pub PlaceIn : Sheet → List ℕ → List ℕ → List ℕ → Type 0
-PlaceIn s l r out = SetsIn s Holds (λ A. Placed A l r 0) out
+PlaceIn s l r out = SetsIn s Holds (λ A. Fills A l r 0) out
 
 -- 9: the claim number k is 0 or above the number n of claims
 pub record OnceNumbered (k n : ℕ) (c : Call) (P : Type 0) : Type 0 where
@@ -80,17 +80,17 @@ pub record VerdictOn (s : Sheet) (k : Claim) (c : Call) : Type 0 where
 
 -- kind 7: it holds where some finite sets fit and have such a member, and is denied where none do
 pub record PlaceOn (s : Sheet) (l r : List ℕ) (c : Call) : Type 0 where
-  pub holds : Placeable s l r → OnceRoom (verdictBytes + shownBytes * s .size) c (PlaceIn s l r)
-  pub denied : (Placeable s l r → ⊥) → OnceRoom verdictBytes c (VerdictIn Denied)
+  pub holds : Fillable s l r → OnceRoom (verdictBytes + shownBytes * s .size) c (PlaceIn s l r)
+  pub denied : (Fillable s l r → ⊥) → OnceRoom verdictBytes c (VerdictIn Denied)
 
 -- the verdict on what a claim asks
-abbrev pub Answered : Sheet → Question → Call → Type 0
-Answered s (allSay k) c = VerdictOn s k c
-Answered s (somePlace l r) c = PlaceOn s l r c
+abbrev pub VerdictFor : Sheet → Question → Call → Type 0
+VerdictFor s (allSay k) c = VerdictOn s k c
+VerdictFor s (somePlace l r) c = PlaceOn s l r c
 
 -- what the operation promises on claim number k of a sheet
 abbrev pub ClaimVerdict : ℕ → Records → Call → Type 0
 ClaimVerdict k d c =
     OncePossible (sheetOf (d .groups)) c
     (OnceNumbered k (length (d .claims)) c
-    (Answered (sheetOf (d .groups)) (claimAt d k) c))
+    (VerdictFor (sheetOf (d .groups)) (claimAt d k) c))

@@ -22,7 +22,7 @@ ghost use Rattle.reading.specs.ClaimHeld.{claimRecord};
 ghost use Rattle.reading.specs.SheetIn.{sheetIn, Tabled};
 ghost use Rattle.claims.specs.Named.{Askable, claimMeant};
 ghost use Rattle.replies.specs.Reply.{call};
-ghost use Rattle.claim_reply.specs.ClaimReply.{Answered, ClaimVerdict};
+ghost use Rattle.claim_reply.specs.ClaimReply.{VerdictFor, ClaimVerdict};
 ghost use Rattle.claim_reply.specs.Asked.{Asked};
 
 // The verdict on a claim, with sets where some answer it, into a buffer with room for this verdict.
@@ -35,7 +35,7 @@ fn give_verdict(
     reply: &mut [u8],
 ) -> u64
     requires { ⌜ Tabled (now groups) size × Askable (now sheet) c (now names) size ⌝ }
-    ensures { λ r. ⌜ Answered (sheetIn (now (groups .entry)) size) (claimMeant (now (names .entry)) (claimRecord (now
+    ensures { λ r. ⌜ VerdictFor (sheetIn (now (groups .entry)) size) (claimMeant (now (names .entry)) (claimRecord (now
         (sheet .entry)) c))
         (call (now (reply .entry)) r (now (reply .exit))) ⌝ }
 {

@@ -26,7 +26,7 @@ use Rattle.laws.specs.SumLaws.{sum-eq}
 use Rattle.meaning.proofs.SonLaws.{son-of, son-is}
 use Rattle.sizes.specs.Runs.{above-runs}
 use Rattle.sizes.specs.Possible.{Sizes, nowhere, sizes-choice, possible}
-use Rattle.sizes.specs.ClaimsPlace.{isIn, placeIn, place}
+use Rattle.sizes.specs.ClaimsPlace.{isIn, placeIn, place-choice}
 use Rattle.sizes.specs.Rebound.{rebound, tree-rebound, rooted-rebound}
 use Rattle.sizes.specs.ClaimsCount.{narrowHi, narrowLo, narrowHi-sizes, narrowLo-sizes, narrowHi-choice, narrowLo-choice}
 use Rattle.sizes.specs.ClaimsMath.{MoreThan, breakable-size, breakable-empty, empty-breaks, shown-breaks-count}
@@ -67,7 +67,7 @@ unfolding placeIn isIn
 place-sized t w =
     witnessed-as
     (λ v. (v .fitting, tt))
-    (λ z. place [] [] t .1 (z .0, nowhere, sizes-choice (placeIn [] []) (λ g q. refl) (z .1)))
+    (λ z. place-choice [] [] t .1 (z .0, nowhere, sizes-choice (placeIn [] []) (λ g q. refl) (z .1)))
     w
 
 -- two sheets that say the same of every group

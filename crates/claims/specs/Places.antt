@@ -19,7 +19,7 @@ use Rattle.sizes.specs.Possible.{nowhere, sizes-choice, choice-sizes}
 use Rattle.laws.specs.Cases.{compare-eq}
 use Rattle.laws.specs.SumLaws.{bit-le-true}
 use Rattle.meaning.proofs.SonLaws.{son-parent}
-use Rattle.sizes.specs.ClaimsPlace.{isIn, placeIn, AtPlace, flags-placed, place}
+use Rattle.sizes.specs.ClaimsPlace.{isIn, placeIn, AtPlace, flags-placed, place-choice}
 use Rattle.measuring.specs.Tables.{mayIn}
 use Rattle.choosing.specs.Divided.{markedIn}
 use Rattle.choosing.specs.Chosen.{Chose}
@@ -82,7 +82,7 @@ place-judged {marks = marks} flags t m outs u r k e w = record {
         (λ g q. sym (e g q (markedIn marks g)) ∙ v .choice .allowed g q);
   };
   lacking = λ o y.
-      let v = place (take m t) outs u .0 y in
+      let v = place-choice (take m t) outs u .0 y in
       let z = root-state t m outs u r k (v .0) (v .1) (v .2) in
       w .lacking o (z .0) (z .1) (choice-allowed (λ g q. e g q (z .1 g) ∙ z .2 .allowed g q) (z .2)) (z .3);
 }

@@ -20,7 +20,7 @@ use Rattle.meaning.specs.Sets.{Sets, numbered}
 use Rattle.meaning.specs.Sets as sets
 use Rattle.meaning.specs.Fits.{Meets, Fits, Possible, Attains, groupsOf}
 use Rattle.meaning.specs.Claim.{Breakable, countNamed}
-use Rattle.meaning.specs.Place.{every, Placeable, Question, allSay, somePlace}
+use Rattle.meaning.specs.Place.{every, Fillable, Question, allSay, somePlace}
 use Rattle.meaning.specs.OfRecords.{sheetOf, claimed}
 use Rattle.meaning.proofs.SonLaws.{sons-locate, sons-one, sons-sum, cover-bits}
 
@@ -70,12 +70,12 @@ names =
 -- the claim holds: some sets fit, and none of them break it; for kind 7 some have the member
 abbrev pub Holds : Sheet → Question → Type 0
 Holds s (allSay c) = Possible s × (Breakable s c → ⊥)
-Holds s (somePlace l r) = Placeable s l r
+Holds s (somePlace l r) = Fillable s l r
 
 -- the claim is denied: some sets that fit break it; for kind 7 some fit, and none of them have the member
 abbrev pub Denied : Sheet → Question → Type 0
 Denied s (allSay c) = Breakable s c
-Denied s (somePlace l r) = Possible s × (Placeable s l r → ⊥)
+Denied s (somePlace l r) = Possible s × (Fillable s l r → ⊥)
 
 -- asks for a member of all the named sets; nobody is in the empty set, so nobody is left out
 abbrev together : List ℕ → Question

@@ -14,15 +14,15 @@ abbrev pub every : {X : Type 0} → Sets X → List ℕ → X → Bool
 every A [] x = true
 every A (g ∷ gs) x = named A g x && every A gs x
 
--- the member numbered i is in every left set and in no right set
-pub record Placed {X : Type 0} (A : Sets X) (l r : List ℕ) (i : ℕ) : Type 0 where
+-- the member numbered i fills the place: it is in every left set and in no right set
+pub record Fills {X : Type 0} (A : Sets X) (l r : List ℕ) (i : ℕ) : Type 0 where
   pub listed : i < A .bound
   pub left : every A l (A .who i) ≡ true
   pub right : union A r (A .who i) ≡ false
 
--- "some sets that fit have a member in every left set and in no right set"
-abbrev pub Placeable : Sheet → List ℕ → List ℕ → Type 0
-Placeable s l r = (A : Sets ℕ) × Fits s A × ((i : ℕ) × Placed A l r i)
+-- the place can be filled: "some sets that fit have a member in every left set and in no right set"
+abbrev pub Fillable : Sheet → List ℕ → List ℕ → Type 0
+Fillable s l r = (A : Sets ℕ) × Fits s A × ((i : ℕ) × Fills A l r i)
 
 -- What a claim asks: whether all sets that fit are as it says (kinds 4 to 6), whether some have such a member (kind 7).
 pub data Question : Type 0 where

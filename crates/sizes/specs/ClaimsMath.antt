@@ -16,8 +16,7 @@ use mathlib.Core.List.{
 use mathlib.Core.Logic.{_↔_, _⊎_, inl, inr, ⊎-elim, by-cases}
 use native.Mathlib.Omega.{arith}
 use native.Mathlib.Nat.{le-refl}
-use Rattle.wire.specs.SheetFormat.{ListKind, inside, apart}
-use Rattle.wire.specs.SheetFormat as format
+use Rattle.wire.specs.SheetFormat.{ListKind, inside, apart, place}
 use Rattle.laws.specs.Sum.{bit}
 use Rattle.meaning.specs.Sheet.{Sheet, Group, Top, fin, inf, AtMost}
 use Rattle.meaning.specs.Tree.{Tree}
@@ -31,7 +30,7 @@ use Rattle.laws.specs.SumLaws.{sum-zero}
 use Rattle.sizes.specs.Possible.{Sizes, fits-sizes, sizes-sets}
 use Rattle.sizes.specs.Runs.{Starts, runs-first, shown-count}
 use Rattle.meaning.specs.Shown.{shown}
-use Rattle.sizes.specs.ClaimsPlace.{placeIn, AtPlace, place}
+use Rattle.sizes.specs.ClaimsPlace.{placeIn, AtPlace, place-choice}
 use Rattle.sizes.specs.Witness.{Witness, HasWitness, WitnessAt, witness-at}
 use Rattle.sizes.specs.ClaimsCount.{narrowHi, narrowLo, narrowHi-sizes, narrowLo-sizes}
 
@@ -40,12 +39,12 @@ use Rattle.sizes.specs.ClaimsCount.{narrowHi, narrowLo, narrowHi-sizes, 
 abbrev pub leftIn : {X : Type 0} → ListKind → Sets X → List ℕ → X → Bool
 leftIn inside A l x = union A l x
 leftIn apart A l x = union A l x
-leftIn format.place A l x = every A l x
+leftIn place A l x = every A l x
 
 abbrev pub rightIn : ListKind → Bool
 rightIn inside = false
 rightIn apart = true
-rightIn format.place = false
+rightIn place = false
 
 pub record Meeting {X : Type 0} (A : Sets X) (k : ListKind) (l r : List ℕ) (i : ℕ) : Type 0 where
   pub listed : i < A .bound
@@ -179,7 +178,7 @@ Known s l = (g : ℕ) → List·Memᴰ g l → g ≤ s .size
 pub data Way (l r : List ℕ) : ListKind → List ℕ → List ℕ → Type 0 where
   away : {g : ℕ} → List·Memᴰ g l → 1 ≤ g → Way l r inside (g ∷ []) r
   along : {g h : ℕ} → List·Memᴰ g l → 1 ≤ g → List·Memᴰ h r → 1 ≤ h → Way l r apart (g ∷ h ∷ []) []
-  within-all : ((g : ℕ) → List·Memᴰ g l → 1 ≤ g) → Way l r format.place l r
+  within-all : ((g : ℕ) → List·Memᴰ g l → 1 ≤ g) → Way l r place l r
 
 pub way-meeting : {X : Type 0} {s : Sheet} (A : Sets X) {l r ins outs : List ℕ} {b : ListKind} → Known s l → Known s r
     → Way l r b ins outs → (j : ℕ) → j < A .bound → AtPlace s ins outs (groupsOf A j) → Meeting A b l r j
@@ -223,7 +222,7 @@ meeting-way s A l r inside i w =
         kept = none-has A x (w .right);
       },
     )
-meeting-way s A l r format.place i w =
+meeting-way s A l r place i w =
     let x = A .who i in
     let u = every-has A l x (w .left) in
     (l, r, within-all (λ g m. u g m .0), record { held = λ g m q. u g m .1; kept = none-has A x (w .right) })
@@ -248,12 +247,12 @@ meeting-way s A l r apart i w =
 pub meeting-witness : {X : Type 0} (b : ListKind) (l r : List ℕ) (A : Sets X) (i : ℕ) → Meeting A b l r i → WitnessAt (listsAsk b l r) A i
 meeting-witness inside l r A i w = fails-breaks (within l r) A (i, w)
 meeting-witness apart l r A i w = fails-breaks (separate l r) A (i, w)
-meeting-witness format.place l r A i w = record { listed = w .listed; left = w .left; right = w .right }
+meeting-witness place l r A i w = record { listed = w .listed; left = w .left; right = w .right }
 
 pub witness-meeting : {X : Type 0} (b : ListKind) (l r : List ℕ) (A : Sets X) → Witness (listsAsk b l r) A → (i : ℕ) × Meeting A b l r i
 witness-meeting inside l r A w = breaks-fails (within l r) A w
 witness-meeting apart l r A w = breaks-fails (separate l r) A w
-witness-meeting format.place l r A w = (w .0, record { listed = w .1 .listed; left = w .1 .left; right = w .1 .right })
+witness-meeting place l r A w = (w .0, record { listed = w .1 .listed; left = w .1 .left; right = w .1 .right })
 
 -- A claim of kinds 5 to 7 has a witness exactly when there is a choice for one of its places.
 pub witness-lists : {s : Sheet} → Tree s → (b : ListKind) (l r : List ℕ) → Known s l → Known s r
@@ -263,10 +262,10 @@ witness-lists {s} t b l r k n = (
   λ w.
       let m = witness-meeting b l r (w .0) (w .2) in
       let v = meeting-way s (w .0) l r b (m .0) (m .1) in
-      let c = place (v .0) (v .1) t .0 (w .0, w .1, m .0, m .1 .listed, v .3) in
+      let c = place-choice (v .0) (v .1) t .0 (w .0, w .1, m .0, m .1 .listed, v .3) in
       (v .0, v .1, v .2, c .0, c .1, c .2),
   λ w.
-      let v = place (w .0) (w .1) t .1 (w .3, w .4, w .5) in
+      let v = place-choice (w .0) (w .1) t .1 (w .3, w .4, w .5) in
       (v .0, v .1, witness-at (listsAsk b l r) (v .0) (v .2) (meeting-witness b l r (v .0) (v .2) (way-meeting (v .0) k n (w .2) (v .2) (v .3) (v .4)))),
 )
 

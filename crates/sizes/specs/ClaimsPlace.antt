@@ -66,10 +66,10 @@ flags-placed ins outs M a = record {
 }
 
 -- Some sets that fit have a member in every group of `ins` and in none of `outs` exactly when there is a choice.
-pub place : {s : Sheet} (ins outs : List ℕ) → Tree s
+pub place-choice : {s : Sheet} (ins outs : List ℕ) → Tree s
     → ((A : Sets ℕ) × Fits s A × (j : ℕ) × (j < A .bound) × AtPlace s ins outs (groupsOf A j))
     ↔ ((f : ℕ → ℕ) × (M : ℕ → Bool) × Choice s (placeIn ins outs) f M)
-place ins outs t =
+place-choice ins outs t =
     let e = placed (placeIn ins outs) t in (
       λ w. e .0 (w .0, w .1, w .2, w .3, placed-flags (w .4)),
       λ w. let v = e .1 w in (v .0, v .1, v .2, v .3, flags-placed ins outs (groupsOf (v .0) (v .2)) (v .4)),

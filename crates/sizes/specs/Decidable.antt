@@ -6,8 +6,7 @@ use mathlib.Core.List.{List, [], _∷_, List·Memᴰ, List·Memᴰ·head, List·
 use mathlib.Core.Logic.{_⊎_, inl, inr, ⊎-elim, by-cases, Iff·symm, Dec·and, Dec·of-iff}
 use native.Mathlib.Omega.{arith}
 use native.Mathlib.Decide.{decLe}
-use Rattle.wire.specs.SheetFormat.{ListKind, inside, apart}
-use Rattle.wire.specs.SheetFormat as format
+use Rattle.wire.specs.SheetFormat.{ListKind, inside, apart, place}
 use Rattle.laws.specs.Sum.{bit}
 use Rattle.meaning.specs.Sheet.{Sheet, Group, Top, fin, inf}
 use Rattle.meaning.specs.Tree.{Tree}
@@ -130,10 +129,10 @@ way-dec {P} d apart l r =
     back : {ins outs : List ℕ} → Way l r apart ins outs → P ins outs
         → (g : ℕ) × List·Memᴰ g l × ((1 ≤ g) × ((h : ℕ) × List·Memᴰ h r × ((1 ≤ h) × P (g ∷ h ∷ []) [])))
     back (along {g = g} {h = h} m p o q) x = (g, m, (p, (h, o, (q, x))))
-way-dec {P} d format.place l r =
+way-dec {P} d place l r =
     Dec·of-iff (λ w. (l, r, within-all (w .0), w .1), λ w. back (w .2) (w .3)) (Dec·and (dec-all (λ g. decLe 1 g) l) (d l r))
   where
-    back : {ins outs : List ℕ} → Way l r format.place ins outs → P ins outs → ((g : ℕ) → List·Memᴰ g l → 1 ≤ g) × P l r
+    back : {ins outs : List ℕ} → Way l r place ins outs → P ins outs → ((g : ℕ) → List·Memᴰ g l → 1 ≤ g) × P l r
     back (within-all p) x = (p, x)
 
 lists-dec : {s : Sheet} → Tree s → (b : ListKind) (l r : List ℕ) → Known s l → Known s r → Dec (HasWitness s (listsAsk b l r))
@@ -181,7 +180,7 @@ unfolding reach
 reached-dec t (allSay (counted g lo hi)) h = count-dec t g lo hi h
 reached-dec {s} t (allSay (within l r)) h = summed-dec t inside l r h
 reached-dec {s} t (allSay (separate l r)) h = summed-dec t apart l r h
-reached-dec {s} t (somePlace l r) h = summed-dec t format.place l r h
+reached-dec {s} t (somePlace l r) h = summed-dec t place l r h
 
 -- Some sets fit or none do.
 pub possible-or-not : {s : Sheet} → Tree s → Possible s ⊎ (Possible s → ⊥)

@@ -8,7 +8,7 @@ use Rattle.meaning.specs.Sheet.{Sheet}
 use Rattle.meaning.specs.Sets.{Sets, Distinct, count, numbered}
 use Rattle.meaning.specs.Fits.{Fits, groupsOf}
 use Rattle.meaning.specs.Claim.{Claim, counted, within, separate, named, union, countNamed, Says, Breaks, Breakable}
-use Rattle.meaning.specs.Place.{every, Placed, Placeable}
+use Rattle.meaning.specs.Place.{every, Fills, Fillable}
 
 -- every member replaced by its number in the list
 abbrev pub renumbered : {X : Type 0} → Sets X → Sets ℕ
@@ -50,8 +50,8 @@ pub renumbered-breaks : {X : Type 0} {s : Sheet} (c : Claim) {A : Sets X} → Fi
 renumbered-breaks c {A} f n = (renumbered A, renumbered-fits f, λ w. n (renumbered-says c A w))
 
 -- The same of sets with a member in every left set and in no right set.
-pub renumbered-placed : {X : Type 0} {s : Sheet} {l r : List ℕ} {A : Sets X} {i : ℕ} → Fits s A → Placed A l r i → Placeable s l r
-renumbered-placed {l = l} {r = r} {A = A} {i = i} f w = (
+pub renumbered-fills : {X : Type 0} {s : Sheet} {l r : List ℕ} {A : Sets X} {i : ℕ} → Fits s A → Fills A l r i → Fillable s l r
+renumbered-fills {l = l} {r = r} {A = A} {i = i} f w = (
   renumbered A,
   renumbered-fits f,
   (i, record { listed = w .listed; left = every-renumbered A l i ∙ w .left; right = union-renumbered A r i ∙ w .right }),

@@ -5,20 +5,20 @@ use Rattle.meaning.specs.Sheet.{Sheet}
 use Rattle.meaning.specs.Sets.{Sets}
 use Rattle.meaning.specs.Fits.{Fits}
 use Rattle.meaning.specs.Claim.{Claim, Breaks}
-use Rattle.meaning.specs.Place.{Placed, Question, allSay, somePlace}
+use Rattle.meaning.specs.Place.{Fills, Question, allSay, somePlace}
 
 abbrev pub Witness : {X : Type 0} → Question → Sets X → Type 0
 Witness (allSay c) A = Breaks c A
-Witness (somePlace l r) A = (i : ℕ) × Placed A l r i
+Witness (somePlace l r) A = (i : ℕ) × Fills A l r i
 
--- some sets that fit do so: `Breakable` for kinds 4 to 6, `Placeable` for kind 7
+-- some sets that fit do so: `Breakable` for kinds 4 to 6, `Fillable` for kind 7
 abbrev pub HasWitness : Sheet → Question → Type 0
 HasWitness s q = (A : Sets ℕ) × Fits s A × Witness q A
 
 -- the same with the number of that member
 abbrev pub WitnessAt : {X : Type 0} → Question → Sets X → ℕ → Type 0
 WitnessAt (allSay c) A i = Breaks c A
-WitnessAt (somePlace l r) A i = Placed A l r i
+WitnessAt (somePlace l r) A i = Fills A l r i
 
 pub witness-at : {X : Type 0} (q : Question) (A : Sets X) (i : ℕ) → WitnessAt q A i → Witness q A
 witness-at (allSay c) A i w = w
