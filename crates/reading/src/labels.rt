@@ -115,7 +115,7 @@ fn used_before(s: &[u8], places: &[usize], n: usize, at: usize) -> bool
     false
 }
 
-// equal labels have one hash, and most others another
+// the hash of the label of the name at a place: equal labels have the same
 fn label_hash(s: &[u8], at: usize) -> usize
     requires { ⌜ WholeName (now s) at ⌝ }
     ensures { λ r. ⌜ (r ≡ labelHash (nameOf (drop at (now (s .entry))) .label)) × (r < labelHashes) ⌝ }
@@ -128,8 +128,8 @@ fn label_hash(s: &[u8], at: usize) -> usize
     h
 }
 
-// The same as `used_before`, where the hashes of the first n labels are seen: labels are compared only where the hash of this
-// one is seen too. After it, it is.
+// The answer of `used_before`, where the hashes of the first n labels are kept in `seen`: labels are compared only where the
+// hash of this one was seen. Then it is kept too.
 pub fn used_label(s: &[u8], places: &[usize], n: usize, at: usize, seen: &mut [u8]) -> bool
     requires { ⌜ (n ≤ length (now places)) × (WholeName (now s) at
         × (((j : ℕ) → j < n → WholeName (now s) (getD (now places) j 0))
