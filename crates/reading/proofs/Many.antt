@@ -22,6 +22,7 @@ use Rattle.reading.specs.ClaimHeld.{listAs, claimRecord, ClaimHeld}
 use Rattle.reading.specs.ClaimTable.{claimNumbers, claimPlace, claimIn, claimsIn, ClaimRoom, ClaimPut}
 use Rattle.reading.specs.Answers.{group, name, claim, WholeName}
 use Rattle.reading.specs.Loaded.{goesOn, passedAs, recordsIn, AllGrouped, AllHeld, Goes}
+use Rattle.reading.specs.LabelHash.{Seen, AllSeen}
 use Rattle.reading.specs.declared.load.Passed.the-variants.{To, Refused}
 use Rattle.reading.specs.declared.claim.Claim.{Claim}
 use Rattle.reading.specs.declared.claim.Claim.the-variants as claim-of
@@ -122,6 +123,9 @@ module _ (s places : List ℕ) (n x : ℕ) (h : n < length places) where
   grouped-more names g k before here =
       each-more _ _ n before (λ i l e. rw (place-kept i l, getD-set-other names n i g 0 (omega arith)) e)
       (rw (place-put, getD-set-same names n g 0 k) here)
+
+  pub seen-more : (seen : List ℕ) → AllSeen s seen places n → Seen s seen x → AllSeen s seen (set places n x) (n + 1)
+  seen-more seen before here = each-more _ _ n before (λ i l e. rw (place-kept i l) e) (rw place-put here)
 
 -- a run of stores in a table
 sets-below : (vs t : List ℕ) (k i : ℕ) → i < k → getD (sets t k vs) i 0 ≡ getD t i 0

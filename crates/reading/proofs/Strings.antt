@@ -20,7 +20,7 @@ use Rattle.laws.specs.Cases.{split, and-true}
 use Rattle.reading.proofs.Fields.{length-at}
 
 -- one more byte of a run
-run-more : (s : List ℕ) (i k : ℕ) → i < length s → take (suc k) (drop i s) ≡ getD s i 0 ∷ take k (drop (i + 1) s)
+pub run-more : (s : List ℕ) (i k : ℕ) → i < length s → take (suc k) (drop i s) ≡ getD s i 0 ∷ take k (drop (i + 1) s)
 run-more s i k h = rw (drop-cons s i 0 h, add-one)
 
 module _ (s : List ℕ) (end i : ℕ) (h : i < end) (room : end ≤ length s) where

@@ -6,3 +6,4 @@ pub mod ClaimHeld
 pub mod ClaimTable
 pub mod Answers
 pub mod Loaded
+pub mod LabelHash

@@ -13,6 +13,7 @@ use crate::records::refusal_of;
 use crate::tables::CLAIM_TABLE;
 use crate::tables::GROUP_FIELDS;
 use crate::tables::GroupNo;
+use crate::tables::LABEL_HASHES;
 use crate::tables::LABEL_TABLE;
 use crate::tables::NAME_TABLE;
 use crate::tables::PLACE_TABLE;
@@ -87,6 +88,7 @@ fn load_names(
         × (nameLimit ≤ length (now labels)))) ⌝ }
     ensures { λ r. ⌜ NamesGo (editionOf edition) groups (now (s .entry)) from count r (now (names .exit)) (now (labels .exit)) ⌝ }
 {
+    let mut seen = [0u8; LABEL_HASHES];
     let mut at = from;
     for i in 0..count {
         let number = 2 + groups as u32 + i as u32;
@@ -98,7 +100,7 @@ fn load_names(
         let Record::Name(n) = rec else {
             return Passed::Refused(2, number);
         };
-        if labels::used_before(s, labels, k, at) {
+        if labels::used_label(s, labels, k, at, &mut seen) {
             return Passed::Refused(6, number);
         }
         let means = n.means;

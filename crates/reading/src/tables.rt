@@ -47,6 +47,9 @@ pub const CLAIM_TABLE: usize = CLAIM_SLOTS * PLACE_TABLE;
 
 pub const PLACE_TABLE: usize = CLAIMS as usize;
 
+// How many hashes labels can have: a table of one number for each hash has this length.
+pub const LABEL_HASHES: usize = 2048;
+
 // A group's number and a name's number, each from 1 on, are two families. Where a group has no parent (the root) or no link
 // to another group, `GroupNo(0)` stands for 'none'.
 pub struct GroupNo(pub u16);

@@ -1,34 +1,36 @@
 -- `load_names` meets its contract. The invariant: to read what is left from here
 -- is to read all, and the tables have the names so far.
 use types.Run.{miss}
-use Prim.Native.Nat.{ℕ, _+_, _-_, _≤_}
+use Prim.Native.Nat.{ℕ, _+_, _-_, _≤_, _<_}
 use mathlib.Core.Path.{_≡_, refl, sym, _∙_}
 use mathlib.Core.List.{List, [], _∷_}
 use borrow.Author.Needs.{needs}
 use native.Mathlib.Omega.{arith}
 use denote.Ref.{now}
-use lib.ListN.{length, drop, length-set}
+use lib.ListN.{length, drop, length-set, length-replicate}
 use Rattle.wire.specs.Edition.{editionOf, labelLimit}
 use Rattle.wire.specs.Bytes.{u16At}
 use Rattle.wire.specs.SheetFormat.{nameTests, nameOf}
 use Rattle.reading.specs.Meant.{meantNumber}
 use Rattle.reading.specs.Answers.{name, AnswerOf, WholeName}
 use Rattle.reading.specs.Loaded.{recordsIn, passedAs, AllGrouped}
+use Rattle.reading.specs.LabelHash.{labelHashes, AllSeen}
 use Rattle.reading.proofs.Fields.{name-whole}
 use Rattle.reading.proofs.Carried.{Handed, answered-record, answered-refusal, tag-of, name-same}
-use Rattle.reading.proofs.Many.{never-read, Left, left-start, left-stop, left-done, AllPass, pass-more, grouped-more}
+use Rattle.reading.proofs.Many.{never-read, Left, left-start, left-stop, left-done, AllPass, pass-more, grouped-more, seen-more}
 use Rattle.reading.proofs.Many.{name-alone, name-used, name-again}
 use Rattle.reading.proofs.load.load_names.Statement.{statement}
 use Rattle.reading.proofs.load.load_names.Tie as tie
 
 abbrev Inv-loop : tie.InvT-loop
-Inv-loop s from count edition groups names₀ labels₀ at₀ i₀ names labels at i = (i ≤ count) ×
+Inv-loop s from count edition groups names₀ labels₀ seen₀ at₀ i₀ names labels seen at i = (i ≤ count) ×
     ((at ≤ length s) × (((length names ≡ length names₀) × (length labels ≡ length labels₀)) ×
     (Left (nameTests (editionOf edition) groups) nameOf s from count (2 + groups) i at (recordsIn nameOf s labels i) ×
-    (AllGrouped s names labels i × AllPass (nameTests (editionOf edition) groups []) s labels i))))
+    (AllGrouped s names labels i × (AllPass (nameTests (editionOf edition) groups []) s labels i ×
+    ((length seen ≡ labelHashes) × AllSeen s seen labels i))))))
 
 abbrev μ-loop : tie.MeasureT-loop
-μ-loop s from count edition groups names₀ labels₀ at₀ i₀ names labels at i = count - i
+μ-loop s from count edition groups names₀ labels₀ seen₀ at₀ i₀ names labels seen at i = count - i
 
 -- the places of the loop's head, of its test and of the entry, seen from after a record was taken; and where that was
 abbrev head : tie.After-known-told Inv-loop μ-loop → tie.At-loop Inv-loop μ-loop
@@ -44,7 +46,7 @@ abbrev bytes : tie.After-known-told Inv-loop μ-loop → List ℕ
 bytes c = now (entry c .args .s)
 
 abbrev told : tie.After-number-meant Inv-loop μ-loop → tie.After-known-told Inv-loop μ-loop
-told c = c .before .before .before .before .before .before .before
+told c = c .before .before .before .before .before .before .before .before .before
 
 -- what the reader answers
 asked : (c : tie.After-read-name Inv-loop μ-loop) → let a = c .before .before .before .before .before .before .args in
@@ -73,7 +75,10 @@ loop-holds c = (
     search needs,
     (
       (refl, refl),
-      (left-start _ _ _ _ _ _, (λ i l. absurd (omega arith), λ i l. absurd (omega arith))),
+      (
+        left-start _ _ _ _ _ _,
+        (λ i l. absurd (omega arith), (λ i l. absurd (omega arith), (length-replicate {A = ℕ} labelHashes 0, λ i l. absurd (omega arith)))),
+      ),
     ),
   ),
 )
@@ -129,14 +134,15 @@ same-length-4 c = search needs
 returns-2 : tie.Need-returns-2 Inv-loop μ-loop
 returns-2 c = absurd (miss (0 ∷ 1 ∷ 3 ∷ []) 2 tt (rw (tag-of (taken (c .before))) at (c .match2 .keys2)))
 
-used-before-requires : tie.Need-used-before-requires Inv-loop μ-loop
-used-before-requires c κs = (
-  omega arith,
-  (
-    room (c .before .before .before .before) .0,
-    λ j l. name-whole _ _ _ _ [] (head (c .before .before .before .before) .loop .inv .1 .1 .1 .1 .1 j l) .0,
-  ),
-)
+slice-aggregate-used-label : tie.Need-slice-aggregate-used-label Inv-loop μ-loop
+slice-aggregate-used-label c = search needs
+
+used-label-requires : tie.Need-used-label-requires Inv-loop μ-loop
+used-label-requires c κs = let t = c .before .before .before .before .before in
+    let i = head t .loop .inv .1 .1 .1 .1 in (
+      omega arith,
+      (room t .0, (λ j l. name-whole _ _ _ _ [] (i .1 .0 j l) .0, (omega arith, i .1 .1 .1))),
+    )
 
 same-length-5 : tie.Need-same-length-5 Inv-loop μ-loop
 same-length-5 c = search needs
@@ -147,10 +153,10 @@ same-length-6 c = search needs
 returns-3 : tie.Need-returns-3 Inv-loop μ-loop
 unfolding passedAs
 returns-3 c = record {
-  reads = left-stop _ _ _ _ _ _ _ _ _ (head (c .before .before .before .before .before .before) .loop .inv .1 .1 .1 .0)
-      (turn (c .before .before .before .before .before .before) .loop-test .taken) _ _
-      (name-used _ _ _ _ (taken (c .before .before .before .before .before .before) .pass)
-      (sym (c .before .used-before .ensures) ∙ c .if1 .taken)) (λ e. omega arith);
+  reads = left-stop _ _ _ _ _ _ _ _ _ (head (c .before .before .before .before .before .before .before .before) .loop .inv .1 .1 .1 .0)
+      (turn (c .before .before .before .before .before .before .before .before) .loop-test .taken) _ _
+      (name-used _ _ _ _ (taken (c .before .before .before .before .before .before .before .before) .pass)
+      (sym (c .before .before .used-label .ensures .0) ∙ c .if1 .taken)) (λ e. omega arith);
   grouped = λ at e. never-read e;
 }
 
@@ -176,7 +182,7 @@ cast-at : tie.Need-cast-at Inv-loop μ-loop
 cast-at c = search needs
 
 add-at-2 : tie.Need-add-at-2 Inv-loop μ-loop
-add-at-2 c = let e = same (c .before .before .before .before .before .before) in let w = room (told (c .before)) in omega arith
+add-at-2 c = let e = same (c .before .before .before .before .before .before .before .before) in let w = room (told (c .before)) in omega arith
 
 add-i : tie.Need-add-i Inv-loop μ-loop
 add-i c = search needs
@@ -185,23 +191,32 @@ loop-less : tie.Need-loop-less Inv-loop μ-loop
 loop-less c = search needs
 
 loop-again : tie.Need-loop-again Inv-loop μ-loop
-loop-again c = let e = same (c .before .before .before .before .before .before) in
+loop-again c = let e = same (c .before .before .before .before .before .before .before .before) in
     let w = room (told (c .before)) in
     let t = taken (told (c .before)) in
-    let l = head (told (c .before)) .loop in (
+    let l = head (told (c .before)) .loop in
+    let p = entry (told (c .before)) .pre in
+    let u = c .before .before .before .before .used-label in
+    let k : l .i < length (l .labels) = omega (arith, p .1) in (
       search needs,
       (
         omega arith,
         (
           (simp length-set (l .inv .1 .1 .0 .0), simp length-set (l .inv .1 .1 .0 .1)),
           (
-            name-again (l .labels) _ _ (l .inv .1 .1 .1 .0) (turn (told (c .before)) .loop-test .taken) (omega arith) t
-                (c .before .before .before .before .before .before .rec .given .1) (w .0) (sym (c .before .before .before .used-before .ensures) ∙ c .before .before .if1 .left),
+            name-again (l .labels) _ _ (l .inv .1 .1 .1 .0) (turn (told (c .before)) .loop-test .taken) k t
+                (c .before .before .before .before .before .before .before .before .rec .given .1) (w .0) (sym (u .ensures .0) ∙ c .before .before .if1 .left),
             (
-              grouped-more (bytes (told (c .before))) (l .labels) (l .i) (l .at) (omega arith) (l .names) _ (omega arith)
+              grouped-more (bytes (told (c .before))) (l .labels) (l .i) (l .at) k (l .names) _ (omega (arith, p .1))
                   (l .inv .1 .1 .1 .1 .0) (c .before .number-meant .ensures ∙ e .0),
-              pass-more (bytes (told (c .before))) (l .labels) (l .i) (l .at) (omega arith)
-                  (nameTests (editionOf (entry (told (c .before)) .args .edition)) (entry (told (c .before)) .args .groups) []) (l .inv .1 .1 .1 .1 .1) (t .pass),
+              (
+                pass-more (bytes (told (c .before))) (l .labels) (l .i) (l .at) k
+                    (nameTests (editionOf (entry (told (c .before)) .args .edition)) (entry (told (c .before)) .args .groups) []) (l .inv .1 .1 .1 .1 .1 .0) (t .pass),
+                (
+                  u .kept .1 .1 .1 .1 .0 ∙ l .inv .1 .1 .1 .1 .1 .1 .0,
+                  seen-more (bytes (told (c .before))) (l .labels) (l .i) (l .at) k (u .last .1 .1 .1 .1 .0) (u .ensures .1 .0) (u .ensures .1 .1),
+                ),
+              ),
             ),
           ),
         ),
@@ -243,7 +258,8 @@ load-names-spec =
     same-length-3
     same-length-4
     returns-2
-    used-before-requires
+    slice-aggregate-used-label
+    used-label-requires
     same-length-5
     same-length-6
     returns-3
