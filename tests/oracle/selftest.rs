@@ -82,7 +82,7 @@ fn random_sheet(rng: &mut Rng, n: usize, most: u64, endless: u64) -> Sheet {
     }
     let sons = make_sons(&groups);
     let mut claims = Vec::new();
-    // The right side is more often empty, or few members are in no set of it.
+    // The right side is more often empty; otherwise few members are in no set of it.
     let set = |rng: &mut Rng, empty: u64| if rng.chance(empty) { None } else { Some(rng.index(n)) };
     for _ in 0..8 {
         let list = |rng: &mut Rng, empty: u64| -> Vec<Named> {

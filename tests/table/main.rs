@@ -1031,7 +1031,7 @@ fn places(t: &mut Table) {
     t.verdicts("one place", &one, &[Holds]);
     t.verdicts("nobody fits", &sheet(&[(0, 0, 0, 0)], &[1, 0], &[place(&[1], &[2])]), &[Denied]);
 
-    // Any two of the three sons can share a member; of a member of all three the root would be the only set.
+    // Any two of the three sons can share a member; a member of all three would be the root's only one.
     t.verdicts(
         "places under a cover root of 2 to 2 over three sons of 0 to 1",
         &sheet(

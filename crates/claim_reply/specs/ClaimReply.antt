@@ -78,7 +78,7 @@ pub record VerdictOn (s : Sheet) (k : Claim) (c : Call) : Type 0 where
   pub holds : (Breakable s k → ⊥) → OnceRoom verdictBytes c (VerdictIn Holds)
   pub denied : Breakable s k → OnceRoom (verdictBytes + shownBytes * s .size) c (DenialIn s k)
 
--- kind 7: it holds where some finite sets fit and have such a member, and is denied where none do
+-- kind 7: it holds where some finite sets fit and have a member in every left set and in no right set, and is denied where none do
 pub record PlaceOn (s : Sheet) (l r : List ℕ) (c : Call) : Type 0 where
   pub holds : Fillable s l r → OnceRoom (verdictBytes + shownBytes * s .size) c (PlaceIn s l r)
   pub denied : (Fillable s l r → ⊥) → OnceRoom verdictBytes c (VerdictIn Denied)

@@ -60,14 +60,14 @@ decisionShows (Shown v) = true
 decisionShows (Alone v) = false
 
 -- the sets that the tables show: for each group a run (first, count), and member 0 where the mark is 1
-abbrev pub setsIn : Sheet → List ℕ → List ℕ → List ℕ → Sets ℕ
-setsIn s firsts sizes marks =
+abbrev pub tableSets : Sheet → List ℕ → List ℕ → List ℕ → Sets ℕ
+tableSets s firsts sizes marks =
     shown (numberIn firsts) (numberIn sizes) (markedIn marks) (above (s .size) (numberIn firsts) (numberIn sizes))
 
 -- the tables show sets that fit and answer the question
 pub record Shows (s : Sheet) (q : Question) (firsts sizes marks : List ℕ) : Type 0 where
-  pub fits : Fits s (setsIn s firsts sizes marks)
-  pub shows : ShownWitness q (setsIn s firsts sizes marks)
+  pub fits : Fits s (tableSets s firsts sizes marks)
+  pub shows : ShownWitness q (tableSets s firsts sizes marks)
   pub first : (g : ℕ) → Group s g → 1 ≤ numberIn firsts g
   pub mark : (g : ℕ) → Group s g → numberIn marks g ≤ 1
 

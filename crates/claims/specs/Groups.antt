@@ -75,7 +75,7 @@ among-all size (zero ∷ l) h = among-all size l (λ g m. h g (List·Memᴰ·tai
 among-all size (suc g ∷ l) h =
     (omega arith, h (suc g) (List·Memᴰ·head refl), among-all size l (λ i m. h i (List·Memᴰ·tail m)))
 
--- groups are left out exactly where the empty set is among the names
+-- names are left out exactly where one means the empty set
 pub among-length : (l : List ℕ) → length (groupsAmong l) ≤ length l
 unfolding groupsAmong
 among-length [] = omega arith

@@ -91,7 +91,7 @@ empty-judged apart l r e m = absurd (false≢true e)
 empty-judged place l r e m =
     witnessed-no (λ v. let w = every-has (v .0) l _ (v .2 .1 .left) 0 m in omega (arith, w .0))
 
--- kind 6 (true) or 5 (false): claims that one left set breaks
+-- kind 6 (true) or 5 (false): the kinds that a member of one left set breaks
 unfoldable pub brokenKind : Bool → ListKind
 brokenKind false = inside
 brokenKind true = apart

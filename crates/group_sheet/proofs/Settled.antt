@@ -100,7 +100,7 @@ abbrev pub shownReplyBytes : ℕ → ℕ
 shownReplyBytes n = verdictBytes + shownBytes * n
 
 -- Two buffers with verdicts and sets under s are the same but for the sets. Open are the ten bytes of each group's record that
--- hold its run and its mark.
+-- hold its run and its mark, as far as the sets are: for kind 7 the marks of left and right groups are not.
 pub record SameButSets (s : Sheet) (out out' : List ℕ) : Type 0 where
   pub sized : length out ≡ length out'
   pub verdict : Alike out out' 0 verdictBytes
@@ -109,7 +109,7 @@ pub record SameButSets (s : Sheet) (out out' : List ℕ) : Type 0 where
 
 -- Some sets that fit answer claim k of the sheet (they break it, or have the member of kind 7), the number r returned is that of
 -- a verdict with sets, and the buffers are the same but for the sets.
-pub record ShownAlike (sheet : List ℕ) (k r : ℕ) (out out' : List ℕ) : Type 0 where
+pub record SettledButSets (sheet : List ℕ) (k r : ℕ) (out out' : List ℕ) : Type 0 where
   pub records : Records
   pub readable : readSheet sheet ≡ read records
   pub witness : HasWitness (sheetOf (records .groups)) (claimAt records k)
@@ -133,9 +133,9 @@ sets-alike x y a b v w = record {
 -- and every byte is the same, unless sets are shown (kinds 4 to 6 denied, kind 7 holding): then every byte but those of the sets.
 pub claim-settled : (sheet : List ℕ) (k : ℕ) {before after after' : List ℕ} {r r' : ℕ} → OnceSheet sheet (ClaimVerdict k) (call before r after)
     → OnceSheet sheet (ClaimVerdict k) (call before r' after') → Bytes after → Bytes after'
-    → (r ≡ r') × ((after ≡ after') ⊎ ShownAlike sheet k r after after')
+    → (r ≡ r') × ((after ≡ after') ⊎ SettledButSets sheet k r after after')
 claim-settled sheet k {after} {after'} {r} {r'} v w x y =
-    let same : (r ≡ r') × (after ≡ after') → (r ≡ r') × ((after ≡ after') ⊎ ShownAlike sheet k r after after') = λ z. (z .0, inl (z .1)) in
+    let same : (r ≡ r') × (after ≡ after') → (r ≡ r') × ((after ≡ after') ⊎ SettledButSets sheet k r after after') = λ z. (z .0, inl (z .1)) in
     once-read same (readSheet sheet) v w
     (λ d e v w. once-possible same (readable-possible-or-not sheet d e) v w
     (λ p v w. once-numbered same v w

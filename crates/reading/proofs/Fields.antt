@@ -17,7 +17,7 @@ use Rattle.wire.specs.Edition.{Edition, labelLimit}
 use Rattle.wire.specs.Bytes.{u16At}
 use Rattle.wire.specs.Record.{framed, Test, test, refusal}
 use Rattle.wire.specs.SheetFormat.{GroupRecord, NameRecord, ClaimRecord, u16s}
-use Rattle.wire.specs.SheetFormat.{groupTests, nameOf, nameTests, used, claimTests}
+use Rattle.wire.specs.SheetFormat.{groupTests, nameOf, nameTests, used, lastClaim, claimTests}
 use Rattle.reading.specs.Answers.{kindIn, FrameAt, Whole, WholeName, claimBody}
 
 pub field-at : (s : List ℕ) (at i : ℕ) → u16At (drop at s) i ≡ u16At s (at + i)
@@ -114,7 +114,7 @@ unfolding claimTests
 claim-alone names cs b = refl
 
 -- the tests of a claim after its frame and kind
-pub claim-past : (names : ℕ) {s : List ℕ} {at len : ℕ} → Led s at 4 7 len →
+pub claim-past : (names : ℕ) {s : List ℕ} {at len : ℕ} → Led s at 4 lastClaim len →
     refusal (claimTests names [] (drop at s)) ≡ refusal (claimBody names (drop at s))
 unfolding refusal claimTests claimBody
 claim-past names w = simp (w .frame, le-leb _ _ (w .least), le-leb _ _ (w .most))

@@ -1,10 +1,8 @@
 -- What a claim that the reader hands up stands for: document 01, "Claims", and document 02, card 1, its kind and what its
 -- record carries.
 use Prim.Native.Nat.{ℕ, _+_, _*_, _≤_, _<_}
-use mathlib.Core.Bool.{cond}
 use mathlib.Core.List.{List}
 use lib.ListN.{length}
-use lib.Dec.{eqb}
 use Rattle.wire.specs.Limits.{sideLimit}
 use Rattle.wire.specs.Bytes.{u16At}
 use Rattle.wire.specs.SheetFormat.{ListKind, inside, apart, place, listNumber, ClaimRecord, count, lists, u16s}
@@ -14,14 +12,16 @@ use Rattle.reading.specs.declared.claim.Lists.{Lists}
 use Rattle.reading.specs.declared.claim.Claim.{Claim}
 use Rattle.reading.specs.declared.claim.Claim.the-variants as claim
 
--- the format's kind of each case, and the case that a number stands for
+-- the format's kind of each case, and the case of each kind
 abbrev pub listAs : ListKindRead → ListKind
 listAs kind.Inside = inside
 listAs kind.Apart = apart
 listAs kind.Place = place
 
-abbrev pub listRead : ℕ → ListKindRead
-listRead n = cond (eqb n 5) kind.Inside (cond (eqb n 6) kind.Apart kind.Place)
+abbrev pub listRead : ListKind → ListKindRead
+listRead inside = kind.Inside
+listRead apart = kind.Apart
+listRead place = kind.Place
 
 -- document 01's kind of each case
 abbrev pub claimKind : Claim → ℕ

@@ -6,7 +6,7 @@ use mathlib.Core.List.{List, [], _∷_}
 use lib.ListN.{length, getD, set}
 use lib.Seq.{sets}
 use lib.Dec.{eqb}
-use Rattle.wire.specs.SheetFormat.{listNumber, ClaimRecord}
+use Rattle.wire.specs.SheetFormat.{listNumber, listKindOf, ClaimRecord}
 use Rattle.reading.specs.Tables.{tabulate, length-tabulate, getD-tabulate}
 use Rattle.reading.specs.ClaimHeld.{listAs, listRead, claimRecord}
 use Rattle.reading.specs.declared.claim.Lists.{Lists}
@@ -30,7 +30,7 @@ claimPlace (claim.Lists l) = l .at
 -- the claim at the place k of the tables
 abbrev pub listsIn : List ℕ → List ℕ → ℕ → Lists
 listsIn claims places k = record {
-  kind = listRead (getD claims (claimSlots * k) 0);
+  kind = listRead (listKindOf (getD claims (claimSlots * k) 0));
   m = getD claims (claimSlots * k + 1) 0;
   n = getD claims (claimSlots * k + 2) 0;
   at = getD places k 0;

@@ -7,7 +7,7 @@ ghost use mathlib.Core.Path.{_≡_};
 ghost use mathlib.Core.List.{List};
 ghost use Prim.Native.Nat.{ℕ, _+_, _*_};
 ghost use lib.ListN.{length};
-ghost use Rattle.wire.specs.SheetFormat.{listNumber};
+ghost use Rattle.wire.specs.SheetFormat.{listNumber, listKindOf};
 ghost use Rattle.wire.specs.Encoding.{encodeClaim};
 ghost use Rattle.reading.specs.ClaimHeld.{listAs, listRead, claimRecord};
 ghost use Rattle.reading.specs.ClaimTable.{ClaimRoom, ClaimPut, claimIn};
@@ -52,7 +52,7 @@ fn list_number(k: ListKind) -> u16
 
 // the kind of a number from 5 to 7
 pub fn list_kind(n: u16) -> ListKind
-    ensures { λ r. ⌜ r ≡ listRead n ⌝ }
+    ensures { λ r. ⌜ r ≡ listRead (listKindOf n) ⌝ }
 {
     if n == 5 {
         return ListKind::Inside;

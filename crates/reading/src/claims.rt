@@ -15,7 +15,7 @@ ghost use lib.Dec.{leb, eqb};
 ghost use Rattle.wire.specs.Bytes.{u16At};
 ghost use Rattle.wire.specs.Limits.{sideLimit};
 ghost use Rattle.wire.specs.Record.{refusal};
-ghost use Rattle.wire.specs.SheetFormat.{allWithin, u16s};
+ghost use Rattle.wire.specs.SheetFormat.{lastClaim, allWithin, u16s};
 ghost use Rattle.reading.specs.Answers.{Whole, claimBody, ClaimTaken};
 
 // whether the n numbers at a place are all from 1 to `names`
@@ -109,7 +109,7 @@ pub fn body_refusal(s: &[u8], at: usize, len: u16, kind: u16, names: u16) -> u32
 
 // the claim of this kind whose record stands at a place
 pub fn take_claim(s: &[u8], at: usize, kind: u16) -> Claim
-    requires { ⌜ (at + 10 ≤ length (now s)) × ((4 ≤ kind) × ((kind ≤ 7) × (u16At (now s) (at + 2) ≡ kind))) ⌝ }
+    requires { ⌜ (at + 10 ≤ length (now s)) × ((4 ≤ kind) × ((kind ≤ lastClaim) × (u16At (now s) (at + 2) ≡ kind))) ⌝ }
     ensures { λ r. ⌜ ClaimTaken (now (s .entry)) at r ⌝ }
 {
     let a = bytes::word(s, at + 4);

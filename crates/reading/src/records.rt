@@ -9,6 +9,7 @@ use crate::tables::EDITION;
 use crate::tables::GROUPS;
 use crate::tables::GroupNo;
 use crate::tables::LABEL;
+use crate::tables::LAST_CLAIM;
 use crate::tables::MODE;
 use crate::tables::Meant;
 use crate::tables::NAMES;
@@ -228,7 +229,7 @@ pub fn read_claim(s: &[u8], at: usize, names: u16) -> Answer
     requires { ⌜ at ≤ length (now s) ⌝ }
     ensures { λ r. ⌜ ClaimAnswer names (now (s .entry)) at r ⌝ }
 {
-    let len = frame(s, at, 4, 7);
+    let len = frame(s, at, 4, LAST_CLAIM);
     if len < 2 {
         return Answer::Refused(1 + len as u32);
     }

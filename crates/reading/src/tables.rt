@@ -47,6 +47,9 @@ pub const CLAIM_TABLE: usize = CLAIM_SLOTS * PLACE_TABLE;
 
 pub const PLACE_TABLE: usize = CLAIMS as usize;
 
+// the last kind of a claim
+pub const LAST_CLAIM: u16 = 7;
+
 // How many hashes labels can have: a table of one number for each hash has this length.
 pub const LABEL_HASHES: usize = 2048;
 

@@ -1,7 +1,7 @@
 -- When a question has a witness, exactly: as a choice for a place (kinds 5 to 7), as sizes under a narrowed bound (kind 4).
 use Prim.Native.Nat.{ℕ, zero, suc, _+_, _-_, _≤_, _<_}
 use mathlib.Core.Path.{_≡_, refl, sym, _∙_, subst}
-use mathlib.Core.Bool.{Bool, true, false, _&&_, Bool-discrete, false≢true}
+use mathlib.Core.Bool.{Bool, true, false, Bool-discrete, false≢true}
 use mathlib.Core.List.{
   List,
   [],
@@ -21,7 +21,7 @@ use Rattle.laws.specs.Sum.{bit}
 use Rattle.meaning.specs.Sheet.{Sheet, Group, Top, fin, inf, AtMost}
 use Rattle.meaning.specs.Tree.{Tree}
 use Rattle.meaning.specs.Sets.{Sets, count}
-use Rattle.meaning.specs.Fits.{Fits, Possible, groupsOf}
+use Rattle.meaning.specs.Fits.{Possible, groupsOf}
 use Rattle.meaning.specs.Claim.{Claim, counted, within, separate, named, union, countNamed, Says, Breaks, Breakable}
 use Rattle.meaning.specs.Place.{every, listsAsk}
 use Rattle.sizes.specs.Balanced.{Choice}

@@ -1,10 +1,9 @@
 -- Sets that answer a question by themselves: they break a claim of kinds 4 to 6, or have the member of a claim of kind 7.
 use Prim.Native.Nat.{ℕ}
-use mathlib.Core.List.{List}
 use Rattle.meaning.specs.Sheet.{Sheet}
 use Rattle.meaning.specs.Sets.{Sets}
 use Rattle.meaning.specs.Fits.{Fits}
-use Rattle.meaning.specs.Claim.{Claim, Breaks}
+use Rattle.meaning.specs.Claim.{Breaks}
 use Rattle.meaning.specs.Place.{Fills, Question, allSay, somePlace}
 
 abbrev pub Witness : {X : Type 0} → Question → Sets X → Type 0

@@ -16,7 +16,7 @@ use Rattle.wire.specs.Edition.{Edition, editionNumber, editionOf, labelL
 use Rattle.wire.specs.EditionFacts.{edition-back, edition-fits, name-fits}
 use Rattle.wire.specs.Bytes.{u16At, le16}
 use Rattle.wire.specs.Record.{lengthOf, kindOf, after, framed, Test}
-use Rattle.wire.specs.SheetFormat.{HeadRecord, GroupRecord, NameRecord, ListKind, listNumber, ClaimRecord, count, lists, Records}
+use Rattle.wire.specs.SheetFormat.{HeadRecord, GroupRecord, NameRecord, listNumber, ClaimRecord, count, lists, Records}
 use Rattle.wire.specs.SheetFormat.{headTests, groupTests, nameTests, claimTests, headOf, groupOf, nameOf, claimOf}
 use Rattle.wire.specs.SheetFormat.{lastClaim, u16s, leftOf, rightOf, allWithin, claimLength, claimFields, claimNames}
 use Rattle.wire.specs.Encoding.{Bytes, GroupRight, NameRight, SideRight, ClaimRight, Right}

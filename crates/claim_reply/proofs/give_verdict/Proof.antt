@@ -10,7 +10,7 @@ use Rattle.reading.specs.SheetIn.{size-in}
 use Rattle.claims.specs.Named.{claimMeant, asked-speaks}
 use Rattle.replies.specs.Wrote.{wrote-then}
 use Rattle.replies.proofs.ReplyLaws.{written}
-use Rattle.claims.specs.Decided.{decisionNumber, decisionShows}
+use Rattle.claims.specs.Decided.{decisionShows}
 use Rattle.claim_reply.specs.Answering.{answering-answered}
 use Rattle.claim_reply.proofs.SetsLaws.{verdict-in, verdict-kept, sets-in, shows-witness}
 use borrow.Author.Needs.{needs}

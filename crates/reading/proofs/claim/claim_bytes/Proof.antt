@@ -6,9 +6,6 @@ use Rattle.reading.proofs.Carried.{lists-bytes}
 use borrow.Author.Needs.{needs}
 use Rattle.reading.proofs.claim.claim_bytes.Statement.{statement}
 use Rattle.reading.proofs.claim.claim_bytes.Tie as tie
-use Rattle.reading.proofs.claim.claim_bytes.Reads as reads
-use Rattle.reading.proofs.claim.claim_bytes.Lts as lts
-use Rattle.reading.proofs.claim.lists_bytes.Reads as lists-bytes-reads
 
 enum-told : tie.Need-enum-told
 enum-told c = search needs

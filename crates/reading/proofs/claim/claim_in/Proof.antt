@@ -4,9 +4,6 @@ use Rattle.reading.specs.ClaimTable.{claimIn}
 use borrow.Author.Needs.{needs}
 use Rattle.reading.proofs.claim.claim_in.Statement.{statement}
 use Rattle.reading.proofs.claim.claim_in.Tie as tie
-use Rattle.reading.proofs.claim.claim_in.Reads as reads
-use Rattle.reading.proofs.claim.claim_in.Lts as lts
-use Rattle.reading.proofs.claim.list_kind.Reads as list-kind-reads
 
 mul-at : tie.Need-mul-at
 mul-at c = search needs

@@ -3,8 +3,6 @@ use Rattle.wire.specs.SheetFormat.{listNumber}
 use borrow.Author.Needs.{needs}
 use Rattle.reading.proofs.claim.list_number.Statement.{statement}
 use Rattle.reading.proofs.claim.list_number.Tie as tie
-use Rattle.reading.proofs.claim.list_number.Reads as reads
-use Rattle.reading.proofs.claim.list_number.Lts as lts
 
 enum-told : tie.Need-enum-told
 enum-told c = search needs

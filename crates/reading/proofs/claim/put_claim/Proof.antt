@@ -1,12 +1,7 @@
 -- `put_claim` meets its contract, by the two cases.
-
 use borrow.Author.Needs.{needs}
 use Rattle.reading.proofs.claim.put_claim.Statement.{statement}
 use Rattle.reading.proofs.claim.put_claim.Tie as tie
-use Rattle.reading.proofs.claim.put_claim.Reads as reads
-use Rattle.reading.proofs.claim.put_claim.Lts as lts
-use Rattle.reading.proofs.claim.list_number.Reads as list-number-reads
-use Rattle.reading.proofs.tables.put_four.Reads as put-four-reads
 
 mul-at : tie.Need-mul-at
 mul-at c = search needs

@@ -6,10 +6,6 @@ use Rattle.reading.proofs.Taken.{count-taken, lists-taken}
 use borrow.Author.Needs.{needs}
 use Rattle.reading.proofs.claims.take_claim.Statement.{statement}
 use Rattle.reading.proofs.claims.take_claim.Tie as tie
-use Rattle.reading.proofs.claims.take_claim.Reads as reads
-use Rattle.reading.proofs.claims.take_claim.Lts as lts
-use Rattle.reading.proofs.claim.list_kind.Reads as list-kind-reads
-use Rattle.wire.proofs.bytes.word.Reads as word-reads
 
 add-word : tie.Need-add-word
 add-word c = search needs

@@ -7,7 +7,7 @@ use denote.Ref.{now}
 use lib.ListN.{drop}
 use Rattle.wire.specs.Bytes.{u16At}
 use Rattle.wire.specs.Record.{refusal}
-use Rattle.wire.specs.SheetFormat.{claimTests}
+use Rattle.wire.specs.SheetFormat.{lastClaim, claimTests}
 use Rattle.reading.proofs.Fields.{Led, frame-led, frame-refused, read-at, claim-past}
 use Rattle.reading.proofs.Taken.{claim-room, claim-refused, claim-answered}
 use borrow.Author.Needs.{needs}
@@ -15,11 +15,11 @@ use Rattle.reading.proofs.records.read_claim.Statement.{statement}
 use Rattle.reading.proofs.records.read_claim.Tie as tie
 
 -- frame and kind, where they are a claim's
-led : (c : tie.Else1) → let a = c .before .before .before .args in Led (now (a .s)) (a .at) 4 7 (c .before .frame .result)
+led : (c : tie.Else1) → let a = c .before .before .before .args in Led (now (a .s)) (a .at) 4 lastClaim (c .before .frame .result)
 led c = frame-led (c .before .before .before .pre) (c .before .frame .ensures) (c .if1 .left)
 
 kinds : (c : tie.After-word) → let k = c .word .result in
-    (4 ≤ k) × ((k ≤ 7) × (u16At (now (c .before .before .before .before .args .s)) (c .before .before .before .before .args .at + 2) ≡ k))
+    (4 ≤ k) × ((k ≤ lastClaim) × (u16At (now (c .before .before .before .before .args .s)) (c .before .before .before .before .args .at + 2) ≡ k))
 kinds c = let w = led (c .before) in let a = c .before .before .before .before .args in
     let e = read-at (now (a .s)) (a .at) 2 _ (c .word .ensures) in (omega arith, (omega arith, sym (c .word .ensures)))
 
