@@ -1,5 +1,5 @@
 // Our operations beside ordinary Rust of the same algorithm, on the same bytes, in turns.
-//   ops FOLDER     FOLDER has the sheets NAME.sheet; prints a line 'what ours rust' in ns for each
+//   ops FOLDER [WHAT]     FOLDER has the sheets NAME.sheet; prints a line 'what ours rust' in ns for each, or for WHAT alone
 
 #[path = "engine.rs"]
 mod engine;
@@ -56,8 +56,11 @@ fn middle(mut a: impl FnMut(), mut b: impl FnMut()) -> (f64, f64) {
     (x[RUNS / 2], y[RUNS / 2])
 }
 
-fn say(what: &str, times: (f64, f64)) {
-    println!("{what}\t{:.0}\t{:.0}", times.0, times.1);
+fn measure(what: &str, ours: impl FnMut(), rust: impl FnMut()) {
+    if std::env::args().nth(2).map_or(true, |only| only == what) {
+        let times = middle(ours, rust);
+        println!("{what}\t{:.0}\t{:.0}", times.0, times.1);
+    }
 }
 
 // The same number returned and the same bytes written; what an earlier call left behind them is not compared.
@@ -112,20 +115,18 @@ fn claims(what: &str, s: &[u8], x: &mut [u8], y: &mut [u8]) {
         let (a, b) = (claim(s, c, x), engine::claim(s, c, y));
         assert!(a == b && x[..6] == y[..6], "{what}, claim {c}");
     }
-    say(
+    measure(
         what,
-        middle(
-            || {
-                for c in 1..=q {
-                    black_box(claim(black_box(s), c, x));
-                }
-            },
-            || {
-                for c in 1..=q {
-                    black_box(engine::claim(black_box(s), c, y));
-                }
-            },
-        ),
+        || {
+            for c in 1..=q {
+                black_box(claim(black_box(s), c, x));
+            }
+        },
+        || {
+            for c in 1..=q {
+                black_box(engine::claim(black_box(s), c, y));
+            }
+        },
     );
 }
 
@@ -139,16 +140,14 @@ fn main() {
     for place in ["first", "last"] {
         let s = sheet(&format!("largest-{place}"));
         same("reading", (register(&s, &[], &mut x), &x), (engine::register_walk(&s, &[], &mut y), &y));
-        say(
+        measure(
             &format!("reading a largest sheet, labels differ in the {place} bytes"),
-            middle(
-                || {
-                    black_box(register(black_box(&s), &[], &mut x));
-                },
-                || {
-                    black_box(engine::register_walk(black_box(&s), &[], &mut y));
-                },
-            ),
+            || {
+                black_box(register(black_box(&s), &[], &mut x));
+            },
+            || {
+                black_box(engine::register_walk(black_box(&s), &[], &mut y));
+            },
         );
     }
 
@@ -156,16 +155,14 @@ fn main() {
         for size in [16, 32, 64, 128] {
             let s = sheet(&format!("{shape}-{size}"));
             same(shape, (ranges(&s, &mut x), &x), (engine::ranges(&s, &mut y), &y));
-            say(
+            measure(
                 &format!("ranges {shape} {size}"),
-                middle(
-                    || {
-                        black_box(ranges(black_box(&s), &mut x));
-                    },
-                    || {
-                        black_box(engine::ranges(black_box(&s), &mut y));
-                    },
-                ),
+                || {
+                    black_box(ranges(black_box(&s), &mut x));
+                },
+                || {
+                    black_box(engine::ranges(black_box(&s), &mut y));
+                },
             );
             claims(&format!("claims {shape} {size}"), &s, &mut x, &mut y);
         }
@@ -180,16 +177,14 @@ fn main() {
             ] {
                 same(what, (register(&s, &reg, &mut x), &x[..8]), (rust(&s, &reg, &mut y), &y[..8]));
                 assert!(word(&x, 4) == if lo == 0 { 0 } else { 128 });
-                say(
+                measure(
                     &format!("register {shape} {what}, Rust by {how}"),
-                    middle(
-                        || {
-                            black_box(register(black_box(&s), &reg, &mut x));
-                        },
-                        || {
-                            black_box(rust(black_box(&s), &reg, &mut y));
-                        },
-                    ),
+                    || {
+                        black_box(register(black_box(&s), &reg, &mut x));
+                    },
+                    || {
+                        black_box(rust(black_box(&s), &reg, &mut y));
+                    },
                 );
             }
         }

@@ -34,13 +34,23 @@ def longest(sheet, label):
     return out
 
 
-def middle(f, runs=RUNS):
-    times = []
-    for _ in range(runs):
+def in_turns(what, solver):
+    """Our operation and a solver, one after the other: the middle times, of the ratios the middle one, and the answer."""
+    ours, times = [], []
+    while len(times) < (RUNS if sum(times) > 1 else 3 * RUNS):
+        ours += [a for a, _ in measure(what).values()]
         start = time.perf_counter()
-        answer = f()
+        answer = solver()
         times.append(time.perf_counter() - start)
-    return statistics.median(times), answer
+    ratio = statistics.median(b / a for a, b in zip(ours, times))
+    return statistics.median(ours), statistics.median(times), ratio, answer
+
+
+def measure(*what):
+    """Seconds of our operations and of Rust's, for all that `ops` measures or for one of it."""
+    out = subprocess.run([ops, folder, *what], check=True, capture_output=True, text=True).stdout
+    rows = [line.split('\t') for line in out.splitlines()]
+    return {row[0]: (float(row[1]) * 1e-9, float(row[2]) * 1e-9) for row in rows}
 
 
 def show(seconds):
@@ -95,15 +105,13 @@ def main():
             f.write(longest(sheets['bushy', 128], label))
     library = Library(driver)
 
-    measured = {}
-    for line in subprocess.run([ops, folder], check=True, capture_output=True, text=True).stdout.splitlines():
-        what, ours, rust = line.split('\t')
-        measured[what] = (float(ours) * 1e-9, float(rust) * 1e-9)
+    measured = measure()
 
     print('# Benchmarks\n')
     print('Printed by `bench/run`. Middle of 101 runs for our operations and for Rust, on the same bytes and '
-          'taken in turns; middle of %d for solvers. A ratio of times taken in turns stands where the machine '
-          'does other work too; single times, and with them the growth, want an idle one.\n' % RUNS)
+          'taken in turns; middle of %d to %d for solvers, each after such 101 runs of ours. A ratio of times taken in '
+          'turns stands where the machine does other work too; single times, and with them the growth, want an idle '
+          'one.\n' % (RUNS, 3 * RUNS))
     cpu = next((l.split(':')[1].strip() for l in open('/proc/cpuinfo') if 'model name' in l), 'unknown')
     print('- processor: %s, %d cores' % (cpu, os.cpu_count()))
     print('- ' + flags.replace('; ', '\n- ') + '\n')
@@ -144,21 +152,21 @@ def main():
                 label += ', %d hold' % sum(holds for holds, _ in said)
                 if len(set(want)) < 2:
                     sys.exit('only one answer to %s\n%s' % (label, s))
-            ours = measured['%s %s 128' % (op, shape)][0]
-            times = []
+            ours, times, ratios = [], [], []
             for solver in solvers:
                 try:
-                    seconds, got = middle(lambda: solver(s))
+                    own, seconds, ratio, got = in_turns('%s %s 128' % (op, shape), lambda: solver(s))
                 except Unanswered:
                     times.append(None)
                     continue
                 if got != want:
                     sys.exit('%s differs on %s\n%s' % (solver.__name__, label, s))
+                ours.append(own)
                 times.append(seconds)
-            fastest = min(t for t in times if t is not None)
+                ratios.append(ratio)
             print('| %s | %s | %s | %s | %.0f | at least %d |' % (
-                label, shape, show(ours),
-                ' | '.join('no answer' if t is None else show(t) for t in times), fastest / ours, goal))
+                label, shape, show(statistics.median(ours)),
+                ' | '.join('no answer' if t is None else show(t) for t in times), min(ratios), goal))
 
     print('\n## Stack of the deepest call\n')
     print('On a painted stack, below the caller, for a sheet of 128 groups; the claim of kind 7 is a yes.\n')
