@@ -22,8 +22,8 @@ use Rattle.claims.specs.Named.{Askable, claimMeant, claim-named}
 use Rattle.replies.specs.Reply.{Call}
 use Rattle.claim_reply.specs.ClaimReply.{VerdictFor}
 
-pub answered-as : (s : Sheet) (y : Call) {j k : Question} → j ≡ k → VerdictFor s j y → VerdictFor s k y
-answered-as s y e w = subst (λ k. VerdictFor s k y) e w
+pub verdict-as : (s : Sheet) (y : Call) {j k : Question} → j ≡ k → VerdictFor s j y → VerdictFor s k y
+verdict-as s y e w = subst (λ k. VerdictFor s k y) e w
 
 -- a claim x of a sheet that was read, handed up from place i of the tables
 module _ (h : Head) (s groups : List ℕ) {names : List ℕ} (labels claims places : List ℕ)

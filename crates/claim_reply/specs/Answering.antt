@@ -14,10 +14,10 @@ pub record Answering (s : Sheet) (q : Question) (c : Call) : Type 0 where
   pub alone : (HasWitness s q → ⊥) → OnceRoom verdictBytes c (VerdictIn (verdictOn q false))
 
 -- it is what the contract says of each kind
-pub answering-answered : {s : Sheet} {c : Call} (q : Question) → Answering s q c → VerdictFor s q c
-answering-answered (allSay k) w = record { holds = w .alone; denied = w .shown }
-answering-answered (somePlace l r) w = record { holds = w .shown; denied = w .alone }
+pub answering-verdict : {s : Sheet} {c : Call} (q : Question) → Answering s q c → VerdictFor s q c
+answering-verdict (allSay k) w = record { holds = w .alone; denied = w .shown }
+answering-verdict (somePlace l r) w = record { holds = w .shown; denied = w .alone }
 
-pub answered-answering : {s : Sheet} {c : Call} (q : Question) → VerdictFor s q c → Answering s q c
-answered-answering (allSay k) w = record { shown = w .denied; alone = w .holds }
-answered-answering (somePlace l r) w = record { shown = w .holds; alone = w .denied }
+pub verdict-answering : {s : Sheet} {c : Call} (q : Question) → VerdictFor s q c → Answering s q c
+verdict-answering (allSay k) w = record { shown = w .denied; alone = w .holds }
+verdict-answering (somePlace l r) w = record { shown = w .holds; alone = w .denied }

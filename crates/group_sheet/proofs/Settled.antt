@@ -25,7 +25,7 @@ use Rattle.range_reply.specs.RangesReply.{rangeAt, rangeLeast, rangeGreatest, r
 use Rattle.range_reply.proofs.RangesOnce.{range-once}
 use Rattle.register_reply.specs.RegisterReply.{AnswerIn, Register}
 use Rattle.claim_reply.specs.ClaimReply.{shownAt, VerdictIn, SetsIn, ClaimVerdict}
-use Rattle.claim_reply.specs.Answering.{answered-answering}
+use Rattle.claim_reply.specs.Answering.{verdict-answering}
 use Rattle.group_sheet.proofs.Alike.{Alike, alike-then, alike-many, u16-alike, u32-alike}
 use Rattle.group_sheet.proofs.Exits.{once-read, once-possible, once-numbered, once-room, replied-alike}
 
@@ -139,8 +139,8 @@ claim-settled sheet k {after} {after'} {r} {r'} v w x y =
     once-read same (readSheet sheet) v w
     (λ d e v w. once-possible same (readable-possible-or-not sheet d e) v w
     (λ p v w. once-numbered same v w
-    (λ v w. let v' = answered-answering (claimAt d k) v in
-    let w' = answered-answering (claimAt d k) w in
+    (λ v w. let v' = verdict-answering (claimAt d k) v in
+    let w' = verdict-answering (claimAt d k) w in
     ⊎-elim
     (λ c. once-room same (v' .shown c) (w' .shown c)
     (λ a b m n. (

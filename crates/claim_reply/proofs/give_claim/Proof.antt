@@ -9,7 +9,7 @@ use Rattle.reading.specs.SheetIn.{sheetIn}
 use Rattle.reading.specs.ClaimTable.{length-claimsIn}
 use Rattle.replies.proofs.ReplyLaws.{as-read}
 use Rattle.claim_reply.specs.ClaimReply.{ClaimVerdict}
-use Rattle.claim_reply.proofs.ClaimLaws.{answered-as, claim-askable, claim-told}
+use Rattle.claim_reply.proofs.ClaimLaws.{verdict-as, claim-askable, claim-told}
 use Rattle.claim_reply.proofs.give_claim.Statement.{statement}
 use Rattle.claim_reply.proofs.give_claim.Tie as tie
 
@@ -101,7 +101,7 @@ returns-4 c =
       possible = λ p. record {
         unnumbered = λ o. absurd (⊎-elim (c .before .before .before .before .before .before .before .before .before .before .if2 .left) (λ b. omega (arith, simp length-claimsIn at b)) o);
         numbered = λ a b.
-            answered-as _ _
+            verdict-as _ _
             (claim-told _ _ _ _ _ _ (w .reads) (w .held) (omega (arith, w .held .limits .fewNames, w .rooms .nameRoom)) _ (search needs) x _ refl)
             (c .before .before .before .before .give-verdict .ensures);
       };

@@ -11,7 +11,7 @@ use Rattle.claims.specs.Named.{claimMeant, asked-speaks}
 use Rattle.replies.specs.Wrote.{wrote-then}
 use Rattle.replies.proofs.ReplyLaws.{written}
 use Rattle.claims.specs.Decided.{decisionShows}
-use Rattle.claim_reply.specs.Answering.{answering-answered}
+use Rattle.claim_reply.specs.Answering.{answering-verdict}
 use Rattle.claim_reply.proofs.SetsLaws.{verdict-in, verdict-kept, sets-in, shows-witness}
 use borrow.Author.Needs.{needs}
 use Rattle.claim_reply.proofs.give_verdict.Statement.{statement}
@@ -50,7 +50,7 @@ returns c =
     let dec = c .before .before .before .before .before .before .before .before .before .before in
     let a = dec .before .before .before .before .before .before .before .before .before .args in
     let w = dec .decide .ensures .0 in
-    answering-answered (claimMeant (now (a .names)) (claimRecord (now (a .sheet)) (a .c))) (record {
+    answering-verdict (claimMeant (now (a .names)) (claimRecord (now (a .sheet)) (a .c))) (record {
       shown = λ h. absurd (w .alone (ap decisionShows told) h);
       alone = λ n. record {
         short = λ l. record { returned = c .pack .ensures; unchanged = refl };
@@ -92,7 +92,7 @@ returns-2 c =
     let a = dec .before .before .before .before .before .before .before .before .before .args in
     let size = size-in (now (a .groups)) (a .size) in
     let w = dec .decide .ensures .0 in
-    answering-answered (claimMeant (now (a .names)) (claimRecord (now (a .sheet)) (a .c))) (record {
+    answering-verdict (claimMeant (now (a .names)) (claimRecord (now (a .sheet)) (a .c))) (record {
       shown = λ h. record {
         short = λ l. record { returned = c .pack3 .ensures; unchanged = refl };
         replied = λ l. absurd (omega (arith, size));
@@ -138,7 +138,7 @@ returns-3 c =
     let w = dec .decide .ensures .0 in
     let n = c .before .before .before .before .verdict-number .ensures in
     let p = c .before .before .before .put-verdict .ensures in
-    answering-answered (claimMeant (now (a .names)) (claimRecord (now (a .sheet)) (a .c))) (record {
+    answering-verdict (claimMeant (now (a .names)) (claimRecord (now (a .sheet)) (a .c))) (record {
       shown = λ h. absurd (w .alone (ap decisionShows told) h);
       alone = λ h. record {
         short = λ l. absurd (omega arith);
@@ -164,7 +164,7 @@ returns-4 c =
     let n = c .before .before .before .before .before .before .before .before .before .before .before .verdict-number2 .ensures in
     let p = c .before .before .before .before .before .before .before .before .before .before .put-verdict2 .ensures in
     let z = c .before .before .before .put-sets .ensures in
-    answering-answered (claimMeant (now (a .names)) (claimRecord (now (a .sheet)) (a .c))) (record {
+    answering-verdict (claimMeant (now (a .names)) (claimRecord (now (a .sheet)) (a .c))) (record {
       shown = λ h. record {
         short = λ l. absurd (omega (arith, size, c .before .before .before .before .before .before .before .before .before .before .before .before .before .if2 .left));
         replied = λ l. (
