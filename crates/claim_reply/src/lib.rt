@@ -57,7 +57,7 @@ fn give_verdict(
             if reply.len() < VERDICT_BYTES {
                 return pack(14, 0); // no room for the verdict
             }
-            put_verdict(reply, verdict_number(v));
+            put_verdict(reply, verdict_number(v)); // alone
             pack(0, VERDICT_BYTES as u32)
         }
         Decision::Shown(v) => {
@@ -65,7 +65,7 @@ fn give_verdict(
             if reply.len() < bytes {
                 return pack(14, 0); // no room for the sets
             }
-            put_verdict(reply, verdict_number(v));
+            put_verdict(reply, verdict_number(v)); // with sets
             put_sets(reply, size, &firsts, &sizes, &marks);
             pack(0, bytes as u32)
         }

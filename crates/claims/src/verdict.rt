@@ -49,12 +49,12 @@ pub fn verdict_on(c: Claim, answered: bool) -> Verdict
 {
     if asks_place(c) {
         if answered {
-            return Verdict::Holds;
+            return Verdict::Holds; // they have the member
         }
-        return Verdict::Denied;
+        return Verdict::Denied; // nobody could be there
     }
     if answered {
-        return Verdict::Denied;
+        return Verdict::Denied; // they break it
     }
-    Verdict::Holds
+    Verdict::Holds // nothing breaks it
 }
