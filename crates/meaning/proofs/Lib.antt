@@ -1,2 +1,3 @@
 pub mod SonLaws
+pub mod SonListLaws
 pub mod Worked

@@ -37,6 +37,10 @@ son-only f k = rw (son-is k)
 pub son-parent : {s : Sheet} {p g : ℕ} → Tree s → Son s p g → Group s p
 son-parent {s} {p} {g} t k = omega (arith, t .before g (k .group))
 
+-- number 0 is nobody's son
+pub no-son : (s : Sheet) (p : ℕ) → isSon s p 0 ≡ false
+no-son s p = not-true-false (isSon s p 0) (λ e. omega (arith, son-of s p 0 zero-le e .group .first))
+
 -- no son of a group comes before it
 pub no-son-before : {s : Sheet} → Tree s → (p g : ℕ) → g ≤ p → p ≤ s .size → isSon s p g ≡ false
 no-son-before {s} t p g l h =

@@ -1,5 +1,5 @@
--- The worked sheets that are shown by proof, of document 01 and of document 02, card 1, in one list: `worked`. They speak of
--- the meaning alone.
+-- The worked sheets that are shown by proof, of document 01 and of document 02, cards 1 and 3, in one list: `worked`. They
+-- speak of the meaning alone.
 use Prim.Native.Nat.{ℕ, zero, suc, _+_, _-_, _≤_, _<_, zero-le}
 use mathlib.Core.Path.{_≡_, refl, sym, ap, _∙_, subst}
 use mathlib.Core.Bool.{Bool, true, false, cond, _&&_, _||_, false≢true}
@@ -16,6 +16,7 @@ use Rattle.laws.specs.SumLaws.{bit-le, bit-le-true, bit-true, bit-most, true-bi
 use Rattle.laws.specs.SumLaws.{sum-le, sum-eq, sum-add, sum-zero, sum-term, sum-gap-term, sum-tight}
 use Rattle.meaning.specs.Sheet.{Sheet, Group, Son, AtMost, endOf}
 use Rattle.meaning.specs.Sons.{isSon, sons}
+use Rattle.meaning.specs.SonList.{passing, sonList}
 use Rattle.meaning.specs.Sets.{Sets, numbered}
 use Rattle.meaning.specs.Sets as sets
 use Rattle.meaning.specs.Fits.{Meets, Fits, Possible, Attains, groupsOf}
@@ -59,6 +60,10 @@ endless = sheetOf (group 0 0 65535 0 ∷ [])
 abbrev pub trio : Sheet
 trio = sheetOf (group 0 2 2 2 ∷ group 1 0 1 0 ∷ group 1 0 1 0 ∷ group 1 0 1 0 ∷ [])
 
+-- Root with the sons 2, 3 and 5; group 2 with the son 4.
+abbrev pub family : Sheet
+family = sheetOf (group 0 0 9 0 ∷ group 1 0 9 0 ∷ group 1 0 9 0 ∷ group 2 0 9 0 ∷ group 1 0 9 0 ∷ [])
+
 -- names 1 to 4 for groups 1 to 4, name 5 for the empty set
 abbrev names : List NameRecord
 names =
@@ -81,7 +86,7 @@ Denied s (somePlace l r) = Possible s × (Fillable s l r → ⊥)
 abbrev together : List ℕ → Question
 together l = claimed names (lists place l (5 ∷ []))
 
--- the worked sheets: each as document 01 has it, and `trio` for document 02, card 1
+-- the worked sheets: each as document 01 has it, `trio` for document 02, card 1, and `family` for card 3
 pub record Worked : Type 0 where
   pub pair-three : Possible (pair 3) → ⊥
   pub pair-four : Possible (pair 4)
@@ -101,6 +106,8 @@ pub record Worked : Type 0 where
   -- nobody is in the empty set, or in a group and out of it
   pub trio-empty : Denied trio (claimed names (lists place (5 ∷ []) (1 ∷ [])))
   pub trio-both : Denied trio (claimed names (lists place (2 ∷ []) (2 ∷ [])))
+  -- exactly the sons, in number order, those between which others stand too
+  pub family-sons : (sonList family 1 ≡ 2 ∷ 3 ∷ 5 ∷ []) × (sonList family 2 ≡ 4 ∷ []) × (sonList family 3 ≡ [])
 
 -- P of each of the n numbers from k on
 abbrev From : (ℕ → Type 0) → ℕ → ℕ → Type 0
@@ -351,7 +358,7 @@ alone : (b : Bool) → (b || false) ≡ true → b ≡ true
 alone b e = or-true b false e (λ x. x) (λ x. absurd (false≢true x))
 
 pub worked : Worked
-unfolding claimed overlap everybody endOf digit sons isSon sum sets.count
+unfolding claimed overlap everybody endOf digit sons isSon passing sum sets.count
 worked = record {
   pair-three = no-pair;
   pair-four = (overlap 3 4 2 2, fits-by (omega arith));
@@ -393,4 +400,5 @@ worked = record {
     λ w. let b = groupsOf (w .0) (w .2 .0) 2 in
         true-not-false b (and-true b true (w .2 .1 .left) .0) (or-false b false (w .2 .1 .right) .0),
   );
+  family-sons = (refl, refl, refl);
 }

@@ -1,6 +1,7 @@
 pub mod Sheet
 pub mod Tree
 pub mod Sons
+pub mod SonList
 pub mod Sets
 pub mod Fits
 pub mod Claim

@@ -14,7 +14,8 @@ use Rattle.reading.specs.Modes.{disjointMode, coverMode, sameMode}
 use Rattle.reading.specs.Tables.{groupFields, groupIn}
 use Rattle.reading.specs.SheetIn.{sheetIn, Tabled, size-in, few-groups, lo-in, hi-in, disjoint-in, cover-in, same-in}
 use Rattle.sizes.specs.Span.{Span, Kind, meet}
-use Rattle.sizes.specs.Fold.{joinKind, sonCount, shut, start, joined, later, own, Measured}
+use Rattle.meaning.specs.SonList.{sonCount}
+use Rattle.sizes.specs.Fold.{joinKind, shut, start, joined, later, own, Measured}
 use Rattle.sizes.specs.Bounds.{topWeight, Small, span-small, later-small}
 use Rattle.sizes.specs.MeasuredLaws.{spans-measured}
 use Rattle.laws.specs.Cases.{compare-eq, compare-le, true-not-false}

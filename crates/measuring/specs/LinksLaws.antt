@@ -12,13 +12,13 @@ use Rattle.laws.specs.Sum.{sum, bit}
 use Rattle.meaning.specs.Sheet.{Sheet, Group, Son}
 use Rattle.meaning.specs.Tree.{Tree}
 use Rattle.meaning.specs.Sons.{isSon, sons}
+use Rattle.meaning.specs.SonList.{sonCount}
 use Rattle.reading.specs.Tables.{groupIn}
 use Rattle.reading.specs.SheetIn.{sheetIn, size-in, group-in, parent-in}
 use Rattle.sizes.specs.Span.{Span}
-use Rattle.sizes.specs.Fold.{joinKind, sonCount, shut, start, joined, later}
+use Rattle.sizes.specs.Fold.{joinKind, shut, start, joined, later}
 use Rattle.laws.specs.Cases.{split, compare-eq, compare-le, below-suc, true-not-false, not-true-false}
-use Rattle.meaning.proofs.SonLaws.{son-of, son-is, no-son-before}
-use Rattle.sizes.specs.RuleSteps.{no-son}
+use Rattle.meaning.proofs.SonLaws.{son-of, son-is, no-son, no-son-before}
 use Rattle.sizes.specs.LaterLaws.{later-none, later-son, later-skip}
 use Rattle.measuring.specs.Links.{linkIn, sonBelow, Linked, Links}
 

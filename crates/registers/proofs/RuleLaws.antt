@@ -10,65 +10,70 @@ use Rattle.wire.specs.Limits.{noEnd}
 use Rattle.registers.specs.Words.{rowGroups}
 use Rattle.laws.specs.Sum.{sum}
 use Rattle.meaning.specs.Sheet.{Sheet, AtMost, Group, Son, endOf}
+use Rattle.meaning.specs.SonList.{sonList}
 use Rattle.meaning.specs.Sets.{Sets, count}
 use Rattle.meaning.specs.Rule.{Rule, outside, lacking, uncovered, shared, below, above, ruleNumber, Broken}
 use Rattle.reading.specs.Modes.{sameMode}
 use Rattle.reading.specs.SheetIn.{sheetIn, Tabled, group-in, parent-in, lo-in, hi-in, disjoint-in, cover-in, same-in, parent-below}
+use Rattle.meaning.proofs.SonListLaws.{listed-son, son-listed}
 use Rattle.laws.specs.Cases.{and-true, split, compare-le, true-not-false}
 use Rattle.laws.specs.SumLaws.{sum-some, sum-two, sum-term, sum-pair}
-use Rattle.registers.specs.Words.{digitIn, holds, inBoth, wordSets}
-use Rattle.registers.specs.Tallies.{SonsListed}
+use Rattle.registers.specs.Words.{pairDigit, digitIn, holds, WordsOf, inBoth, wordSets}
 use Rattle.registers.specs.RuleTests.{parentIn, loIn, hiIn, modeIn, mayBreak, rowBreaks, countBreaks}
-use Rattle.registers.proofs.WordLaws.{digit-in-le, holds-one, one-holds}
+use Rattle.registers.proofs.WordLaws.{pair-le, digit-in-le, holds-one, one-holds}
 
 -- the sons that a row has
-module _ (s : Sheet) (w u : List ℕ) (i p : ℕ) (k : SonsListed s u) (z : s .size ≤ rowGroups) (a : 1 ≤ p) (b : p ≤ rowGroups) where
-  counts-son : (j : ℕ) → j < rowGroups → 1 ≤ min (digitIn w i j) (digitIn u p j) → Son s p (suc j) × (holds w i (suc j) ≡ true)
+module _ (s : Sheet) (w : List ℕ) (low high i p : ℕ) (k : WordsOf (sonList s p) low high) (z : s .size ≤ rowGroups) where
+  counts-son : (j : ℕ) → j < rowGroups → 1 ≤ min (digitIn w i j) (pairDigit low high j)
+      → Son s p (suc j) × (holds w i (suc j) ≡ true)
   counts-son j l m =
       let e : suc j - 1 ≡ j = omega arith in (
-        k .only p (suc j) a b (omega arith) (omega arith) (one-holds u p (suc j) (rw e (omega arith))),
+        listed-son s p (suc j) (k .only j l (omega (arith, pair-le low high j))),
         one-holds w i (suc j) (rw e (omega arith)),
       )
 
-  son-counts : (h : ℕ) → Son s p h → holds w i h ≡ true → min (digitIn w i (h - 1)) (digitIn u p (h - 1)) ≡ 1
-  son-counts h c e = omega (arith, holds-one w i h e, holds-one u p h (k .all p h b (omega arith) c))
+  son-counts : (h : ℕ) → Son s p h → holds w i h ≡ true → min (digitIn w i (h - 1)) (pairDigit low high (h - 1)) ≡ 1
+  son-counts h c e =
+      let d : suc (h - 1) ≡ h = omega arith in
+      omega (arith, holds-one w i h e, k .all (h - 1) (omega arith) (rw d (son-listed c)))
 
-  none-in : inBoth w i u p ≡ 0 → (h : ℕ) → Son s p h → holds w i h ≡ false
+  none-in : inBoth w i low high ≡ 0 → (h : ℕ) → Son s p h → holds w i h ≡ false
   unfolding inBoth
   none-in e h c =
       split (holds w i h)
       (λ x. absurd (omega (
         arith,
         son-counts h c x,
-        sum-term (λ j. min (digitIn w i j) (digitIn u p j)) rowGroups (h - 1)
+        sum-term (λ j. min (digitIn w i j) (pairDigit low high j)) rowGroups (h - 1)
             (omega arith),
       )))
       (λ x. x)
 
-  in-none : ((h : ℕ) → Son s p h → holds w i h ≡ false) → inBoth w i u p ≡ 0
+  in-none : ((h : ℕ) → Son s p h → holds w i h ≡ false) → inBoth w i low high ≡ 0
   unfolding inBoth
   in-none f =
-      compare-le 1 (sum (λ j. min (digitIn w i j) (digitIn u p j)) rowGroups)
-      (λ o. absurd (let x = sum-some (λ j. min (digitIn w i j) (digitIn u p j)) rowGroups o in
+      compare-le 1 (sum (λ j. min (digitIn w i j) (pairDigit low high j)) rowGroups)
+      (λ o. absurd (let x = sum-some (λ j. min (digitIn w i j) (pairDigit low high j)) rowGroups o in
       let y = counts-son (x .0) (x .1) (x .2) in true-not-false _ (y .1) (f (suc (x .0)) (y .0))))
       (λ o. omega arith)
 
-  two-in : 1 < inBoth w i u p → (h j : ℕ) × Son s p h × Son s p j × (h < j) × (holds w i h ≡ true) × (holds w i j ≡ true)
+  two-in : 1 < inBoth w i low high
+      → (h j : ℕ) × Son s p h × Son s p j × (h < j) × (holds w i h ≡ true) × (holds w i j ≡ true)
   unfolding inBoth
   two-in l =
-      let x = sum-pair (λ j. min (digitIn w i j) (digitIn u p j)) rowGroups (λ m o. omega (arith, digit-in-le w i m)) l in
+      let x = sum-pair (λ j. min (digitIn w i j) (pairDigit low high j)) rowGroups (λ m o. omega (arith, digit-in-le w i m)) l in
       let y = counts-son (x .0) (omega arith) (x .4) in
       let v = counts-son (x .1) (x .3) (x .5) in
       (suc (x .0), suc (x .1), y .0, v .0, omega arith, y .1, v .1)
 
-  in-two : (h j : ℕ) → Son s p h → Son s p j → h < j → holds w i h ≡ true → holds w i j ≡ true → 1 < inBoth w i u p
+  in-two : (h j : ℕ) → Son s p h → Son s p j → h < j → holds w i h ≡ true → holds w i j ≡ true → 1 < inBoth w i low high
   unfolding inBoth
   in-two h j c d l x y =
       omega (
         arith,
         son-counts h c x,
         son-counts j d y,
-        sum-two (λ m. min (digitIn w i m) (digitIn u p m)) rowGroups (h - 1) (j - 1)
+        sum-two (λ m. min (digitIn w i m) (pairDigit low high m)) rowGroups (h - 1) (j - 1)
             (omega arith) (omega arith),
       )
 
@@ -82,9 +87,9 @@ may s g below = false
 may s g above = false
 
 -- a rule of one member is broken exactly by a row that breaks it, where it can be broken
-module _ (s : Sheet) (w u : List ℕ) (n g : ℕ) (k : SonsListed s u) (z : s .size ≤ rowGroups) (y : Group s g) where
+module _ (s : Sheet) (w : List ℕ) (low high n g : ℕ) (k : WordsOf (sonList s g) low high) (z : s .size ≤ rowGroups) (y : Group s g) where
   pub by-row : (q : Rule) (i : ℕ) → ruleNumber q < 5 → i < n → may s g q ≡ true
-      → rowBreaks (ruleNumber q) w i u g (s .parent g) ≡ true
+      → rowBreaks (ruleNumber q) w i low high g (s .parent g) ≡ true
       → Broken s (wordSets w n) g q
   unfolding rowBreaks
   by-row outside i l o m e =
@@ -102,25 +107,25 @@ module _ (s : Sheet) (w u : List ℕ) (n g : ℕ) (k : SonsListed s u) (z : s .s
         not-true _ (x .1),
       )
   by-row uncovered i l o m e =
-      let x = and-true (holds w i g) (eqb (inBoth w i u g) 0) e in
-      (i, m, o, x .0, none-in s w u i g k z (y .first) (omega arith) (eqb-true (inBoth w i u g) 0 (x .1)))
+      let x = and-true (holds w i g) (eqb (inBoth w i low high) 0) e in
+      (i, m, o, x .0, none-in s w low high i g k z (eqb-true (inBoth w i low high) 0 (x .1)))
   by-row shared i l o m e =
-      let x = two-in s w u i g k z (y .first) (omega arith) (ltb-true 1 (inBoth w i u g) e) in
+      let x = two-in s w low high i g k z (ltb-true 1 (inBoth w i low high) e) in
       (x .0, x .1, i, m, x .2, x .3, x .4, o, x .5, x .6)
   by-row below i l o m e = absurd (omega arith)
   by-row above i l o m e = absurd (omega arith)
 
   pub row-of : (q : Rule) → ruleNumber q < 5 → Broken s (wordSets w n) g q
-      → (may s g q ≡ true) × ((i : ℕ) × (i < n) × (rowBreaks (ruleNumber q) w i u g (s .parent g) ≡ true))
+      → (may s g q ≡ true) × ((i : ℕ) × (i < n) × (rowBreaks (ruleNumber q) w i low high g (s .parent g) ≡ true))
   unfolding rowBreaks
   row-of outside l (p, i, c, o, a, b) =
       (lt-ltb 0 (s .parent g) (omega arith), (i, o, rw (c .under, a, b)))
   row-of lacking l (p, i, c, m, o, a, b) =
       (rw (lt-ltb 0 (s .parent g) (omega arith), c .under) m, (i, o, rw (c .under, a, b)))
   row-of uncovered l (i, m, o, a, f) =
-      (m, (i, o, rw (a, eq-eqb (inBoth w i u g) 0 (in-none s w u i g k z (y .first) (omega arith) f))))
+      (m, (i, o, rw (a, eq-eqb (inBoth w i low high) 0 (in-none s w low high i g k z f))))
   row-of shared l (h, j, i, m, c, d, x, o, a, b) =
-      (m, (i, o, lt-ltb 1 (inBoth w i u g) (in-two s w u i g k z (y .first) (omega arith) h j c d x a b)))
+      (m, (i, o, lt-ltb 1 (inBoth w i low high) (in-two s w low high i g k z h j c d x a b)))
   row-of below l v = absurd (omega arith)
   row-of above l v = absurd (omega arith)
 

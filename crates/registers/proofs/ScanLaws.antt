@@ -8,13 +8,14 @@ use native.Mathlib.Numerals.{add-one}
 use lib.ListN.{getD}
 use Rattle.registers.specs.Words.{rowGroups}
 use Rattle.meaning.specs.Sheet.{Sheet, Group}
+use Rattle.meaning.specs.SonList.{sonList}
 use Rattle.meaning.specs.Sets.{Sets}
 use Rattle.meaning.specs.Rule.{Rule, ruleNumber, Broken}
 use Rattle.reading.specs.SheetIn.{sheetIn, size-in, group-in, parent-in}
 use Rattle.laws.specs.Cases.{below-suc, true-not-false}
 use Rattle.registers.specs.Unbroken.{unbroken-fits, fits-answered, broken-answered}
-use Rattle.registers.specs.Words.{wordSets, words-distinct}
-use Rattle.registers.specs.Tallies.{Checkable, SonsListed, Counted}
+use Rattle.registers.specs.Words.{WordsOf, wordSets, words-distinct}
+use Rattle.registers.specs.Tallies.{Checkable, Counted}
 use Rattle.registers.specs.RuleTests.{parentIn, mayBreak, rowBreaks, countBreaks}
 use Rattle.registers.specs.Checked.{AnswerTo}
 use Rattle.reading.specs.declared.tables.GroupNo.{GroupNo}
@@ -30,20 +31,21 @@ pub record ClearRules {X : Type 0} (s : Sheet) (A : Sets X) (g k : ℕ) : Type 0
   pub clear : (q : Rule) → ruleNumber q < k → Broken s A g q → ⊥
 
 -- no row before `row` breaks rule k at group g
-pub record ClearRows (k : ℕ) (w : List ℕ) (row : ℕ) (u : List ℕ) (g p : ℕ) : Type 0 where
-  pub clear : (i : ℕ) → i < row → rowBreaks k w i u g p ≡ false
+pub record ClearRows (k : ℕ) (w : List ℕ) (row low high g p : ℕ) : Type 0 where
+  pub clear : (i : ℕ) → i < row → rowBreaks k w i low high g p ≡ false
 
-pub rows-none : (k : ℕ) (w u : List ℕ) (g p : ℕ) → ClearRows k w 0 u g p
-rows-none k w u g p = record { clear = λ i l. absurd (omega arith) }
+pub rows-none : (k : ℕ) (w : List ℕ) (low high g p : ℕ) → ClearRows k w 0 low high g p
+rows-none k w low high g p = record { clear = λ i l. absurd (omega arith) }
 
-pub rows-more : (k : ℕ) (w : List ℕ) (row : ℕ) (u : List ℕ) (g p : ℕ) → ClearRows k w row u g p → rowBreaks k w row u g p ≡ false
-    → ClearRows k w (row + 1) u g p
-rows-more k w row u g p c e =
+pub rows-more : (k : ℕ) (w : List ℕ) (row low high g p : ℕ) → ClearRows k w row low high g p
+    → rowBreaks k w row low high g p ≡ false
+    → ClearRows k w (row + 1) low high g p
+rows-more k w row low high g p c e =
     record { clear = λ i l. below-suc i row (rw add-one at l) (λ (x : i ≡ row). rw x e) (λ x. c .clear i x) }
 
-rows-clash : (j k : ℕ) (w : List ℕ) (row : ℕ) (u : List ℕ) (g o p : ℕ) → j ≡ k → o ≡ p → ClearRows k w row u g p
-    → (i : ℕ) → i < row → rowBreaks j w i u g o ≡ true → ⊥
-rows-clash j k w row u g o p d e c i l x = true-not-false _ (rw (d, e) at x) (c .clear i l)
+rows-clash : (j k : ℕ) (w : List ℕ) (row low high g o p : ℕ) → j ≡ k → o ≡ p → ClearRows k w row low high g p
+    → (i : ℕ) → i < row → rowBreaks j w i low high g o ≡ true → ⊥
+rows-clash j k w row low high g o p d e c i l x = true-not-false _ (rw (d, e) at x) (c .clear i l)
 
 pub rules-none : {X : Type 0} (s : Sheet) (A : Sets X) (g : ℕ) → ClearRules s A g 1
 rules-none s A g = record { clear = λ q l b. omega (arith, rule-first q) }
@@ -67,8 +69,8 @@ rules-more : {X : Type 0} (s : Sheet) (A : Sets X) (g k : ℕ) → ClearRules s 
 rules-more s A g k c f =
     record { clear = λ q l b. below-suc (ruleNumber q) k (rw add-one at l) (λ x. f q x b) (λ x. c .clear q x b) }
 
-module _ (t : List ℕ) (n : ℕ) (w : List ℕ) (rows : ℕ) (u counts : List ℕ) (T : Checkable t n)
-    (sons : SonsListed (sheetIn t n) u) (tally : Counted (wordSets w rows) counts) where
+module _ (t : List ℕ) (n : ℕ) (w : List ℕ) (rows : ℕ) (counts : List ℕ) (T : Checkable t n)
+    (tally : Counted (wordSets w rows) counts) where
   size-most : sheetIn t n .size ≤ rowGroups
   size-most = omega (arith, size-in t n, T .most)
 
@@ -83,22 +85,23 @@ module _ (t : List ℕ) (n : ℕ) (w : List ℕ) (rows : ℕ) (u counts : List �
             (λ h y q b. c .clear h y (omega (arith, y .last, size-in t n)) q b));
       }
 
-  module _ (g k : ℕ) (a : 1 ≤ g) (b : g ≤ n) (c : ClearRules (sheetIn t n) (wordSets w rows) g k) where
+  module _ (g k low high : ℕ) (a : 1 ≤ g) (b : g ≤ n) (sons : WordsOf (sonList (sheetIn t n) g) low high)
+      (c : ClearRules (sheetIn t n) (wordSets w rows) g k) where
     -- no row breaks the rule
-    pub rules-row : k < 5 → (row : ℕ) → rows ≤ row → ClearRows k w row u g (parentIn t g)
+    pub rules-row : k < 5 → (row : ℕ) → rows ≤ row → ClearRows k w row low high g (parentIn t g)
         → ClearRules (sheetIn t n) (wordSets w rows) g (k + 1)
     rules-row l row m d =
         rules-more (sheetIn t n) (wordSets w rows) g k c
         (λ q e v.
-        let x = row-of (sheetIn t n) w u rows g sons size-most (group-in t n a b) q (omega arith) v .1 in
-        rows-clash (ruleNumber q) k w row u g _ _ e (parent-in t n g (group-in t n a b)) d (x .0) (omega arith) (x .2))
+        let x = row-of (sheetIn t n) w low high rows g sons size-most (group-in t n a b) q (omega arith) v .1 in
+        rows-clash (ruleNumber q) k w row low high g _ _ e (parent-in t n g (group-in t n a b)) d (x .0) (omega arith) (x .2))
 
     -- the rule cannot be broken at the group
     pub rules-not : k < 5 → mayBreak t g k ≡ false → ClearRules (sheetIn t n) (wordSets w rows) g (k + 1)
     rules-not l d =
         rules-more (sheetIn t n) (wordSets w rows) g k c
         (λ q e v.
-        let x = row-of (sheetIn t n) w u rows g sons size-most (group-in t n a b) q (omega arith) v .0 in
+        let x = row-of (sheetIn t n) w low high rows g sons size-most (group-in t n a b) q (omega arith) v .0 in
         true-not-false _ x (sym (may-is (T .tabled) g a b q (omega arith)) ∙ (rw e d)))
 
     -- the count does not break the rule
@@ -126,12 +129,12 @@ module _ (t : List ℕ) (n : ℕ) (w : List ℕ) (rows : ℕ) (u counts : List �
           }
 
       -- a row breaks it
-      pub scan-row : k < 5 → (row : ℕ) → row < rows → mayBreak t g k ≡ true → rowBreaks k w row u g (parentIn t g) ≡ true
+      pub scan-row : k < 5 → (row : ℕ) → row < rows → mayBreak t g k ≡ true → rowBreaks k w row low high g (parentIn t g) ≡ true
           → AnswerTo (sheetIn t n) (wordSets w rows) (check.Broken p k)
       scan-row l row m x y =
           let q = rule-numbered k f (omega arith) in
           scan-broken (q .0) (q .1)
-          (by-row (sheetIn t n) w u rows g sons size-most (group-in t n a b) (q .0) row (omega arith) m
+          (by-row (sheetIn t n) w low high rows g sons size-most (group-in t n a b) (q .0) row (omega arith) m
           (sym (may-is (T .tabled) g a b (q .0) (omega arith)) ∙ (rw (← q .1) x))
           (rw (← q .1, parent-in t n g (group-in t n a b)) y))
 

@@ -1,7 +1,7 @@
 -- Laws of two words as a digit for each group, and of a table with two words for each place.
 use Prim.Native.Nat.{ℕ, _+_, _-_, _*_, _/_, _%_, _^_, _≤_, _<_, min, max}
 use mathlib.Core.Path.{_≡_, sym, ap, _∙_}
-use mathlib.Core.Bool.{true, _&&_}
+use mathlib.Core.Bool.{true}
 use mathlib.Core.List.{List}
 use native.Mathlib.Omega.{arith}
 use borrow.Author.Tests.{lt-ltb, le-ltb, eq-eqb, ne-eqb, eqb-true}
@@ -14,8 +14,8 @@ use Rattle.registers.specs.Words.{rowGroups}
 use Rattle.laws.specs.Sum.{sum, bit}
 use Rattle.laws.specs.Cases.{compare-le, compare-eq}
 use Rattle.laws.specs.SumLaws.{sum-eq, sum-parts}
-use Rattle.laws.specs.Digits.{digit, digit-le, digit-and, digit-or, digit-pow, ones-digits}
-use Rattle.registers.specs.Words.{pairDigit, digitIn, holds, inBoth}
+use Rattle.laws.specs.Digits.{digit, digit-le, digit-of-zero, digit-and, digit-or, digit-pow, ones-digits}
+use Rattle.registers.specs.Words.{pairDigit, digitIn, holds, WithGroup, InBoth, inBoth}
 
 pub pair-low : (l h j : ℕ) → j < 64 → pairDigit l h j ≡ digit l j
 unfolding pairDigit
@@ -28,6 +28,10 @@ pair-high l h j o = rw (le-ltb j 64 o)
 pub pair-le : (l h j : ℕ) → pairDigit l h j ≤ 1
 pair-le l h j =
     compare-le 64 j (λ o. rw (pair-high l h j o) (digit-le h (j - 64))) (λ o. rw (pair-low l h j o) (digit-le l j))
+
+pub pair-zero : (j : ℕ) → pairDigit 0 0 j ≡ 0
+pair-zero j =
+    compare-le 64 j (λ o. pair-high 0 0 j o ∙ digit-of-zero (j - 64)) (λ o. pair-low 0 0 j o ∙ digit-of-zero j)
 
 -- the number of set digits
 pub pair-ones : (l h : ℕ) → l < 2 ^ 64 → h < 2 ^ 64 → sum (pairDigit l h) rowGroups ≡ ones l + ones h
@@ -102,59 +106,64 @@ module _ (t : List ℕ) (p low high : ℕ) (n : 2 * p + 1 < length t) where
         getD-set-other t (2 * p) (2 * i + 1) low 0 (λ z. omega arith),
       )
 
--- 'and' of two places, counted
-pub both-words : (t u : List ℕ) (i p : ℕ) (a b : ℕ) → a ≡ bitAnd (getD t (2 * i) 0) (getD u (2 * p) 0)
-    → b ≡ bitAnd (getD t (2 * i + 1) 0) (getD u (2 * p + 1) 0) → a < 2 ^ 64 → b < 2 ^ 64 → ones a + ones b ≡ inBoth t i u p
+-- 'and' of a place and two words
+pub both-words : (t : List ℕ) (i low high : ℕ)
+    → InBoth t i low high (bitAnd (getD t (2 * i) 0) low) (bitAnd (getD t (2 * i + 1) 0) high)
+both-words t i low high =
+    record {
+      each = λ j l.
+          rw (digit-in-pair t i j l)
+          (compare-le 64 j
+          (λ o. rw (
+            pair-high (bitAnd (getD t (2 * i) 0) low) (bitAnd (getD t (2 * i + 1) 0) high) j o,
+            pair-high (getD t (2 * i) 0) (getD t (2 * i + 1) 0) j o,
+            pair-high low high j o,
+          )
+          (digit-and (getD t (2 * i + 1) 0) high (j - 64)))
+          (λ o. rw (
+            pair-low (bitAnd (getD t (2 * i) 0) low) (bitAnd (getD t (2 * i + 1) 0) high) j o,
+            pair-low (getD t (2 * i) 0) (getD t (2 * i + 1) 0) j o,
+            pair-low low high j o,
+          )
+          (digit-and (getD t (2 * i) 0) low j)));
+    }
+
+pub both-count : {t : List ℕ} {i low high a b : ℕ} → InBoth t i low high a b → sum (pairDigit a b) rowGroups ≡ inBoth t i low high
 unfolding inBoth
-both-words t u i p a b x y m n = sym (pair-ones a b m n) ∙ sum-eq (pairDigit a b) _ rowGroups each
-  where
-    each : (j : ℕ) → j < rowGroups → pairDigit a b j ≡ min (digitIn t i j) (digitIn u p j)
-    each j l =
-        rw (digit-in-pair t i j l, digit-in-pair u p j l)
-        (compare-le 64 j
-        (λ o. rw (
-          pair-high a b j o,
-          pair-high (getD t (2 * i) 0) (getD t (2 * i + 1) 0) j o,
-          pair-high (getD u (2 * p) 0) (getD u (2 * p + 1) 0) j o,
-          y,
-        )
-        (digit-and (getD t (2 * i + 1) 0) (getD u (2 * p + 1) 0) (j - 64)))
-        (λ o. rw (
-          pair-low a b j o,
-          pair-low (getD t (2 * i) 0) (getD t (2 * i + 1) 0) j o,
-          pair-low (getD u (2 * p) 0) (getD u (2 * p + 1) 0) j o,
-          x,
-        )
-        (digit-and (getD t (2 * i) 0) (getD u (2 * p) 0) j)))
+both-count w = sum-eq _ _ rowGroups (w .each)
 
--- one digit more at place p
-pub digit-in-set : (t : List ℕ) (p k i j : ℕ) → 2 * p + 1 < length t → k < rowGroups → j < rowGroups
-    → digitIn (set t (2 * p + k / 64) (bitOr (getD t (2 * p + k / 64) 0) (2 ^ (k % 64)))) i j
-    ≡ max (digitIn t i j) (bit (eqb p i && eqb k j))
-unfolding digitIn
-digit-in-set t p k i j l m n =
-    compare-eq (2 * i + j / 64) (2 * p + k / 64)
-    (λ e. rw (
-      e,
-      getD-set-same t (2 * p + k / 64) (bitOr (getD t (2 * p + k / 64) 0) (2 ^ (k % 64))) 0 (omega arith),
-      digit-or (getD t (2 * p + k / 64) 0) (2 ^ (k % 64)) (j % 64),
-      digit-pow (k % 64) (j % 64),
-    )
-    (ap (λ (x : ℕ). max (digit (getD t (2 * p + k / 64) 0) (j % 64)) x) (same e)))
-    (λ e. rw (
-      getD-set-other t (2 * p + k / 64) (2 * i + j / 64) (bitOr (getD t (2 * p + k / 64) 0) (2 ^ (k % 64))) 0 e,
-      differs e,
-    ) (omega arith))
-  where
-    same : 2 * i + j / 64 ≡ 2 * p + k / 64 → bit (eqb (k % 64) (j % 64)) ≡ bit (eqb p i && eqb k j)
-    same e =
-        rw (eq-eqb p i (omega arith))
-        (compare-eq k j
-        (λ f. rw (eq-eqb k j f, eq-eqb (k % 64) (j % 64) (omega arith)))
-        (λ f. rw (ne-eqb k j f, ne-eqb (k % 64) (j % 64) (λ z. f (omega arith)))))
+-- one digit more, in the low word or in the high one
+pub with-low : (low high g : ℕ) → 1 ≤ g → g - 1 < 64 → WithGroup low high g (bitOr low (2 ^ (g - 1))) high
+with-low low high g a b =
+    record {
+      each = λ j l.
+          compare-le 64 j
+          (λ o. rw (
+            pair-high (bitOr low (2 ^ (g - 1))) high j o,
+            pair-high low high j o,
+            ne-eqb (g - 1) j (λ e. omega arith),
+          ) (omega arith))
+          (λ o. rw (pair-low (bitOr low (2 ^ (g - 1))) high j o, pair-low low high j o)
+          (digit-or low (2 ^ (g - 1)) j ∙ ap (max (digit low j)) (digit-pow (g - 1) j)));
+    }
 
-    differs : (2 * i + j / 64 ≡ 2 * p + k / 64 → ⊥) → bit (eqb p i && eqb k j) ≡ 0
-    differs e =
-        compare-eq p i
-        (λ f. rw (eq-eqb p i f, ne-eqb k j (λ z. e (omega arith))))
-        (λ f. rw (ne-eqb p i f))
+pub with-high : (low high g : ℕ) → 64 ≤ g - 1 → WithGroup low high g low (bitOr high (2 ^ (g - 1 - 64)))
+with-high low high g a =
+    record {
+      each = λ j l.
+          compare-le 64 j
+          (λ o. rw (pair-high low (bitOr high (2 ^ (g - 1 - 64))) j o, pair-high low high j o)
+          (digit-or high (2 ^ (g - 1 - 64)) (j - 64)
+          ∙ ap (max (digit high (j - 64))) (digit-pow (g - 1 - 64) (j - 64) ∙ ap bit (moved j o))))
+          (λ o. rw (
+            pair-low low (bitOr high (2 ^ (g - 1 - 64))) j o,
+            pair-low low high j o,
+            ne-eqb (g - 1) j (λ e. omega arith),
+          ) (omega arith));
+    }
+  where
+    moved : (j : ℕ) → 64 ≤ j → eqb (g - 1 - 64) (j - 64) ≡ eqb (g - 1) j
+    moved j o =
+        compare-eq (g - 1) j
+        (λ e. rw (eq-eqb (g - 1) j e, eq-eqb (g - 1 - 64) (j - 64) (omega arith)))
+        (λ e. rw (ne-eqb (g - 1) j e, ne-eqb (g - 1 - 64) (j - 64) (λ z. e (omega arith))))

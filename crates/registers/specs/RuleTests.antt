@@ -36,15 +36,15 @@ mayBreak t g k =
     (coverMode (modeIn t g))
     (disjointMode (modeIn t g))
 
--- whether row i of the words w breaks rule k at group g, whose parent is p and whose sons are at place g of u
-unfoldable pub rowBreaks : ℕ → List ℕ → ℕ → List ℕ → ℕ → ℕ → Bool
-rowBreaks k w i u g p =
+-- whether row i of the words w breaks rule k at group g, whose parent is p and whose sons are the digits of low and high
+unfoldable pub rowBreaks : ℕ → List ℕ → ℕ → ℕ → ℕ → ℕ → ℕ → Bool
+rowBreaks k w i low high g p =
     byRule
     k
     (holds w i g && not (holds w i p))
     (holds w i p && not (holds w i g))
-    (holds w i g && eqb (inBoth w i u g) 0)
-    (ltb 1 (inBoth w i u g))
+    (holds w i g && eqb (inBoth w i low high) 0)
+    (ltb 1 (inBoth w i low high))
 
 -- whether a count c of group g breaks rule 5 or rule 6
 unfoldable pub countBreaks : List ℕ → ℕ → ℕ → ℕ → Bool

@@ -1,38 +1,23 @@
--- What the check asks of a table of groups, and what the tables hold that it gathers before it looks for broken rules: each
+-- What the check asks of a table of groups, and what it has gathered before it looks for broken rules: the rows' words, each
 -- group's sons, and each group's count.
-use Prim.Native.Nat.{ℕ, _+_, _-_, _*_, _/_, _%_, _^_, _≤_, _<_}
+use Prim.Native.Nat.{ℕ, _+_, _-_, _*_, _≤_, _<_}
 use mathlib.Core.Path.{_≡_}
-use mathlib.Core.Bool.{true}
 use mathlib.Core.List.{List}
-use lib.ListN.{length, getD, set}
-use lib.Bits.{bitOr}
+use lib.ListN.{length, getD}
 use Rattle.registers.specs.Words.{rowGroups}
-use Rattle.meaning.specs.Sheet.{Sheet, Son}
 use Rattle.meaning.specs.Sets.{Sets, count}
 use Rattle.reading.specs.SheetIn.{sheetIn, Tabled}
-use Rattle.registers.specs.Words.{pairDigit, holds, wordSets}
+use Rattle.registers.specs.Words.{pairDigit, wordSets}
+use Rattle.registers.specs.SonLists.{SonsListed}
 
 -- the table holds the groups of a readable sheet, and a row has a bit for each
 pub record Checkable (t : List ℕ) (n : ℕ) : Type 0 where
   pub tabled : Tabled t n
   pub most : n ≤ rowGroups
 
--- places of a table by group, and words of the table of sons: group numbers start at 1, and place 0 is for none
+-- places of a table by group: group numbers start at 1, and place 0 is for none
 abbrev pub groupPlaces : ℕ
 groupPlaces = rowGroups + 1
-
-abbrev pub sonWords : ℕ
-sonWords = 2 * groupPlaces
-
--- a table of sons with h added to the sons of p
-abbrev pub withSon : List ℕ → ℕ → ℕ → List ℕ
-withSon t p h =
-    set t (2 * p + (h - 1) / 64) (bitOr (getD t (2 * p + (h - 1) / 64) 0) (2 ^ ((h - 1) % 64)))
-
--- place p of the table is the set of the sons of group p
-pub record SonsListed (s : Sheet) (t : List ℕ) : Type 0 where
-  pub only : (p h : ℕ) → 1 ≤ p → p ≤ rowGroups → 1 ≤ h → h ≤ rowGroups → holds t p h ≡ true → Son s p h
-  pub all : (p h : ℕ) → p ≤ rowGroups → h ≤ rowGroups → Son s p h → holds t p h ≡ true
 
 -- place g of the table is the count of group g
 pub record Counted {X : Type 0} (A : Sets X) (t : List ℕ) : Type 0 where
@@ -46,18 +31,16 @@ pub record CountedRow (low high : ℕ) (t u : List ℕ) : Type 0 where
 pub record CountsTo (m : ℕ) (t : List ℕ) : Type 0 where
   pub each : (g : ℕ) → 1 ≤ g → g ≤ rowGroups → getD t g 0 ≤ m
 
--- all that the scan takes: the words w of the rows, the sons u and the counts c
-pub record Gathered (t : List ℕ) (n : ℕ) (w : List ℕ) (rows : ℕ) (u c : List ℕ) : Type 0 where
+-- all that the scan takes: the words w of the rows, the lists of sons and the counts c
+pub record Gathered (t : List ℕ) (n : ℕ) (w : List ℕ) (rows : ℕ) (starts order c : List ℕ) : Type 0 where
   pub row-words : 2 * rows ≤ length w
-  pub son-words : sonWords ≤ length u
-  pub sons : SonsListed (sheetIn t n) u
+  pub sons : SonsListed (sheetIn t n) starts order
   pub places : groupPlaces ≤ length c
   pub counts : Counted (wordSets w rows) c
 
 -- what the test of one row asks: row and groups are within the tables, and rules 1 and 2 have a parent p
-pub record RowAsked (rule : ℕ) (w : List ℕ) (row : ℕ) (u : List ℕ) (g p : ℕ) : Type 0 where
+pub record RowAsked (rule : ℕ) (w : List ℕ) (row g p : ℕ) : Type 0 where
   pub row-words : 2 * row + 1 < length w
-  pub son-words : sonWords ≤ length u
   pub first : 1 ≤ g
   pub last : g ≤ rowGroups
   pub parent : rule ≤ 2 → 1 ≤ p

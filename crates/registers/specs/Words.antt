@@ -1,13 +1,13 @@
 -- Membership as words: two words of 64 digits for a row, group g being digit (g - 1) mod 64 of word (g - 1) div 64.
 -- A table holds two words for each place.
-use Prim.Native.Nat.{ℕ, _+_, _-_, _*_, _/_, _%_, _<_, min}
+use Prim.Native.Nat.{ℕ, suc, _+_, _-_, _*_, _/_, _%_, _<_, min, max}
 use mathlib.Core.Path.{_≡_}
 use mathlib.Core.Bool.{Bool, cond}
-use mathlib.Core.List.{List}
+use mathlib.Core.List.{List, List·Memᴰ}
 use lib.ListN.{getD}
 use lib.Dec.{ltb, eqb}
 use lib.Bits.{bitAnd}
-use Rattle.laws.specs.Sum.{sum}
+use Rattle.laws.specs.Sum.{sum, bit}
 use Rattle.laws.specs.Digits.{digit, Lowest}
 use Rattle.meaning.specs.Sets.{Sets, Distinct, numbered}
 
@@ -41,6 +41,19 @@ wordSets t n = numbered n (λ g i. holds t i g)
 pub words-distinct : (t : List ℕ) (n : ℕ) → Distinct (wordSets t n)
 words-distinct t n = record { once = λ i j k l e. e }
 
--- the number of groups that are in the sets at place i of one table and at place p of another
-unfoldable pub inBoth : List ℕ → ℕ → List ℕ → ℕ → ℕ
-inBoth t i u p = sum (λ j. min (digitIn t i j) (digitIn u p j)) rowGroups
+-- two words with one group more among their digits
+pub record WithGroup (low high g low′ high′ : ℕ) : Type 0 where
+  pub each : (j : ℕ) → j < rowGroups → pairDigit low′ high′ j ≡ max (pairDigit low high j) (bit (eqb (g - 1) j))
+
+-- the digits of two words are the groups of a list
+pub record WordsOf (l : List ℕ) (low high : ℕ) : Type 0 where
+  pub only : (j : ℕ) → j < rowGroups → pairDigit low high j ≡ 1 → List·Memᴰ (suc j) l
+  pub all : (j : ℕ) → j < rowGroups → List·Memᴰ (suc j) l → pairDigit low high j ≡ 1
+
+-- two words with the groups that two others and place i of a table have
+pub record InBoth (t : List ℕ) (i low high low′ high′ : ℕ) : Type 0 where
+  pub each : (j : ℕ) → j < rowGroups → pairDigit low′ high′ j ≡ min (digitIn t i j) (pairDigit low high j)
+
+-- the number of groups that two words and place i of a table have
+unfoldable pub inBoth : List ℕ → ℕ → ℕ → ℕ → ℕ
+inBoth t i low high = sum (λ j. min (digitIn t i j) (pairDigit low high j)) rowGroups

@@ -1,12 +1,15 @@
 // The check of a register: the lowest broken group with its first broken rule, once all rows are read.
 use crate::counts::count_groups;
 use crate::counts::count_of;
+use crate::counts::groups_of;
 use crate::limits::GROUP_PLACES;
 use crate::limits::ROW_WORDS;
-use crate::limits::SON_WORDS;
+use crate::limits::SON_STARTS;
 use crate::rows::Rows;
 use crate::rows::read_rows;
+use crate::sons::GroupWords;
 use crate::sons::gather_sons;
+use crate::sons::sons_of;
 use reading::tables::GroupNo;
 use reading::tables::NO_END;
 use reading::tables::hi_of;
@@ -20,7 +23,7 @@ ghost use Rattle.registers.specs.Words.{rowGroups};
 ghost use Rattle.wire.specs.Edition.{edition1};
 ghost use Rattle.wire.specs.RegisterFormat.{readRegister};
 ghost use Rattle.reading.specs.SheetIn.{sheetIn};
-ghost use Rattle.registers.specs.Words.{holds, inBoth, wordSets};
+ghost use Rattle.registers.specs.Words.{holds, InBoth, wordSets};
 ghost use Rattle.registers.specs.Tallies.{Checkable, Gathered, RowAsked};
 ghost use Rattle.registers.specs.RuleTests.{parentIn, mayBreak, rowBreaks, countBreaks};
 ghost use Rattle.registers.specs.Checked.{AnswerTo, Checked};
@@ -42,15 +45,15 @@ fn has(table: &[u64], i: usize, g: GroupNo) -> bool
     (w >> (j % 64)) % 2 == 1
 }
 
-// the number of sons of group g that the row has
-fn sons_in(words: &[u64], row: usize, sons: &[u64], g: GroupNo) -> u32
-    requires { ⌜ (2 * row + 1 < length (now words)) × (2 * (g .0) + 1 < length (now sons)) ⌝ }
-    ensures { λ r. ⌜ r ≡ inBoth (now (words .entry)) row (now (sons .entry)) (g .0) ⌝ }
+// those of the sons that the row has
+fn sons_in(words: &[u64], row: usize, sons: GroupWords) -> GroupWords
+    requires { ⌜ 2 * row + 1 < length (now words) ⌝ }
+    ensures { λ r. ⌜ InBoth (now (words .entry)) row (sons .low) (sons .high) (r .low) (r .high) ⌝ }
 {
-    let i = g.0 as usize;
-    let low = words[2 * row] & sons[2 * i];
-    let high = words[2 * row + 1] & sons[2 * i + 1];
-    u64::count_ones(low) + u64::count_ones(high)
+    GroupWords {
+        low: words[2 * row] & sons.low,
+        high: words[2 * row + 1] & sons.high,
+    }
 }
 
 // whether one of the rules 1 to 4 can be broken at a group
@@ -75,9 +78,16 @@ fn may_break(groups: &[u16], g: GroupNo, rule: u16) -> bool
 }
 
 // whether a row breaks one of the rules 1 to 4 at a group, where the rule can be broken
-fn row_breaks(rule: u16, words: &[u64], row: usize, sons: &[u64], g: GroupNo, p: GroupNo) -> bool
-    requires { ⌜ RowAsked rule (now words) row (now sons) (g .0) (p .0) ⌝ }
-    ensures { λ r. ⌜ r ≡ rowBreaks rule (now (words .entry)) row (now (sons .entry)) (g .0) (p .0) ⌝ }
+fn row_breaks(
+    rule: u16,
+    words: &[u64],
+    row: usize,
+    sons: GroupWords,
+    g: GroupNo,
+    p: GroupNo,
+) -> bool
+    requires { ⌜ RowAsked rule (now words) row (g .0) (p .0) ⌝ }
+    ensures { λ r. ⌜ r ≡ rowBreaks rule (now (words .entry)) row (sons .low) (sons .high) (g .0) (p .0) ⌝ }
 {
     if rule == 1 {
         if has(words, row, g) {
@@ -91,13 +101,14 @@ fn row_breaks(rule: u16, words: &[u64], row: usize, sons: &[u64], g: GroupNo, p:
         }
         return false;
     }
+    let found = sons_in(words, row, sons);
     if rule == 3 {
         if has(words, row, g) {
-            return sons_in(words, row, sons, g) == 0;
+            return groups_of(found.low, found.high) == 0;
         }
         return false;
     }
-    1 < sons_in(words, row, sons, g)
+    1 < groups_of(found.low, found.high)
 }
 
 // whether a group's count breaks rule 5 or rule 6
@@ -117,8 +128,16 @@ fn count_breaks(groups: &[u16], counts: &[u32], g: GroupNo, rule: u16) -> bool
 }
 
 // The scan over groups, rules and rows, left at the first broken rule.
-fn scan(groups: &[u16], size: u16, words: &[u64], n: usize, sons: &[u64], counts: &[u32]) -> Check
-    requires { ⌜ Checkable (now groups) size × Gathered (now groups) size (now words) n (now sons) (now counts) ⌝ }
+fn scan(
+    groups: &[u16],
+    size: u16,
+    words: &[u64],
+    n: usize,
+    starts: &[u32],
+    order: &[u16],
+    counts: &[u32],
+) -> Check
+    requires { ⌜ Checkable (now groups) size × Gathered (now groups) size (now words) n (now starts) (now order) (now counts) ⌝ }
     ensures { λ r. ⌜ AnswerTo (sheetIn (now (groups .entry)) size) (wordSets (now (words .entry)) n) r ⌝ }
 {
     let mut answer = Check::Fits;
@@ -126,6 +145,7 @@ fn scan(groups: &[u16], size: u16, words: &[u64], n: usize, sons: &[u64], counts
     'scan: for g in 1..end {
         let group = GroupNo(g);
         let p = parent_of(groups, group);
+        let sons = sons_of(starts, order, group);
         for rule in 1..7u16 {
             if rule < 5 {
                 if may_break(groups, group, rule) {
@@ -147,20 +167,21 @@ fn scan(groups: &[u16], size: u16, words: &[u64], n: usize, sons: &[u64], counts
     answer
 }
 
-// All rows are read before any rule is looked at.
+// The sons are gathered before the first row is read, and all rows are read before any rule is looked at.
 pub fn check_register(groups: &[u16], size: u16, register: &[u8]) -> Check
     requires { ⌜ Checkable (now groups) size ⌝ }
     ensures { λ r. ⌜ Checked (sheetIn (now (groups .entry)) size) (readRegister edition1 size (now (register .entry))) r ⌝ }
 {
+    let mut starts = [0u32; SON_STARTS];
+    let mut order = [0u16; GROUP_PLACES];
+    gather_sons(groups, size, &mut starts, &mut order);
     let mut words = [0u64; ROW_WORDS];
     match read_rows(register, size, &mut words) {
         Rows::Refused(refusal, row) => Check::Refused(refusal, row),
         Rows::Count(n) => {
-            let mut sons = [0u64; SON_WORDS];
-            gather_sons(groups, size, &mut sons);
             let mut counts = [0u32; GROUP_PLACES];
             count_groups(&words, n, &mut counts);
-            scan(groups, size, &words, n, &sons, &counts)
+            scan(groups, size, &words, n, &starts, &order, &counts)
         }
     }
 }

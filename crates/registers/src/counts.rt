@@ -49,8 +49,8 @@ pub fn count_of(counts: &[u32], g: GroupNo) -> u32
     counts[i]
 }
 
-// one more member in a group
-fn bump(counts: &mut [u32], g: GroupNo)
+// one more at a group's place
+pub fn bump(counts: &mut [u32], g: GroupNo)
     requires { ⌜ (g .0 < length (now counts)) × (getD (now counts) (g .0) 0 ≤ rowLimit) ⌝ }
     ensures { λ _. ⌜ now (counts .exit) ≡ set (now (counts .entry)) (g .0) (getD (now (counts .entry)) (g .0) 0 + 1) ⌝ }
 {

@@ -16,7 +16,8 @@ pub const ROW_KIND: u16 = 32;
 // Two words, a bit for each group: so long is the table of the rows.
 pub const ROW_WORDS: usize = 2 * ROWS;
 
-// Places by a group's number, 0 for none, and two words at each for its sons.
+// Places by a group's number, 0 for none.
 pub const GROUP_PLACES: usize = GROUPS as usize + 1;
 
-pub const SON_WORDS: usize = 2 * GROUP_PLACES;
+// Where the sons of each group begin, and where those of the last one end.
+pub const SON_STARTS: usize = GROUP_PLACES + 1;

@@ -14,7 +14,8 @@ use Rattle.meaning.specs.Fits.{Fits}
 use Rattle.meaning.specs.Arranged.{cap, leftFor, sizeOf, ended, firstOf, Arranged}
 use Rattle.sizes.specs.Balanced.{isSon, only, sons, RuleAt}
 use Rattle.sizes.specs.Span.{Span, span, In, eq}
-use Rattle.sizes.specs.Fold.{joinKind, sonCount, shut, Measured}
+use Rattle.meaning.specs.SonList.{sonCount}
+use Rattle.sizes.specs.Fold.{joinKind, shut, Measured}
 use Rattle.sizes.specs.Ranged.{free}
 use Rattle.laws.specs.Cases.{split, below-suc, and-true, true-not-false}
 use Rattle.laws.specs.SumLaws.{bit-eq, sum-eq, sum-suc}

@@ -4,14 +4,10 @@ use Prim.Native.Nat.{ℕ, zero, suc, _-_}
 use mathlib.Core.Path.{_≡_}
 use mathlib.Core.Bool.{Bool, true, false, cond}
 use lib.Dec.{ltb}
-use Rattle.meaning.specs.Sons.{sons}
+use Rattle.meaning.specs.SonList.{sonCount}
 use Rattle.meaning.specs.Sheet.{Sheet, Group, Top, fin, inf}
 use Rattle.sizes.specs.Balanced.{isSon}
 use Rattle.sizes.specs.Span.{Span, none, span, make, meet, hull, Kind, lap, add, eq, join}
-
--- how many sons p has
-abbrev pub sonCount : Sheet → ℕ → ℕ
-sonCount s p = sons s p (λ h. 1)
 
 -- how the sons of p are joined
 unfoldable pub joinKind : Sheet → ℕ → Kind

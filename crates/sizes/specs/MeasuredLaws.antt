@@ -8,11 +8,13 @@ use Rattle.laws.specs.Sum.{sum, bit}
 use Rattle.meaning.specs.Sheet.{Sheet, Group, Son}
 use Rattle.meaning.specs.Tree.{Tree}
 use Rattle.meaning.specs.Sons.{isSon, sons}
+use Rattle.meaning.specs.SonList.{sonCount}
 use Rattle.sizes.specs.Span.{Span, none, Kind, meet}
-use Rattle.sizes.specs.Fold.{joinKind, sonCount, shut, start, joined, later, own, Measured}
+use Rattle.sizes.specs.Fold.{joinKind, shut, start, joined, later, own, Measured}
 use Rattle.laws.specs.Cases.{split}
 use Rattle.laws.specs.SumLaws.{sum-eq}
-use Rattle.sizes.specs.RuleSteps.{Lasts, all-lasts, lasts-less, no-son}
+use Rattle.meaning.proofs.SonLaws.{no-son}
+use Rattle.sizes.specs.RuleSteps.{Lasts, all-lasts, lasts-less}
 use Rattle.sizes.specs.LaterLaws.{later-none, later-son, later-skip}
 
 -- two sheets with flags say the same of group p and its sons

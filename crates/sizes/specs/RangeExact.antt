@@ -16,11 +16,11 @@ use Rattle.sizes.specs.Fold.{joinKind, later, Measured}
 use Rattle.sizes.specs.Ranged.{free, held, Ranged}
 use Rattle.laws.specs.Cases.{split, true-not-false}
 use Rattle.laws.specs.SumLaws.{false-bit}
-use Rattle.meaning.proofs.SonLaws.{son-of, son-is, son-parent}
+use Rattle.meaning.proofs.SonLaws.{no-son, son-of, son-is, son-parent}
 use Rattle.sizes.specs.Possible.{Sizes, nowhere, sizes-choice, choice-sizes, possible, attains}
 use Rattle.sizes.specs.SpanLaws.{Proper, in-meet}
 use Rattle.sizes.specs.JoinedLaws.{makes-zero}
-use Rattle.sizes.specs.RuleSteps.{no-son, Upto, upto-none, upto-son, upto-skip, rule-upto, Lasts, all-lasts, lasts-more}
+use Rattle.sizes.specs.RuleSteps.{Upto, upto-none, upto-son, upto-skip, rule-upto, Lasts, all-lasts, lasts-more}
 use Rattle.sizes.specs.LaterLaws.{later-of, later-in, put, Taken, taken-more}
 use Rattle.sizes.specs.Exact.{sound, span-proper, later-proper, near-sons, over-son, Grown, grown-more, grow, had-root}
 use Rattle.sizes.specs.PullLaws.{makes-swap, pull-of, pull-in, proper-meet, proper-least}

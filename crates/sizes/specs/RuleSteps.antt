@@ -11,13 +11,14 @@ use lib.Dec.{ltb}
 use Rattle.laws.specs.Sum.{sum, bit}
 use Rattle.meaning.specs.Sheet.{Sheet, Son}
 use Rattle.meaning.specs.Sons.{isSon, only, sons}
+use Rattle.meaning.specs.SonList.{sonCount}
 use Rattle.sizes.specs.Balanced.{RuleAt}
 use Rattle.sizes.specs.Span.{Kind, lap, add, eq, Makes}
-use Rattle.sizes.specs.Fold.{joinKind, sonCount, shut}
+use Rattle.sizes.specs.Fold.{joinKind, shut}
 use Rattle.sizes.specs.JoinedLaws.{bit-of, makes-first}
 use Rattle.laws.specs.Cases.{split, below-suc, true-not-false}
 use Rattle.laws.specs.SumLaws.{sum-eq, sum-suc, sum-first, sum-term}
-use Rattle.meaning.proofs.SonLaws.{son-of, son-is, sons-term}
+use Rattle.meaning.proofs.SonLaws.{no-son, son-of, son-is, sons-term}
 
 -- a total x with one more number y, where that is a son's
 abbrev More : Bool → Kind → (ℕ → Type 0) → ℕ → ℕ → Type 0
@@ -158,9 +159,6 @@ sum-back h (suc n) =
     let first : h (suc n - 0) ≡ h (suc n) = ap h (omega arith) in
     let others = sum-eq (λ m. h (suc n - suc m)) (λ m. h (n - m)) (suc n) (λ m l. ap h (omega arith)) in
     omega (arith, sum-first (λ j. h (suc n - j)) (suc n), sum-back h n, sum-suc h (suc n))
-
-pub no-son : (s : Sheet) (p : ℕ) → isSon s p 0 ≡ false
-no-son s p = split (isSon s p 0) (λ e. absurd (let w = son-of s p 0 zero-le e in omega arith)) (λ e. e)
 
 pub sum-last-all : (s : Sheet) (p : ℕ) (f : ℕ → ℕ) → sumLast s p f (s .size) ≡ sons s p f
 unfolding sons

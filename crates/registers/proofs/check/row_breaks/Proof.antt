@@ -4,6 +4,7 @@ use mathlib.Core.Path.{sym, _∙_}
 use native.Mathlib.Omega.{arith}
 use borrow.Author.Tests.{ne-eqb}
 use Rattle.registers.specs.RuleTests.{rowBreaks}
+use Rattle.registers.proofs.WordLaws.{both-count}
 use Rattle.registers.proofs.check.row_breaks.Statement.{statement}
 use Rattle.registers.proofs.check.row_breaks.Tie as tie
 
@@ -11,7 +12,7 @@ has-requires : tie.Need-has-requires
 has-requires c κs = search needs
 
 has-requires-2 : tie.Need-has-requires-2
-has-requires-2 c κs = let r = c .before .before .before .before .before .pre .parent in omega (arith, r (omega arith))
+has-requires-2 c κs = let r = c .before .before .before .before .pre .parent in omega (arith, r (omega arith))
 
 returns : tie.Need-returns
 unfolding rowBreaks
@@ -27,7 +28,7 @@ unfolding rowBreaks
 returns-2 c = rw (c .before .before .if1 .taken, sym (c .before .has .ensures) ∙ c .if2 .left)
 
 has-requires-3 : tie.Need-has-requires-3
-has-requires-3 c κs = let r = c .before .before .before .before .pre .parent in omega (arith, r (omega arith))
+has-requires-3 c κs = let r = c .before .before .before .pre .parent in omega (arith, r (omega arith))
 
 has-requires-4 : tie.Need-has-requires-4
 has-requires-4 c κs = search needs
@@ -45,17 +46,21 @@ returns-4 : tie.Need-returns-4
 unfolding rowBreaks
 returns-4 c = rw (c .before .before .if3 .taken, sym (c .before .has3 .ensures) ∙ c .if4 .left)
 
+sons-in-requires : tie.Need-sons-in-requires
+sons-in-requires c κs = search needs
+
 has-requires-5 : tie.Need-has-requires-5
 has-requires-5 c κs = search needs
 
-sons-in-requires : tie.Need-sons-in-requires
-sons-in-requires c κs = search needs
+groups-of-requires : tie.Need-groups-of-requires
+groups-of-requires c κs = search needs
 
 returns-5 : tie.Need-returns-5
 unfolding rowBreaks
 returns-5 c = rw (
   c .before .before .before .if5 .taken,
-  c .sons-in .ensures,
+  c .groups-of .ensures
+      ∙ both-count (c .before .before .before .before .sons-in .ensures),
   sym (c .before .before .has5 .ensures)
       ∙ c .before .if6 .taken,
 )
@@ -64,18 +69,19 @@ returns-6 : tie.Need-returns-6
 unfolding rowBreaks
 returns-6 c = rw (c .before .before .if5 .taken, sym (c .before .has5 .ensures) ∙ c .if6 .left)
 
-sons-in-requires-2 : tie.Need-sons-in-requires-2
-sons-in-requires-2 c κs = search needs
+groups-of-requires-2 : tie.Need-groups-of-requires-2
+groups-of-requires-2 c κs = search needs
 
 returns-7 : tie.Need-returns-7
 unfolding rowBreaks
 returns-7 c =
     let e = c .before in
     rw (
-      ne-eqb _ _ (e .before .before .if1 .left),
-      ne-eqb _ _ (e .before .if3 .left),
+      ne-eqb _ _ (e .before .before .before .if1 .left),
+      ne-eqb _ _ (e .before .before .if3 .left),
       ne-eqb _ _ (e .if5 .left),
-      c .sons-in2 .ensures,
+      c .groups-of2 .ensures
+          ∙ both-count (e .before .sons-in .ensures),
     )
 
 pub row-breaks-spec : {M : Type 1} → statement M
@@ -90,9 +96,10 @@ row-breaks-spec =
     has-requires-4
     returns-3
     returns-4
-    has-requires-5
     sons-in-requires
+    has-requires-5
+    groups-of-requires
     returns-5
     returns-6
-    sons-in-requires-2
+    groups-of-requires-2
     returns-7)
