@@ -19,11 +19,13 @@ use reading::tables::parent_of;
 ghost use mathlib.Core.Path.{_≡_};
 ghost use Prim.Native.Nat.{_+_, _*_, _≤_, _<_};
 ghost use lib.ListN.{length, getD};
+ghost use lib.Dec.{ltb};
+ghost use Rattle.laws.specs.Sum.{sum};
 ghost use Rattle.registers.specs.Words.{rowGroups};
 ghost use Rattle.wire.specs.Edition.{edition1};
 ghost use Rattle.wire.specs.RegisterFormat.{readRegister};
 ghost use Rattle.reading.specs.SheetIn.{sheetIn};
-ghost use Rattle.registers.specs.Words.{holds, InBoth, wordSets};
+ghost use Rattle.registers.specs.Words.{pairDigit, holds, InBoth, wordSets};
 ghost use Rattle.registers.specs.Tallies.{Checkable, Gathered, RowAsked};
 ghost use Rattle.registers.specs.RuleTests.{parentIn, mayBreak, rowBreaks, countBreaks};
 ghost use Rattle.registers.specs.Checked.{AnswerTo, Checked};
@@ -54,6 +56,13 @@ fn sons_in(words: &[u64], row: usize, sons: GroupWords) -> GroupWords
         low: words[2 * row] & sons.low,
         high: words[2 * row + 1] & sons.high,
     }
+}
+
+// whether two words have two groups or more
+fn two_in(low: u64, high: u64) -> bool
+    ensures { λ r. ⌜ r ≡ ltb 1 (sum (pairDigit low high) rowGroups) ⌝ }
+{
+    1 < groups_of(low, high)
 }
 
 // whether one of the rules 1 to 4 can be broken at a group
@@ -108,7 +117,7 @@ fn row_breaks(
         }
         return false;
     }
-    1 < groups_of(found.low, found.high)
+    two_in(found.low, found.high)
 }
 
 // whether a group's count breaks rule 5 or rule 6

@@ -69,8 +69,8 @@ returns-6 : tie.Need-returns-6
 unfolding rowBreaks
 returns-6 c = rw (c .before .before .if5 .taken, sym (c .before .has5 .ensures) ∙ c .if6 .left)
 
-groups-of-requires-2 : tie.Need-groups-of-requires-2
-groups-of-requires-2 c κs = search needs
+two-in-requires : tie.Need-two-in-requires
+two-in-requires c κs = search needs
 
 returns-7 : tie.Need-returns-7
 unfolding rowBreaks
@@ -80,8 +80,8 @@ returns-7 c =
       ne-eqb _ _ (e .before .before .before .if1 .left),
       ne-eqb _ _ (e .before .before .if3 .left),
       ne-eqb _ _ (e .if5 .left),
-      c .groups-of2 .ensures
-          ∙ both-count (e .before .sons-in .ensures),
+      c .two-in .ensures,
+      both-count (e .before .sons-in .ensures),
     )
 
 pub row-breaks-spec : {M : Type 1} → statement M
@@ -101,5 +101,5 @@ row-breaks-spec =
     groups-of-requires
     returns-5
     returns-6
-    groups-of-requires-2
+    two-in-requires
     returns-7)
