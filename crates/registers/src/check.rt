@@ -65,12 +65,11 @@ fn two_in(low: u64, high: u64) -> bool
     1 < groups_of(low, high)
 }
 
-// whether one of the rules 1 to 4 can be broken at a group
-fn may_break(groups: &[u16], g: GroupNo, rule: u16) -> bool
-    requires { ⌜ (1 ≤ g .0) × ((4 * (g .0) ≤ length (now groups)) × (parentIn (now groups) (g .0) < g .0)) ⌝ }
+// whether one of the rules 1 to 4 can be broken at a group with the parent p
+fn may_break(groups: &[u16], g: GroupNo, p: GroupNo, rule: u16) -> bool
+    requires { ⌜ (1 ≤ g .0) × ((4 * (g .0) ≤ length (now groups)) × ((p .0 < g .0) × (p .0 ≡ parentIn (now groups) (g .0)))) ⌝ }
     ensures { λ r. ⌜ r ≡ mayBreak (now (groups .entry)) (g .0) rule ⌝ }
 {
-    let p = parent_of(groups, g);
     if rule == 1 {
         return 0 < p.0;
     }
@@ -157,7 +156,7 @@ fn scan(
         let sons = sons_of(starts, order, group);
         for rule in 1..7u16 {
             if rule < 5 {
-                if may_break(groups, group, rule) {
+                if may_break(groups, group, p, rule) {
                     for row in 0..n {
                         if row_breaks(rule, words, row, sons, group, p) {
                             answer = Check::Broken(group, rule);

@@ -8,16 +8,13 @@ use Rattle.registers.specs.RuleTests.{parentIn, mayBreak}
 use Rattle.registers.proofs.check.may_break.Statement.{statement}
 use Rattle.registers.proofs.check.may_break.Tie as tie
 
-parent-of-requires : tie.Need-parent-of-requires
-parent-of-requires c κs = search needs
-
 returns : tie.Need-returns
 unfolding mayBreak
-returns c = rw (c .before .if1 .taken, c .before .before .parent-of .ensures)
+returns c = rw (c .before .if1 .taken, c .before .before .before .pre .1 .1 .1)
 
 returns-2 : tie.Need-returns-2
 unfolding mayBreak
-returns-2 c = rw (c .before .before .if2 .taken, sym (c .before .before .before .before .parent-of .ensures) ∙ c .if3 .taken)
+returns-2 c = rw (c .before .before .if2 .taken, sym (c .before .before .before .before .before .pre .1 .1 .1) ∙ c .if3 .taken)
 
 mode-of-requires : tie.Need-mode-of-requires
 mode-of-requires c κs = search needs
@@ -25,14 +22,13 @@ mode-of-requires c κs = search needs
 returns-3 : tie.Need-returns-3
 unfolding mayBreak
 returns-3 c =
-    let q = c .before .before .before .before .before in
-    let a = q .before .before .args in
-    let l : 0 < parentIn (a .groups .now) (a .g .0) = omega (arith, q .parent-of .ensures) in
+    let q = c .before .before .before .before .before .before in
+    let l : 0 < parentIn (q .args .groups .now) (q .args .g .0) = omega arith in
     rw (
       c .before .before .before .if2 .taken,
       c .mode-of .ensures,
-      q .parent-of .ensures,
-      lt-ltb 0 (parentIn (a .groups .now) (a .g .0)) l,
+      q .pre .1 .1 .1,
+      lt-ltb 0 (parentIn (q .args .groups .now) (q .args .g .0)) l,
     )
 
 mode-of-requires-2 : tie.Need-mode-of-requires-2
@@ -60,7 +56,6 @@ pub may-break-spec : {M : Type 1} → statement M
 may-break-spec =
     tie.close
     (tie.spec
-    parent-of-requires
     returns
     returns-2
     mode-of-requires

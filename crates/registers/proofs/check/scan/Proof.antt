@@ -73,7 +73,10 @@ loop-holds : tie.Need-loop-holds Inv-loop2 μ-loop2 Inv-loop μ-loop Inv-scan μ
 loop-holds c = (search needs, (search needs, (c .before .before .before .scan .inv .1 .1 .0, rules-none _ _ _)))
 
 may-break-requires : tie.Need-may-break-requires Inv-loop2 μ-loop2 Inv-loop μ-loop Inv-scan μ-scan
-may-break-requires c κs = let l = below (c .before .before .before .before .before) in (search needs, (search needs, l))
+may-break-requires c κs =
+    let q = c .before .before .before .before in
+    let l = below (q .before) in
+    (search needs, (search needs, (omega (arith, q .parent-of .ensures), q .parent-of .ensures)))
 
 loop2-holds : tie.Need-loop2-holds Inv-loop2 μ-loop2 Inv-loop μ-loop Inv-scan μ-scan
 loop2-holds c = (search needs, (c .before .before .before .before .loop .inv .1 .1 .0, rows-none _ _ _ _ _ _))
