@@ -10,7 +10,7 @@ use Rattle.laws.specs.Sum.{sum, bit}
 use Rattle.laws.specs.Cases.{split, and-true, compare-le, compare-eq, not-true-false}
 use Rattle.laws.specs.SumLaws.{true-bit, sum-le, sum-eq, sum-zero, sum-add, sum-term, sum-prefix, sum-gap, locate}
 use Rattle.meaning.specs.Sheet.{Sheet, Group, Son}
-use Rattle.meaning.specs.Tree.{Tree}
+use Rattle.meaning.specs.Tree.{Tree, Rooted}
 use Rattle.meaning.specs.Sons.{isSon, only, sons}
 use Rattle.meaning.specs.Fits.{Meets}
 
@@ -37,9 +37,14 @@ son-only f k = rw (son-is k)
 pub son-parent : {s : Sheet} {p g : ℕ} → Tree s → Son s p g → Group s p
 son-parent {s} {p} {g} t k = omega (arith, t .before g (k .group))
 
--- number 0 is nobody's son
+-- number 0 is nobody's son, and the root neither
 pub no-son : (s : Sheet) (p : ℕ) → isSon s p 0 ≡ false
 no-son s p = not-true-false (isSon s p 0) (λ e. omega (arith, son-of s p 0 zero-le e .group .first))
+
+pub root-no-son : {s : Sheet} → Rooted s → (p : ℕ) → isSon s p 1 ≡ false
+root-no-son {s} r p =
+    not-true-false (isSon s p 1)
+    (λ e. let k = son-of s p 1 (omega (arith, r .one)) e in omega (arith, k .above, k .under, r .top))
 
 -- no son of a group comes before it
 pub no-son-before : {s : Sheet} → Tree s → (p g : ℕ) → g ≤ p → p ≤ s .size → isSon s p g ≡ false

@@ -3,6 +3,7 @@ pub mod RowLaws
 pub mod WordLaws
 pub mod CountLaws
 pub mod SonLaws
+pub mod SonsRead
 pub mod RuleLaws
 pub mod ScanLaws
 pub mod CheckLaws

@@ -10,7 +10,7 @@ use Rattle.reading.specs.SheetIn.{sheetIn, size-in, group-in, parent-below}
 use Rattle.registers.specs.Words.{WordsOf, wordSets}
 use Rattle.registers.specs.RuleTests.{parentIn}
 use Rattle.registers.specs.declared.check.Check.the-variants as check
-use Rattle.registers.proofs.SonLaws.{sons-readable}
+use Rattle.registers.proofs.SonsRead.{sons-readable}
 use Rattle.registers.proofs.RuleLaws.{may-parent}
 use Rattle.registers.proofs.ScanLaws.{ClearGroups, ClearRules, ClearRows, rows-none, rows-more, rules-none, groups-none}
 use Rattle.registers.proofs.ScanLaws.{groups-more, scan-fits, rules-row, rules-not, rules-count, scan-row, scan-count}
