@@ -346,6 +346,7 @@ fn main() {
     reading(&mut t);
     reading_pairs(&mut t);
     registers(&mut t);
+    sons(&mut t);
     ranges(&mut t);
     planners(&mut t);
     claims(&mut t);
@@ -593,10 +594,10 @@ fn registers(t: &mut Table) {
     t.register_refused("bit 4 in the first row", &s, &join(&[row(1, &[4]), row(2, &[])]), 13, 1);
     t.register_refused("bit 9 in the middle", &s, &join(&[row(1, &[]), row(2, &[1, 9]), row(3, &[])]), 13, 2);
     t.register_refused("bit 128 in the last", &s, &join(&[row(1, &[1, 3]), row(2, &[128])]), 13, 2);
-    t.register_refused("bit 65 above 64 groups", &star(64), &row(1, &[1, 65]), 13, 1);
-    t.register("bit 64 of 64", &star(64), &row(1, &[1, 64]), 0, 0);
-    t.register("bit 65 of 65", &star(65), &row(1, &[1, 65]), 0, 0);
-    t.register("bit 128 of 128", &star(128), &row(1, &[1, 128]), 0, 0);
+    t.register_refused("bit 65 above 64 groups", &star(64, 0), &row(1, &[1, 65]), 13, 1);
+    t.register("bit 64 of 64", &star(64, 0), &row(1, &[1, 64]), 0, 0);
+    t.register("bit 65 of 65", &star(65, 0), &row(1, &[1, 65]), 0, 0);
+    t.register("bit 128 of 128", &star(128, 0), &row(1, &[1, 128]), 0, 0);
 
     // Pairs.
     t.register_refused("11+12", &s, &framed(22, 31, &row(0, &[])[4..]), 11, 1);
@@ -660,11 +661,119 @@ fn registers(t: &mut Table) {
     t.register("lo 65,534", &groups(&[(0, 65534, 65534, 0)]), &three, 1, 5);
 }
 
-// A root without mode and n - 1 sons, all free.
-fn star(n: u16) -> Bytes {
-    let list: Vec<(u16, u16, u16, u16)> =
-        (1..=n).map(|g| (if g == 1 { 0 } else { 1 }, 0, NO_END, 0)).collect();
-    groups(&list)
+// A root of this mode and n - 1 sons, all free.
+fn star(n: u16, mode: u16) -> Bytes {
+    free(&(1..=n).map(|g| if g == 1 { (0, mode) } else { (1, 0) }).collect::<Vec<_>>())
+}
+
+// Groups of any count, by parent and mode.
+fn free(list: &[(u16, u16)]) -> Bytes {
+    groups(&list.iter().map(|&(parent, mode)| (parent, 0, NO_END, mode)).collect::<Vec<_>>())
+}
+
+// Document 02, card 3, by hand: which groups rules 3 and 4 take for a group's sons.
+fn sons(t: &mut Table) {
+    // Three sons.
+    let three = star(4, 1);
+    for (held, group, rule) in [
+        (vec![1, 2, 4], 1, 4),
+        (vec![1, 2, 3], 1, 4),
+        (vec![1, 3, 4], 1, 4),
+        (vec![1, 2, 3, 4], 1, 4),
+        (vec![1, 2], 0, 0),
+        (vec![1, 3], 0, 0),
+        (vec![1, 4], 0, 0),
+    ] {
+        t.register(&format!("three disjoint sons, {held:?}"), &three, &row(1, &held), group, rule);
+    }
+    t.register("three disjoint sons, a member in the first, one in the last", &three, &[row(1, &[1, 2]), row(2, &[1, 4])].concat(), 0, 0);
+
+    // Two families with every other number: 4 and 6 are sons of 2, 5 and 7 of 3.
+    let families = |mode: u16| free(&[(0, 0), (1, mode), (1, mode), (2, 0), (3, 0), (2, 0), (3, 0)]);
+    for (mode, held, group, rule) in [
+        (1, vec![1, 2, 4, 6], 2, 4),
+        (1, vec![1, 3, 5, 7], 3, 4),
+        (1, vec![1, 2, 3, 4, 5, 6], 2, 4),
+        (1, vec![1, 2, 3, 4, 5, 7], 3, 4),
+        (1, vec![1, 2, 3, 4, 5], 0, 0),
+        (1, vec![1, 2, 3, 5, 6], 0, 0),
+        (1, vec![1, 2, 3, 6, 7], 0, 0),
+        (1, vec![1, 2, 3, 4, 7], 0, 0),
+        (1, vec![1, 2, 3], 0, 0),
+        (2, vec![1, 2, 3, 5], 2, 3),
+        (2, vec![1, 2, 3, 5, 7], 2, 3),
+        (2, vec![1, 2, 3, 4], 3, 3),
+        (2, vec![1, 2, 3, 4, 6], 3, 3),
+        (2, vec![1, 2, 3, 4, 5], 0, 0),
+        (2, vec![1, 2, 3, 6, 7], 0, 0),
+        (2, vec![1, 2, 3, 4, 5, 6, 7], 0, 0),
+        (2, vec![1, 2, 4], 0, 0),
+        (2, vec![1, 3, 7], 0, 0),
+        (2, vec![1], 0, 0),
+    ] {
+        t.register(&format!("two families of mode {mode}, {held:?}"), &families(mode), &row(1, &held), group, rule);
+    }
+    let both = [row(1, &[1, 3, 5, 7]), row(2, &[1, 2, 4, 6])].concat();
+    t.register("two families, the lower group in the later row", &families(1), &both, 2, 4);
+
+    // 127 sons.
+    let each: Bytes = (2..=128).flat_map(|g| row(g as u32, &[1, g])).collect();
+    for (a, b) in [(2, 3), (2, 128), (63, 64), (64, 65), (64, 128), (65, 66), (2, 65), (127, 128)] {
+        t.register(&format!("disjoint star, {a} and {b}"), &star(128, 1), &row(1, &[1, a, b]), 1, 4);
+    }
+    for g in [2, 63, 64, 65, 66, 127, 128] {
+        t.register(&format!("disjoint star, {g}"), &star(128, 1), &row(1, &[1, g]), 0, 0);
+        t.register(&format!("cover star, {g}"), &star(128, 2), &row(1, &[1, g]), 0, 0);
+    }
+    t.register("disjoint star, the root alone", &star(128, 1), &row(1, &[1]), 0, 0);
+    t.register("cover star, the root alone", &star(128, 2), &row(1, &[1]), 1, 3);
+    t.register("disjoint star, a member in each son", &star(128, 1), &each, 0, 0);
+    t.register("cover star, a member in each son", &star(128, 2), &each, 0, 0);
+    t.register("cover star, a member in each son and one in the root", &star(128, 2), &[row(1, &[1]), each].concat(), 1, 3);
+
+    // A chain of 128, 'disjoint' with 'cover' but for the last group.
+    let chain = |last: u16| free(&(1..=128).map(|g| (g - 1, if g < 128 { 3 } else { last })).collect::<Vec<_>>());
+    let down = |to: usize| row(1, &(1..=to).collect::<Vec<_>>());
+    for g in [1, 2, 63, 64, 65, 126, 127] {
+        t.register(&format!("chain, down to {g}"), &chain(0), &down(g), g as u16, 3);
+    }
+    t.register("chain, all but 127", &chain(0), &row(1, &(1..=128).filter(|&g| g != 127).collect::<Vec<_>>()), 126, 3);
+    t.register("chain, down to the last", &chain(0), &down(128), 0, 0);
+    t.register("chain, the last with cover and no sons", &chain(3), &down(128), 128, 3);
+    t.register("chain, the last with disjoint and no sons", &chain(1), &down(128), 0, 0);
+
+    // Groups 2 and 3 are 'disjoint' with 'cover'. The sons of 2 are the last two groups, those of 3 all other even
+    // numbers from 4; 5, 7 and so on to 125 are the root's.
+    let last = free(
+        &(1..=128)
+            .map(|g| match g {
+                1 => (0, 0),
+                2 | 3 => (1, 3),
+                127 | 128 => (2, 0),
+                _ => (if g % 2 == 0 { 3 } else { 1 }, 0),
+            })
+            .collect::<Vec<_>>(),
+    );
+    for (held, group, rule) in [
+        (vec![1, 2, 127], 0, 0),
+        (vec![1, 2, 128], 0, 0),
+        (vec![1, 2, 127, 128], 2, 4),
+        (vec![1, 2], 2, 3),
+        (vec![1, 2, 125], 2, 3),
+        (vec![1, 2, 3, 126], 2, 3),
+        (vec![1, 2, 3, 128], 3, 3),
+        (vec![1, 2, 3, 125, 127], 3, 3),
+        (vec![1, 2, 3, 4, 127], 0, 0),
+        (vec![1, 2, 3, 126, 128], 0, 0),
+        (vec![1, 2, 3, 4, 126, 128], 3, 4),
+        (vec![1, 2, 3, 64, 66, 127], 3, 4),
+        (vec![1, 2, 3, 4, 6, 127, 128], 2, 4),
+        (vec![1, 3, 4, 5, 7], 0, 0),
+        (vec![1, 3, 64, 65, 125], 0, 0),
+        (vec![1, 5, 125], 0, 0),
+    ] {
+        t.register(&format!("the last two groups, {held:?}"), &last, &row(1, &held), group, rule);
+    }
 }
 
 // Document 02, card 13, by hand: sheets with their ranges as bounds, and the same with one bound off by one.
