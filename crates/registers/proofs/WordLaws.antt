@@ -1,20 +1,21 @@
 -- Laws of two words as a digit for each group, and of a table with two words for each place.
-use Prim.Native.Nat.{ℕ, _+_, _-_, _*_, _/_, _%_, _^_, _≤_, _<_, max}
+use Prim.Native.Nat.{ℕ, suc, _+_, _-_, _*_, _/_, _%_, _^_, _≤_, _<_, max}
 use mathlib.Core.Path.{_≡_, sym, ap, _∙_}
-use mathlib.Core.Bool.{true}
+use mathlib.Core.Bool.{true, false, not}
 use mathlib.Core.List.{List}
 use native.Mathlib.Omega.{arith}
+use native.Mathlib.Nat.{lt-of-le-of-lt}
 use borrow.Author.Tests.{lt-ltb, le-ltb, eq-eqb, ne-eqb, eqb-true}
 use lib.ListN.{length, getD, set, length-set}
 use lib.Seq.{getD-set-same, getD-set-other}
-use lib.Dec.{eqb}
-use lib.Bits.{bitAnd, bitOr}
+use lib.Dec.{ltb, eqb}
+use lib.Bits.{bitAnd, bitOr, and-le-l}
 use lib.Count.{ones}
 use Rattle.registers.specs.Words.{rowGroups}
 use Rattle.laws.specs.Sum.{sum, bit}
 use Rattle.laws.specs.Cases.{compare-le, compare-eq}
 use Rattle.laws.specs.SumLaws.{sum-eq, sum-parts}
-use Rattle.laws.specs.Digits.{digit, digit-le, digit-of-zero, digit-and, digit-or, digit-pow, ones-digits}
+use Rattle.laws.specs.Digits.{digit, digit-le, digit-of-zero, digit-and, digit-or, digit-pow, ones-digits, ones-of-zero, lowest}
 use Rattle.registers.specs.Words.{pairDigit, digitIn, holds, WithGroup, InBoth, inBoth}
 
 pub pair-low : (l h j : ℕ) → j < 64 → pairDigit l h j ≡ digit l j
@@ -46,6 +47,43 @@ pair-ones l h a b =
   where
     up : (j : ℕ) → pairDigit l h (64 + j) ≡ digit h j
     up j = let e : 64 + j - 64 ≡ j = omega arith in pair-high l h (64 + j) (omega arith) ∙ (rw e)
+
+-- a word with a one, and with a second
+ones-some : (m : ℕ) → (m ≡ 0 → ⊥) → m < 2 ^ 64 → ones m ≡ suc (ones (bitAnd m (m - 1)))
+ones-some m n b = lowest 64 m (omega arith) b .1 .fewer
+
+pub second-one : (m : ℕ) → (m ≡ 0 → ⊥) → m < 2 ^ 64 → not (eqb (bitAnd m (m - 1)) 0) ≡ ltb 1 (ones m)
+second-one m n b =
+    rw (ones-some m n b)
+    (compare-eq (bitAnd m (m - 1)) 0
+    (λ e. rw (e, ones-of-zero))
+    (λ e. rw (
+      ne-eqb (bitAnd m (m - 1)) 0 e,
+      lt-ltb 1 (suc (ones (bitAnd m (m - 1))))
+          (omega (arith, ones-some (bitAnd m (m - 1)) e (lt-of-le-of-lt (and-le-l m (m - 1)) b))),
+    )))
+
+-- no one, or two, in two words
+module _ (l h : ℕ) (a : l < 2 ^ 64) (b : h < 2 ^ 64) where
+  pub none-low : (l ≡ 0 → ⊥) → eqb (sum (pairDigit l h) rowGroups) 0 ≡ false
+  none-low n = rw (pair-ones l h a b, ones-some l n a) (ne-eqb (suc (ones (bitAnd l (l - 1))) + ones h) 0 (λ e. omega arith))
+
+  pub none-high : l ≡ 0 → eqb h 0 ≡ eqb (sum (pairDigit l h) rowGroups) 0
+  none-high z =
+      rw (pair-ones l h a b, z, ones-of-zero)
+      (compare-eq h 0
+      (λ e. rw (e, ones-of-zero))
+      (λ e. rw (ne-eqb h 0 e, ones-some h e b) (sym (ne-eqb (0 + suc (ones (bitAnd h (h - 1)))) 0 (λ d. omega arith)))))
+
+  pub two-high : l ≡ 0 → ltb 1 (ones h) ≡ ltb 1 (sum (pairDigit l h) rowGroups)
+  two-high z = let e : 0 + ones h ≡ ones h = omega arith in rw (pair-ones l h a b, z, ones-of-zero, e)
+
+  pub two-low : h ≡ 0 → ltb 1 (ones l) ≡ ltb 1 (sum (pairDigit l h) rowGroups)
+  two-low z = let e : ones l + 0 ≡ ones l = omega arith in rw (pair-ones l h a b, z, ones-of-zero, e)
+
+  pub two-both : (l ≡ 0 → ⊥) → (h ≡ 0 → ⊥) → true ≡ ltb 1 (sum (pairDigit l h) rowGroups)
+  two-both n m =
+      rw (pair-ones l h a b) (sym (lt-ltb 1 (ones l + ones h) (omega (arith, ones-some l n a, ones-some h m b))))
 
 -- the two words at a place
 pub digit-in-pair : (t : List ℕ) (i j : ℕ) → j < rowGroups → digitIn t i j ≡ pairDigit (getD t (2 * i) 0) (getD t (2 * i + 1) 0) j

@@ -1,7 +1,6 @@
 // The check of a register: the lowest broken group with its first broken rule, once all rows are read.
 use crate::counts::count_groups;
 use crate::counts::count_of;
-use crate::counts::groups_of;
 use crate::limits::GROUP_PLACES;
 use crate::limits::ROW_WORDS;
 use crate::limits::SON_STARTS;
@@ -19,7 +18,8 @@ use reading::tables::parent_of;
 ghost use mathlib.Core.Path.{_≡_};
 ghost use Prim.Native.Nat.{_+_, _*_, _≤_, _<_};
 ghost use lib.ListN.{length, getD};
-ghost use lib.Dec.{ltb};
+ghost use lib.Dec.{eqb, ltb};
+ghost use lib.Count.{ones};
 ghost use Rattle.laws.specs.Sum.{sum};
 ghost use Rattle.registers.specs.Words.{rowGroups};
 ghost use Rattle.wire.specs.Edition.{edition1};
@@ -58,11 +58,37 @@ fn sons_in(words: &[u64], row: usize, sons: GroupWords) -> GroupWords
     }
 }
 
+// whether two words have no group
+fn none_in(low: u64, high: u64) -> bool
+    ensures { λ r. ⌜ r ≡ eqb (sum (pairDigit low high) rowGroups) 0 ⌝ }
+{
+    if low != 0 {
+        return false;
+    }
+    high == 0
+}
+
+// whether a word has two ones or more
+fn two_ones(word: u64) -> bool
+    ensures { λ r. ⌜ r ≡ ltb 1 (ones word) ⌝ }
+{
+    if word == 0 {
+        return false;
+    }
+    (word & (word - 1)) != 0
+}
+
 // whether two words have two groups or more
 fn two_in(low: u64, high: u64) -> bool
     ensures { λ r. ⌜ r ≡ ltb 1 (sum (pairDigit low high) rowGroups) ⌝ }
 {
-    1 < groups_of(low, high)
+    if low == 0 {
+        return two_ones(high);
+    }
+    if high == 0 {
+        return two_ones(low);
+    }
+    true
 }
 
 // whether one of the rules 1 to 4 can be broken at a group with the parent p
@@ -112,7 +138,7 @@ fn row_breaks(
     let found = sons_in(words, row, sons);
     if rule == 3 {
         if has(words, row, g) {
-            return groups_of(found.low, found.high) == 0;
+            return none_in(found.low, found.high);
         }
         return false;
     }

@@ -52,15 +52,15 @@ sons-in-requires c κs = search needs
 has-requires-5 : tie.Need-has-requires-5
 has-requires-5 c κs = search needs
 
-groups-of-requires : tie.Need-groups-of-requires
-groups-of-requires c κs = search needs
+none-in-requires : tie.Need-none-in-requires
+none-in-requires c κs = search needs
 
 returns-5 : tie.Need-returns-5
 unfolding rowBreaks
 returns-5 c = rw (
   c .before .before .before .if5 .taken,
-  c .groups-of .ensures
-      ∙ both-count (c .before .before .before .before .sons-in .ensures),
+  c .none-in .ensures,
+  both-count (c .before .before .before .before .sons-in .ensures),
   sym (c .before .before .has5 .ensures)
       ∙ c .before .if6 .taken,
 )
@@ -98,7 +98,7 @@ row-breaks-spec =
     returns-4
     sons-in-requires
     has-requires-5
-    groups-of-requires
+    none-in-requires
     returns-5
     returns-6
     two-in-requires
