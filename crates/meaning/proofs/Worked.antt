@@ -1,5 +1,5 @@
--- The worked sheets that are shown by proof, of document 01 and of document 02, cards 1 and 3, in one list: `worked`. They
--- speak of the meaning alone.
+-- The worked sheets that are shown by proof, those of document 01 and some for document 02, cards 1 and 3, in one list:
+-- `worked`. They speak of the meaning alone.
 use Prim.Native.Nat.{ℕ, zero, suc, _+_, _-_, _≤_, _<_, zero-le}
 use mathlib.Core.Path.{_≡_, refl, sym, ap, _∙_, subst}
 use mathlib.Core.Bool.{Bool, true, false, cond, _&&_, _||_, false≢true}
@@ -106,7 +106,7 @@ pub record Worked : Type 0 where
   -- nobody is in the empty set, or in a group and out of it
   pub trio-empty : Denied trio (claimed names (lists place (5 ∷ []) (1 ∷ [])))
   pub trio-both : Denied trio (claimed names (lists place (2 ∷ []) (2 ∷ [])))
-  -- exactly the sons, in number order, those between which others stand too
+  -- exactly the sons, in number order, also where another group's number lies between
   pub family-sons : (sonList family 1 ≡ 2 ∷ 3 ∷ 5 ∷ []) × (sonList family 2 ≡ 4 ∷ []) × (sonList family 3 ≡ [])
 
 -- P of each of the n numbers from k on

@@ -18,7 +18,7 @@ use Rattle.reading.specs.SheetIn.{sheetIn, Tabled, group-in, parent-in, lo-in, 
 use Rattle.meaning.proofs.SonListLaws.{listed-son, son-listed}
 use Rattle.laws.specs.Cases.{and-true, split, compare-le, true-not-false}
 use Rattle.laws.specs.SumLaws.{sum-some, sum-two, sum-term, sum-pair}
-use Rattle.registers.specs.Words.{pairDigit, digitIn, holds, WordsOf, inBoth, wordSets}
+use Rattle.registers.specs.Words.{pairDigit, digitIn, holds, WordsOf, commonCount, wordSets}
 use Rattle.registers.specs.RuleTests.{parentIn, loIn, hiIn, modeIn, mayBreak, rowBreaks, countBreaks}
 use Rattle.registers.proofs.WordLaws.{pair-le, digit-in-le, holds-one, one-holds}
 
@@ -37,9 +37,9 @@ module _ (s : Sheet) (w : List ℕ) (low high i p : ℕ) (k : WordsOf (sonList s
       let d : suc (h - 1) ≡ h = omega arith in
       omega (arith, holds-one w i h e, k .all (h - 1) (omega arith) (rw d (son-listed c)))
 
-  none-in : inBoth w i low high ≡ 0 → (h : ℕ) → Son s p h → holds w i h ≡ false
-  unfolding inBoth
-  none-in e h c =
+  none-found : commonCount w i low high ≡ 0 → (h : ℕ) → Son s p h → holds w i h ≡ false
+  unfolding commonCount
+  none-found e h c =
       split (holds w i h)
       (λ x. absurd (omega (
         arith,
@@ -49,26 +49,26 @@ module _ (s : Sheet) (w : List ℕ) (low high i p : ℕ) (k : WordsOf (sonList s
       )))
       (λ x. x)
 
-  in-none : ((h : ℕ) → Son s p h → holds w i h ≡ false) → inBoth w i low high ≡ 0
-  unfolding inBoth
-  in-none f =
+  found-none : ((h : ℕ) → Son s p h → holds w i h ≡ false) → commonCount w i low high ≡ 0
+  unfolding commonCount
+  found-none f =
       compare-le 1 (sum (λ j. min (digitIn w i j) (pairDigit low high j)) rowGroups)
       (λ o. absurd (let x = sum-some (λ j. min (digitIn w i j) (pairDigit low high j)) rowGroups o in
       let y = counts-son (x .0) (x .1) (x .2) in true-not-false _ (y .1) (f (suc (x .0)) (y .0))))
       (λ o. omega arith)
 
-  two-in : 1 < inBoth w i low high
+  two-found : 1 < commonCount w i low high
       → (h j : ℕ) × Son s p h × Son s p j × (h < j) × (holds w i h ≡ true) × (holds w i j ≡ true)
-  unfolding inBoth
-  two-in l =
+  unfolding commonCount
+  two-found l =
       let x = sum-pair (λ j. min (digitIn w i j) (pairDigit low high j)) rowGroups (λ m o. omega (arith, digit-in-le w i m)) l in
       let y = counts-son (x .0) (omega arith) (x .4) in
       let v = counts-son (x .1) (x .3) (x .5) in
       (suc (x .0), suc (x .1), y .0, v .0, omega arith, y .1, v .1)
 
-  in-two : (h j : ℕ) → Son s p h → Son s p j → h < j → holds w i h ≡ true → holds w i j ≡ true → 1 < inBoth w i low high
-  unfolding inBoth
-  in-two h j c d l x y =
+  found-two : (h j : ℕ) → Son s p h → Son s p j → h < j → holds w i h ≡ true → holds w i j ≡ true → 1 < commonCount w i low high
+  unfolding commonCount
+  found-two h j c d l x y =
       omega (
         arith,
         son-counts h c x,
@@ -107,10 +107,10 @@ module _ (s : Sheet) (w : List ℕ) (low high n g : ℕ) (k : WordsOf (sonList s
         not-true _ (x .1),
       )
   by-row uncovered i l o m e =
-      let x = and-true (holds w i g) (eqb (inBoth w i low high) 0) e in
-      (i, m, o, x .0, none-in s w low high i g k z (eqb-true (inBoth w i low high) 0 (x .1)))
+      let x = and-true (holds w i g) (eqb (commonCount w i low high) 0) e in
+      (i, m, o, x .0, none-found s w low high i g k z (eqb-true (commonCount w i low high) 0 (x .1)))
   by-row shared i l o m e =
-      let x = two-in s w low high i g k z (ltb-true 1 (inBoth w i low high) e) in
+      let x = two-found s w low high i g k z (ltb-true 1 (commonCount w i low high) e) in
       (x .0, x .1, i, m, x .2, x .3, x .4, o, x .5, x .6)
   by-row below i l o m e = absurd (omega arith)
   by-row above i l o m e = absurd (omega arith)
@@ -123,9 +123,9 @@ module _ (s : Sheet) (w : List ℕ) (low high n g : ℕ) (k : WordsOf (sonList s
   row-of lacking l (p, i, c, m, o, a, b) =
       (rw (lt-ltb 0 (s .parent g) (omega arith), c .under) m, (i, o, rw (c .under, a, b)))
   row-of uncovered l (i, m, o, a, f) =
-      (m, (i, o, rw (a, eq-eqb (inBoth w i low high) 0 (in-none s w low high i g k z f))))
+      (m, (i, o, rw (a, eq-eqb (commonCount w i low high) 0 (found-none s w low high i g k z f))))
   row-of shared l (h, j, i, m, c, d, x, o, a, b) =
-      (m, (i, o, lt-ltb 1 (inBoth w i low high) (in-two s w low high i g k z h j c d x a b)))
+      (m, (i, o, lt-ltb 1 (commonCount w i low high) (found-two s w low high i g k z h j c d x a b)))
   row-of below l v = absurd (omega arith)
   row-of above l v = absurd (omega arith)
 

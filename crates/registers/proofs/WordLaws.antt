@@ -16,7 +16,7 @@ use Rattle.laws.specs.Sum.{sum, bit}
 use Rattle.laws.specs.Cases.{compare-le, compare-eq}
 use Rattle.laws.specs.SumLaws.{sum-eq, sum-parts}
 use Rattle.laws.specs.Digits.{digit, digit-le, digit-of-zero, digit-and, digit-or, digit-pow, ones-digits, ones-of-zero, lowest}
-use Rattle.registers.specs.Words.{pairDigit, digitIn, holds, WithGroup, InBoth, inBoth}
+use Rattle.registers.specs.Words.{pairDigit, digitIn, holds, WithGroup, Common, commonCount}
 
 pub pair-low : (l h j : ℕ) → j < 64 → pairDigit l h j ≡ digit l j
 unfolding pairDigit
@@ -146,7 +146,7 @@ module _ (t : List ℕ) (p low high : ℕ) (n : 2 * p + 1 < length t) where
 
 -- 'and' of a place and two words
 pub both-words : (t : List ℕ) (i low high : ℕ)
-    → InBoth t i low high (bitAnd (getD t (2 * i) 0) low) (bitAnd (getD t (2 * i + 1) 0) high)
+    → Common t i low high (bitAnd (getD t (2 * i) 0) low) (bitAnd (getD t (2 * i + 1) 0) high)
 both-words t i low high =
     record {
       each = λ j l.
@@ -166,8 +166,8 @@ both-words t i low high =
           (digit-and (getD t (2 * i) 0) low j)));
     }
 
-pub both-count : {t : List ℕ} {i low high a b : ℕ} → InBoth t i low high a b → sum (pairDigit a b) rowGroups ≡ inBoth t i low high
-unfolding inBoth
+pub both-count : {t : List ℕ} {i low high a b : ℕ} → Common t i low high a b → sum (pairDigit a b) rowGroups ≡ commonCount t i low high
+unfolding commonCount
 both-count w = sum-eq _ _ rowGroups (w .each)
 
 -- one digit more, in the low word or in the high one

@@ -7,7 +7,7 @@ use lib.ListN.{getD}
 use lib.Dec.{ltb, eqb}
 use Rattle.wire.specs.Limits.{noEnd}
 use Rattle.reading.specs.Modes.{disjointMode, coverMode, sameMode}
-use Rattle.registers.specs.Words.{holds, inBoth}
+use Rattle.registers.specs.Words.{holds, commonCount}
 
 -- by a rule's number, 1 to 4
 abbrev pub byRule : ℕ → Bool → Bool → Bool → Bool → Bool
@@ -43,8 +43,8 @@ rowBreaks k w i low high g p =
     k
     (holds w i g && not (holds w i p))
     (holds w i p && not (holds w i g))
-    (holds w i g && eqb (inBoth w i low high) 0)
-    (ltb 1 (inBoth w i low high))
+    (holds w i g && eqb (commonCount w i low high) 0)
+    (ltb 1 (commonCount w i low high))
 
 -- whether a count c of group g breaks rule 5 or rule 6
 unfoldable pub countBreaks : List ℕ → ℕ → ℕ → ℕ → Bool

@@ -19,6 +19,10 @@ pub record Checkable (t : List ℕ) (n : ℕ) : Type 0 where
 abbrev pub groupPlaces : ℕ
 groupPlaces = rowGroups + 1
 
+-- places of the table that has where each group's sons begin, and where the last list ends
+abbrev pub sonStarts : ℕ
+sonStarts = groupPlaces + 1
+
 -- place g of the table is the count of group g
 pub record Counted {X : Type 0} (A : Sets X) (t : List ℕ) : Type 0 where
   pub each : (g : ℕ) → 1 ≤ g → g ≤ rowGroups → getD t g 0 ≡ count A g

@@ -51,9 +51,9 @@ pub record WordsOf (l : List ℕ) (low high : ℕ) : Type 0 where
   pub all : (j : ℕ) → j < rowGroups → List·Memᴰ (suc j) l → pairDigit low high j ≡ 1
 
 -- two words with the groups that two others and place i of a table have
-pub record InBoth (t : List ℕ) (i low high low′ high′ : ℕ) : Type 0 where
+pub record Common (t : List ℕ) (i low high low′ high′ : ℕ) : Type 0 where
   pub each : (j : ℕ) → j < rowGroups → pairDigit low′ high′ j ≡ min (digitIn t i j) (pairDigit low high j)
 
 -- the number of groups that two words and place i of a table have
-unfoldable pub inBoth : List ℕ → ℕ → ℕ → ℕ → ℕ
-inBoth t i low high = sum (λ j. min (digitIn t i j) (pairDigit low high j)) rowGroups
+unfoldable pub commonCount : List ℕ → ℕ → ℕ → ℕ → ℕ
+commonCount t i low high = sum (λ j. min (digitIn t i j) (pairDigit low high j)) rowGroups

@@ -4,6 +4,7 @@ use crate::counts::count_of;
 use crate::limits::GROUP_PLACES;
 use crate::limits::ROW_WORDS;
 use crate::limits::SON_STARTS;
+use crate::limits::SONS;
 use crate::rows::Rows;
 use crate::rows::read_rows;
 use crate::sons::GroupWords;
@@ -25,7 +26,7 @@ ghost use Rattle.registers.specs.Words.{rowGroups};
 ghost use Rattle.wire.specs.Edition.{edition1};
 ghost use Rattle.wire.specs.RegisterFormat.{readRegister};
 ghost use Rattle.reading.specs.SheetIn.{sheetIn};
-ghost use Rattle.registers.specs.Words.{pairDigit, holds, InBoth, wordSets};
+ghost use Rattle.registers.specs.Words.{pairDigit, holds, Common, wordSets};
 ghost use Rattle.registers.specs.Tallies.{Checkable, Gathered, RowAsked};
 ghost use Rattle.registers.specs.RuleTests.{parentIn, mayBreak, rowBreaks, countBreaks};
 ghost use Rattle.registers.specs.Checked.{AnswerTo, Checked};
@@ -50,7 +51,7 @@ fn has(table: &[u64], i: usize, g: GroupNo) -> bool
 // those of the sons that the row has
 fn sons_in(words: &[u64], row: usize, sons: GroupWords) -> GroupWords
     requires { ⌜ 2 * row + 1 < length (now words) ⌝ }
-    ensures { λ r. ⌜ InBoth (now (words .entry)) row (sons .low) (sons .high) (r .low) (r .high) ⌝ }
+    ensures { λ r. ⌜ Common (now (words .entry)) row (sons .low) (sons .high) (r .low) (r .high) ⌝ }
 {
     GroupWords {
         low: words[2 * row] & sons.low,
@@ -207,7 +208,7 @@ pub fn check_register(groups: &[u16], size: u16, register: &[u8]) -> Check
     ensures { λ r. ⌜ Checked (sheetIn (now (groups .entry)) size) (readRegister edition1 size (now (register .entry))) r ⌝ }
 {
     let mut starts = [0u32; SON_STARTS];
-    let mut order = [0u16; GROUP_PLACES];
+    let mut order = [0u16; SONS];
     gather_sons(groups, size, &mut starts, &mut order);
     let mut words = [0u64; ROW_WORDS];
     match read_rows(register, size, &mut words) {

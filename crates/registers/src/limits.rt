@@ -19,5 +19,7 @@ pub const ROW_WORDS: usize = 2 * ROWS;
 // Places by a group's number, 0 for none.
 pub const GROUP_PLACES: usize = GROUPS as usize + 1;
 
-// Where the sons of each group begin, and where those of the last one end.
+// Places where the sons of each group begin, and where those of the last one end; and the list of all sons.
 pub const SON_STARTS: usize = GROUP_PLACES + 1;
+
+pub const SONS: usize = GROUPS as usize;

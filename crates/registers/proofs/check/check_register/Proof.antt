@@ -1,13 +1,13 @@
 -- `registers::check::check_register` meets its contract. The answer to the words of the rows is the answer to the rows.
 use borrow.Author.Needs.{needs}
-use Prim.Native.Nat.{_+_}
 use mathlib.Core.Path.{sym}
 use native.Mathlib.Omega.{arith}
 use native.Mathlib.Nat.{le-refl, le-of-eq}
 use Rattle.reading.specs.SheetIn.{size-in}
 use Rattle.registers.specs.declared.rows.Rows.the-variants as rows
 use Rattle.registers.specs.RowsRead.{ReadInto}
-use Rattle.registers.specs.Tallies.{groupPlaces}
+use Rattle.registers.specs.Words.{rowGroups}
+use Rattle.registers.specs.Tallies.{groupPlaces, sonStarts}
 use Rattle.registers.proofs.CheckLaws.{checked-refused, rows-most, checked-words, zeros, counts-zeros}
 use Rattle.registers.proofs.check.check_register.Statement.{statement}
 use Rattle.registers.proofs.check.check_register.Tie as tie
@@ -28,7 +28,7 @@ slice-aggregate-gather-sons-2 c = search needs
 gather-sons-requires : tie.Need-gather-sons-requires
 gather-sons-requires c κs =
     let p = c .before .before .before .before .pre in
-    (p, (omega (arith, p .most), (le-refl groupPlaces, zeros (groupPlaces + 1))))
+    (p, (le-refl sonStarts, (le-refl rowGroups, zeros sonStarts)))
 
 slice-aggregate-read-rows : tie.Need-slice-aggregate-read-rows
 slice-aggregate-read-rows c = search needs
