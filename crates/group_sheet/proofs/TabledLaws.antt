@@ -7,12 +7,16 @@ use lib.ListN.{length}
 use Rattle.wire.specs.Record.{read}
 use Rattle.wire.specs.SheetFormat.{Records, readSheet}
 use Rattle.wire.specs.Facts.{read-right, right-few}
+use Rattle.meaning.specs.Sheet.{Group}
+use Rattle.meaning.specs.SonList.{sonList}
+use Rattle.meaning.specs.OfRecords.{sheetOf}
 use Rattle.meaning.specs.Readable.{tree-of-right, rooted-of-right}
 use Rattle.reading.specs.Tables.{groupFields, groupsIn, length-groupsIn}
 use Rattle.reading.specs.SheetIn.{sheetIn, Tabled}
 use Rattle.wire.specs.Edition.{Edition, edition1, membershipBytes, groupLimit}
 use Rattle.registers.specs.Words.{rowGroups}
 use Rattle.registers.specs.Tallies.{Checkable}
+use Rattle.registers.specs.SonLists.{keptSons, SonsListed}
 
 -- the groups of a readable sheet, as the table holds them
 pub tabled : (b t : List ℕ) (n : ℕ) (d : Records) → readSheet b ≡ read d → d .groups ≡ groupsIn t n
@@ -41,3 +45,10 @@ checkable b t n d e f l =
     let R = read-right b d e in
     let m : length (d .groups) ≡ n = ap length f ∙ length-groupsIn t n in
     record { tabled = tabled b t n d e f l; most = omega (arith, R .groupCount, row-groups (d .edition)) }
+
+-- the list that is read off what was gathered from that table is, for each group of the sheet, its sons in number order
+-- (document 02, card 3)
+pub kept-sons : (t starts order : List ℕ) (n : ℕ) (d : Records) → d .groups ≡ groupsIn t n → SonsListed (sheetIn t n) starts order
+    → (p : ℕ) → Group (sheetOf (d .groups)) p → keptSons starts order p ≡ sonList (sheetOf (d .groups)) p
+unfolding sheetIn
+kept-sons t starts order n d f w p g = rw f (w .listed p (rw f at g))

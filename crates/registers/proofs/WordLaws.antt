@@ -171,8 +171,8 @@ unfolding commonCount
 both-count w = sum-eq _ _ rowGroups (w .each)
 
 -- one digit more, in the low word or in the high one
-pub with-low : (low high g : ℕ) → 1 ≤ g → g - 1 < 64 → WithGroup low high g (bitOr low (2 ^ (g - 1))) high
-with-low low high g a b =
+pub with-low : (low high g : ℕ) → g - 1 < 64 → WithGroup low high g (bitOr low (2 ^ (g - 1))) high
+with-low low high g a =
     record {
       each = λ j l.
           compare-le 64 j

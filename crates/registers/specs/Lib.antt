@@ -2,6 +2,7 @@ pub mod Unbroken
 pub mod Words
 pub mod RowsRead
 pub mod SonLists
+pub mod SonSteps
 pub mod Tallies
 pub mod RuleTests
 pub mod Checked

@@ -19,7 +19,8 @@ pub const ROW_WORDS: usize = 2 * ROWS;
 // Places by a group's number, 0 for none.
 pub const GROUP_PLACES: usize = GROUPS as usize + 1;
 
-// Places where the sons of each group begin, and where those of the last one end; and the list of all sons.
+// Places where the sons of each group begin, and where those of the last one end; and places for all sons, who are fewer than
+// the groups.
 pub const SON_STARTS: usize = GROUP_PLACES + 1;
 
 pub const SONS: usize = GROUPS as usize;
