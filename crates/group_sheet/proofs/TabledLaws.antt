@@ -1,4 +1,4 @@
--- The groups of a sheet that was read, as its table holds them.
+-- The groups of a sheet that was read, as its table holds them, and their sons, as the check keeps them.
 use Prim.Native.Nat.{ℕ, _*_, _≤_}
 use mathlib.Core.Path.{_≡_, ap, _∙_}
 use mathlib.Core.List.{List}

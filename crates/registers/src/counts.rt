@@ -11,7 +11,7 @@ ghost use Rattle.laws.specs.Digits.{Lowest};
 ghost use Rattle.registers.specs.Tallies.{groupPlaces, Counted, CountedRow, CountsTo};
 
 // the number of a row's groups
-pub fn groups_of(low: u64, high: u64) -> u32
+fn groups_of(low: u64, high: u64) -> u32
     ensures { λ r. ⌜ r ≡ sum (pairDigit low high) rowGroups ⌝ }
 {
     u64::count_ones(low) + u64::count_ones(high)
