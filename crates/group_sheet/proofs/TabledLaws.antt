@@ -14,7 +14,7 @@ use Rattle.meaning.specs.Readable.{tree-of-right, rooted-of-right}
 use Rattle.reading.specs.Tables.{groupFields, groupsIn, length-groupsIn}
 use Rattle.reading.specs.SheetIn.{sheetIn, Tabled}
 use Rattle.wire.specs.Edition.{Edition, edition1, membershipBytes, groupLimit}
-use Rattle.registers.specs.Words.{rowGroups}
+use Rattle.rows.specs.RowsRead.{rowGroups}
 use Rattle.registers.specs.Tallies.{Checkable}
 use Rattle.registers.specs.SonLists.{keptSons, SonsListed}
 

@@ -3,6 +3,7 @@
 // Document 01, "Registers", "Replies", refusals 10 to 14.
 use registers::check::Check;
 use registers::check::check_register;
+use registers::limits::GROUP_PLACES;
 use replies::give_answer;
 use replies::pairs::pack;
 ghost use Rattle.wire.specs.Edition.{edition1};
@@ -17,7 +18,8 @@ pub fn give_check(groups: &[u16], size: u16, register: &[u8], reply: &mut [u8]) 
     ensures { λ r. ⌜ Register (now (register .entry)) edition1 (sheetIn (now (groups .entry)) size) (call (now (reply .entry)) r (now
         (reply .exit))) ⌝ }
 {
-    match check_register(groups, size, register) {
+    let mut counts = [0u32; GROUP_PLACES];
+    match check_register(groups, size, register, &mut counts) {
         Check::Refused(n, row) => pack(n, row),
         Check::Broken(group, rule) => give_answer(reply, group.0, rule),
         Check::Fits => give_answer(reply, 0, 0),

@@ -1,42 +1,34 @@
--- The words that reading keeps show the sets that the rows list; what a reading gives is what the check answers.
-use Prim.Native.Nat.{ℕ, _≤_, _<_}
-use mathlib.Core.Path.{_≡_, sym, _∙_}
+-- The columns of a register that was read show the sets that its rows list; what a reading gives is what the check answers, and
+-- the ones of the columns are the counts.
+use Prim.Native.Nat.{ℕ, _*_, _≤_, _<_}
+use mathlib.Core.Path.{_≡_, sym, ap, _∙_}
 use mathlib.Core.List.{List}
 use native.Mathlib.Omega.{arith}
-use native.Mathlib.Nat.{le-of-eq}
+use borrow.Author.Tests.{lt-ltb, le-ltb}
 use lib.ListN.{length, getD, replicate, length-replicate, getD-replicate, List·getD-eq-default}
-use Rattle.wire.specs.Edition.{edition1}
+use lib.Dec.{eqb}
+use Rattle.wire.specs.Edition.{edition1, rowBytes}
 use Rattle.wire.specs.Limits.{rowLimit}
-use Rattle.registers.specs.Words.{rowGroups}
-use Rattle.wire.specs.Record.{Reading, refused}
+use Rattle.wire.specs.Record.{Reading, read, refused}
 use Rattle.wire.specs.RegisterFormat.{Row, readRegister}
-use Rattle.wire.specs.RoundTripRegister.{register-read}
-use Rattle.meaning.specs.Sheet.{Sheet}
+use Rattle.meaning.specs.Sheet.{Sheet, Group}
 use Rattle.meaning.specs.Tree.{Tree}
 use Rattle.meaning.specs.Sets.{Distinct}
 use Rattle.meaning.specs.OfRecords.{listedSets}
 use Rattle.meaning.specs.ReadableRows.{distinct-of-readable, listed-at}
 use Rattle.laws.specs.Cases.{compare-le}
-use Rattle.registers.specs.Words.{wordSets, words-distinct}
-use Rattle.registers.specs.RowsRead.{rowsBefore, Kept, ReadInto}
-use Rattle.registers.specs.Tallies.{CountsTo}
-use Rattle.registers.specs.Agree.{Agree, answered-agree}
-use Rattle.registers.specs.Checked.{AnswerTo, Checked}
+use Rattle.rows.specs.RowsRead.{wordBits, rowGroups, rowsBefore}
+use Rattle.rows.proofs.RowLaws.{length-rowsBefore, row-before, in-group-bit, rows-most}
+use Rattle.registers.specs.Columns.{columnDigit, inColumn, columnSets, columns-distinct, WordsFor, Filled}
+use Rattle.registers.specs.ColumnSteps.{ColumnsCounted}
+use Rattle.registers.specs.Tallies.{Counted}
+use Rattle.registers.specs.Agree.{Agree, answered-agree, count-agree}
+use Rattle.registers.specs.Checked.{AnswerTo, Checked, Tallied}
 use Rattle.registers.specs.declared.check.Check.{Check}
 use Rattle.registers.specs.declared.check.Check.the-variants as check
-use Rattle.registers.specs.declared.rows.Rows.the-variants as rows
-use Rattle.registers.proofs.RowLaws.{length-rowsBefore}
+use Rattle.registers.proofs.CountLaws.{column-count}
 
-words-agree : (s : Sheet) (t : List ℕ) (rs : List Row) (n : ℕ) → s .size ≤ rowGroups → length rs ≡ n → Kept rs t
-    → Distinct (listedSets rs) → Agree s (wordSets t n) (listedSets rs)
-words-agree s t rs n z e k d =
-    record {
-      bound = sym e;
-      groups = λ i g l y.
-          let i-in : i < length rs = omega arith in
-          k .groups i g i-in (y .first) (omega arith) ∙ sym (listed-at rs d g i i-in);
-    }
-
+-- a refused register
 pub checked-refused : (s : Sheet) (d : Reading (List Row)) (n k : ℕ) → refused n k ≡ d → Checked s d (check.Refused n k)
 checked-refused s d n k e =
     record {
@@ -44,27 +36,64 @@ checked-refused s d n k e =
       answer = λ rows f. absurd (let z : _≡_ {A = ℕ} 0 1 = cc in omega arith);
     }
 
--- a register of n rows that were read, its words in the table t
-module _ (groups : ℕ) (b t : List ℕ) (n : ℕ) (w : ReadInto groups b (rows.Count n) t) where
-  pub rows-most : n ≤ rowLimit
-  rows-most =
-      omega (arith, length-rowsBefore b n, register-read edition1 groups b (rowsBefore b n) (sym (w .reading)) .rowCount)
+pub tallied-refused : (s : Sheet) (d : Reading (List Row)) (n k : ℕ) (t : List ℕ) → refused n k ≡ d → Tallied s d t
+tallied-refused s d n k t e = record { counts = λ rows f. absurd (let z : _≡_ {A = ℕ} 0 1 = cc in omega arith) }
 
-  -- the answer to the words is the answer to the rows
-  pub checked-words : (s : Sheet) (r : Check) → Tree s → s .size ≤ rowGroups → AnswerTo s (wordSets t n) r
-      → Checked s (readRegister edition1 groups b) r
-  checked-words s r y z v =
+-- no digit is set from row n on
+pub others-none : {b t : List ℕ} {n : ℕ} → Filled b n t → (g i : ℕ) → 1 ≤ g → g ≤ rowGroups → n ≤ i → i < rowLimit
+    → columnDigit t g i ≡ 0
+others-none {b} {t} {n} f g i a c o l = f .each g i a c l ∙ (rw (le-ltb i n o))
+
+-- the counts that were read off are those of the sets
+pub columns-counted : {b t u : List ℕ} {n words : ℕ} (s : Sheet) → s .size ≤ rowGroups → Filled b n t → WordsFor n words
+    → ColumnsCounted t (s .size) words u → Counted s (columnSets t n) u
+columns-counted {b} {t} {u} {n} {words} s z f w c =
+    record {
+      each = λ g k.
+          c .each g (k .first) (k .last)
+          ∙ column-count t g n (wordBits * words) (w .enough)
+          (λ i o l. others-none f g i (k .first) (omega (arith, k .last)) o (omega (arith, w .most)));
+    }
+
+-- a register of n rows that were read, and its columns
+module _ (s : Sheet) (z : s .size ≤ rowGroups) (groups : ℕ) (b t : List ℕ) (n : ℕ) (w : read (rowsBefore b n) ≡ readRegister edition1 groups b)
+    (f : Filled b n t) where
+  columns-agree : (rs : List Row) → rowsBefore b n ≡ rs → Distinct (listedSets rs) → Agree s (columnSets t n) (listedSets rs)
+  unfolding inColumn
+  columns-agree rs e d =
       record {
-        refusal = λ m j f. absurd (let e = w .reading ∙ f in let z : _≡_ {A = ℕ} 0 1 = cc in omega arith);
-        answer = λ rs f.
-            let same : rowsBefore b n ≡ rs = (let e = w .reading ∙ f in cc) in
-            let d = distinct-of-readable edition1 groups b rs f in
-            let g = words-agree s t rs n z (rw (← same) (length-rowsBefore b n)) (w .kept rs (w .reading ∙ f)) d in
+        bound = sym (length-rowsBefore b n) ∙ ap length e;
+        groups = λ i g l y.
+            let i-in : i < length rs = omega (arith, length-rowsBefore b n, ap length e) in
+            let here = rw (lt-ltb i n l) at (f .each g i (y .first) (omega (arith, y .last)) (omega (arith, rows-most groups b n w))) in
+            ap (λ x. eqb x 1) here
+            ∙ sym (in-group-bit b (rowBytes edition1 * i) g (y .first) (omega (arith, y .last)))
+            ∙ (rw (← row-before b n i l, e) (sym (listed-at rs d g i i-in)));
+      }
+
+  -- the answer to the columns is the answer to the rows
+  pub checked-columns : (r : Check) → Tree s → AnswerTo s (columnSets t n) r → Checked s (readRegister edition1 groups b) r
+  checked-columns r y v =
+      record {
+        refusal = λ m j e. absurd (let x = w ∙ e in let o : _≡_ {A = ℕ} 0 1 = cc in omega arith);
+        answer = λ rs e.
+            let same : rowsBefore b n ≡ rs = (let x = w ∙ e in cc) in
+            let d = distinct-of-readable edition1 groups b rs e in
             record {
               names = v .names;
               gives = v .gives;
-              answered = answered-agree s (wordSets t n) (listedSets rs) y g (words-distinct t n) d _ _ (v .answered);
+              answered = answered-agree s (columnSets t n) (listedSets rs) y (columns-agree rs same d) (columns-distinct t n) d _ _ (v .answered);
             };
+      }
+
+  -- and so are the counts
+  pub tallied-columns : (u : List ℕ) → Counted s (columnSets t n) u → Tallied s (readRegister edition1 groups b) u
+  tallied-columns u c =
+      record {
+        counts = λ rs e.
+            let same : rowsBefore b n ≡ rs = (let x = w ∙ e in cc) in
+            let d = distinct-of-readable edition1 groups b rs e in
+            record { each = λ g k. c .each g k ∙ count-agree s (columnSets t n) (listedSets rs) g (columns-agree rs same d) k };
       }
 
 -- tables start as zeros
@@ -73,6 +102,3 @@ zeros n i =
     compare-le n i
     (λ o. List·getD-eq-default (replicate n 0) 0 (rw (length-replicate {A = ℕ} n 0) o))
     (λ o. getD-replicate n i 0 0 o)
-
-pub counts-zeros : (n : ℕ) → CountsTo 0 (replicate n 0)
-counts-zeros n = record { each = λ g a b. le-of-eq (zeros n g) }

@@ -1,9 +1,9 @@
-pub mod RowBits
-pub mod RowLaws
-pub mod WordLaws
+pub mod ColumnLaws
+pub mod PutLaws
 pub mod CountLaws
 pub mod SonLaws
-pub mod SonsRead
+pub mod WordLaws
+pub mod JoinLaws
 pub mod RuleLaws
 pub mod ScanLaws
 pub mod CheckLaws

@@ -1,81 +1,45 @@
 -- The tests of the scan say when a rule is broken at a group.
-use Prim.Native.Nat.{ℕ, zero, suc, _-_, _≤_, _<_, min}
-use mathlib.Core.Path.{_≡_, refl}
-use mathlib.Core.Bool.{Bool, true, false, not, _&&_}
+use Prim.Native.Nat.{ℕ, zero, suc, _*_, _/_, _%_, _≤_, _<_}
+use mathlib.Core.Path.{_≡_, refl, sym, _∙_}
+use mathlib.Core.Bool.{Bool, true, false, not, _&&_, false≢true}
 use mathlib.Core.List.{List}
 use native.Mathlib.Omega.{arith}
-use borrow.Author.Tests.{lt-ltb, le-ltb, eq-eqb, eqb-true, ltb-true, ltb-false, not-true}
+use borrow.Author.Tests.{lt-ltb, le-ltb, ne-eqb, eqb-true, ltb-true, ltb-false, not-true}
 use lib.Dec.{ltb, eqb}
-use Rattle.wire.specs.Limits.{noEnd}
-use Rattle.registers.specs.Words.{rowGroups}
-use Rattle.laws.specs.Sum.{sum}
+use Rattle.wire.specs.Limits.{noEnd, rowLimit}
+use Rattle.rows.specs.RowsRead.{wordBits}
 use Rattle.meaning.specs.Sheet.{Sheet, AtMost, Group, Son, endOf}
+use Rattle.meaning.specs.Tree.{Tree}
 use Rattle.meaning.specs.SonList.{sonList}
 use Rattle.meaning.specs.Sets.{Sets, count}
 use Rattle.meaning.specs.Rule.{Rule, outside, lacking, uncovered, shared, below, above, ruleNumber, Broken}
 use Rattle.reading.specs.Modes.{sameMode}
 use Rattle.reading.specs.SheetIn.{sheetIn, Tabled, group-in, parent-in, lo-in, hi-in, disjoint-in, cover-in, same-in, parent-below}
-use Rattle.meaning.proofs.SonListLaws.{listed-son, son-listed}
-use Rattle.laws.specs.Cases.{and-true, split, compare-le, true-not-false}
-use Rattle.laws.specs.SumLaws.{sum-some, sum-two, sum-term, sum-pair}
-use Rattle.registers.specs.Words.{pairDigit, digitIn, holds, WordsOf, commonCount, wordSets}
+use Rattle.meaning.proofs.SonLaws.{son-parent}
+use Rattle.laws.specs.Cases.{and-true, split, compare-le}
+use Rattle.registers.specs.Columns.{columnDigit, inColumn, columnSets, WordsFor}
+use Rattle.registers.specs.Joins.{heldBy, Joined}
 use Rattle.registers.specs.RuleTests.{parentIn, loIn, hiIn, modeIn, mayBreak, rowBreaks, countBreaks}
-use Rattle.registers.proofs.WordLaws.{pair-le, digit-in-le, holds-one, one-holds}
+use Rattle.registers.proofs.ColumnLaws.{bit-column, column-one, one-column}
+use Rattle.registers.proofs.JoinLaws.{none-held, held-none, two-held, held-two}
 
--- the sons that a row has
-module _ (s : Sheet) (w : List ℕ) (low high i p : ℕ) (k : WordsOf (sonList s p) low high) (z : s .size ≤ rowGroups) where
-  counts-son : (j : ℕ) → j < rowGroups → 1 ≤ min (digitIn w i j) (pairDigit low high j)
-      → Son s p (suc j) × (holds w i (suc j) ≡ true)
-  counts-son j l m =
-      let e : suc j - 1 ≡ j = omega arith in (
-        listed-son s p (suc j) (k .only j l (omega (arith, pair-le low high j))),
-        one-holds w i (suc j) (rw e (omega arith)),
-      )
+zero-column : (t : List ℕ) (g i : ℕ) → columnDigit t g i ≡ 0 → inColumn t g i ≡ false
+unfolding inColumn
+zero-column t g i e = ne-eqb (columnDigit t g i) 1 (λ x. omega arith)
 
-  son-counts : (h : ℕ) → Son s p h → holds w i h ≡ true → min (digitIn w i (h - 1)) (pairDigit low high (h - 1)) ≡ 1
-  son-counts h c e =
-      let d : suc (h - 1) ≡ h = omega arith in
-      omega (arith, holds-one w i h e, k .all (h - 1) (omega arith) (rw d (son-listed c)))
+-- column 0 of `some` and of `two` tells in how many of the listed groups a member is
+module _ {l c : List ℕ} {words : ℕ} {some two : List ℕ} (k : Joined l c words some two) (i : ℕ) (o : i < wordBits * words) where
+  some-false : inColumn some 0 i ≡ false → heldBy c l i ≡ 0
+  some-false e = let z = rw e at (bit-column some 0 i) in omega (arith, k .in-some i o)
 
-  none-found : commonCount w i low high ≡ 0 → (h : ℕ) → Son s p h → holds w i h ≡ false
-  unfolding commonCount
-  none-found e h c =
-      split (holds w i h)
-      (λ x. absurd (omega (
-        arith,
-        son-counts h c x,
-        sum-term (λ j. min (digitIn w i j) (pairDigit low high j)) rowGroups (h - 1)
-            (omega arith),
-      )))
-      (λ x. x)
+  false-some : heldBy c l i ≡ 0 → inColumn some 0 i ≡ false
+  false-some e = zero-column some 0 i (omega (arith, k .in-some i o))
 
-  found-none : ((h : ℕ) → Son s p h → holds w i h ≡ false) → commonCount w i low high ≡ 0
-  unfolding commonCount
-  found-none f =
-      compare-le 1 (sum (λ j. min (digitIn w i j) (pairDigit low high j)) rowGroups)
-      (λ o. absurd (let x = sum-some (λ j. min (digitIn w i j) (pairDigit low high j)) rowGroups o in
-      let y = counts-son (x .0) (x .1) (x .2) in true-not-false _ (y .1) (f (suc (x .0)) (y .0))))
-      (λ o. omega arith)
+  two-true : inColumn two 0 i ≡ true → 1 < heldBy c l i
+  two-true e = omega (arith, column-one two 0 i e, k .in-two i o)
 
-  two-found : 1 < commonCount w i low high
-      → (h j : ℕ) × Son s p h × Son s p j × (h < j) × (holds w i h ≡ true) × (holds w i j ≡ true)
-  unfolding commonCount
-  two-found l =
-      let x = sum-pair (λ j. min (digitIn w i j) (pairDigit low high j)) rowGroups (λ m o. omega (arith, digit-in-le w i m)) l in
-      let y = counts-son (x .0) (omega arith) (x .4) in
-      let v = counts-son (x .1) (x .3) (x .5) in
-      (suc (x .0), suc (x .1), y .0, v .0, omega arith, y .1, v .1)
-
-  found-two : (h j : ℕ) → Son s p h → Son s p j → h < j → holds w i h ≡ true → holds w i j ≡ true → 1 < commonCount w i low high
-  unfolding commonCount
-  found-two h j c d l x y =
-      omega (
-        arith,
-        son-counts h c x,
-        son-counts j d y,
-        sum-two (λ m. min (digitIn w i m) (pairDigit low high m)) rowGroups (h - 1) (j - 1)
-            (omega arith) (omega arith),
-      )
+  true-two : 1 < heldBy c l i → inColumn two 0 i ≡ true
+  true-two h = one-column two 0 i (omega (arith, k .in-two i o))
 
 -- whether rule q, one of the first four, can be broken at a group of any sheet
 abbrev pub may : Sheet → ℕ → Rule → Bool
@@ -86,46 +50,61 @@ may s g shared = s .disjoint g
 may s g below = false
 may s g above = false
 
--- a rule of one member is broken exactly by a row that breaks it, where it can be broken
-module _ (s : Sheet) (w : List ℕ) (low high n g : ℕ) (k : WordsOf (sonList s g) low high) (z : s .size ≤ rowGroups) (y : Group s g) where
-  pub by-row : (q : Rule) (i : ℕ) → ruleNumber q < 5 → i < n → may s g q ≡ true
-      → rowBreaks (ruleNumber q) w i low high g (s .parent g) ≡ true
-      → Broken s (wordSets w n) g q
+-- A rule of one member is broken exactly by a row that breaks it, where it can be broken. Columns have no digits after row n.
+module _ (s : Sheet) (T : Tree s) (c : List ℕ) (n words : ℕ) (some two : List ℕ) (g : ℕ) (f : WordsFor n words)
+    (others : (h i : ℕ) → Group s h → n ≤ i → i < rowLimit → columnDigit c h i ≡ 0) (y : Group s g)
+    (k : (q : Rule) → 3 ≤ ruleNumber q → may s g q ≡ true → Joined (sonList s g) c words some two) where
+  in-rows : (h i : ℕ) → Group s h → i < wordBits * words → inColumn c h i ≡ true → i < n
+  in-rows h i z o e =
+      compare-le n i
+      (λ m. absurd (omega (arith, column-one c h i e, others h i z m (omega (arith, f .most)))))
+      (λ m. m)
+
+  pub by-row : (q : Rule) (i : ℕ) → ruleNumber q < 5 → i < wordBits * words → may s g q ≡ true
+      → rowBreaks (ruleNumber q) c some two g (s .parent g) i ≡ true
+      → Broken s (columnSets c n) g q
   unfolding rowBreaks
   by-row outside i l o m e =
-      let x = and-true (holds w i g) (not (holds w i (s .parent g))) e in
-      (s .parent g, i, record { above = ltb-true 0 (s .parent g) m; group = y; under = refl }, o, x .0, not-true _ (x .1))
-  by-row lacking i l o m e =
-      let x = and-true (holds w i (s .parent g)) (not (holds w i g)) e in
-      let v = and-true (ltb 0 (s .parent g)) (s .same (s .parent g)) m in (
+      let x = and-true (inColumn c g i) (not (inColumn c (s .parent g) i)) e in (
         s .parent g,
         i,
-        record { above = ltb-true 0 (s .parent g) (v .0); group = y; under = refl },
-        v .1,
-        o,
+        record { above = ltb-true 0 (s .parent g) m; group = y; under = refl },
+        in-rows g i y o (x .0),
         x .0,
         not-true _ (x .1),
       )
+  by-row lacking i l o m e =
+      let x = and-true (inColumn c (s .parent g) i) (not (inColumn c g i)) e in
+      let v = and-true (ltb 0 (s .parent g)) (s .same (s .parent g)) m in
+      let z : Son s (s .parent g) g = record { above = ltb-true 0 (s .parent g) (v .0); group = y; under = refl } in
+      (s .parent g, i, z, v .1, in-rows (s .parent g) i (son-parent T z) o (x .0), x .0, not-true _ (x .1))
   by-row uncovered i l o m e =
-      let x = and-true (holds w i g) (eqb (commonCount w i low high) 0) e in
-      (i, m, o, x .0, none-found s w low high i g k z (eqb-true (commonCount w i low high) 0 (x .1)))
+      let x = and-true (inColumn c g i) (not (inColumn some 0 i)) e in (
+        i,
+        m,
+        in-rows g i y o (x .0),
+        x .0,
+        none-held s c g i (some-false (k uncovered (omega arith) m) i o (not-true _ (x .1))),
+      )
   by-row shared i l o m e =
-      let x = two-found s w low high i g k z (ltb-true 1 (commonCount w i low high) e) in
-      (x .0, x .1, i, m, x .2, x .3, x .4, o, x .5, x .6)
+      let x = two-held s c g i (two-true (k shared (omega arith) m) i o e) in
+      (x .0, x .1, i, m, x .2, x .3, x .4, in-rows (x .0) i (x .2 .group) o (x .5), x .5, x .6)
   by-row below i l o m e = absurd (omega arith)
   by-row above i l o m e = absurd (omega arith)
 
-  pub row-of : (q : Rule) → ruleNumber q < 5 → Broken s (wordSets w n) g q
-      → (may s g q ≡ true) × ((i : ℕ) × (i < n) × (rowBreaks (ruleNumber q) w i low high g (s .parent g) ≡ true))
+  pub row-of : (q : Rule) → ruleNumber q < 5 → Broken s (columnSets c n) g q
+      → (may s g q ≡ true) × ((i : ℕ) × (i < wordBits * words) × (rowBreaks (ruleNumber q) c some two g (s .parent g) i ≡ true))
   unfolding rowBreaks
-  row-of outside l (p, i, c, o, a, b) =
-      (lt-ltb 0 (s .parent g) (omega arith), (i, o, rw (c .under, a, b)))
-  row-of lacking l (p, i, c, m, o, a, b) =
-      (rw (lt-ltb 0 (s .parent g) (omega arith), c .under) m, (i, o, rw (c .under, a, b)))
-  row-of uncovered l (i, m, o, a, f) =
-      (m, (i, o, rw (a, eq-eqb (commonCount w i low high) 0 (found-none s w low high i g k z f))))
-  row-of shared l (h, j, i, m, c, d, x, o, a, b) =
-      (m, (i, o, lt-ltb 1 (commonCount w i low high) (found-two s w low high i g k z h j c d x a b)))
+  row-of outside l (p, i, z, o, a, b) =
+      (lt-ltb 0 (s .parent g) (omega arith), (i, omega (arith, f .enough), rw (z .under, a, b)))
+  row-of lacking l (p, i, z, m, o, a, b) =
+      (rw (lt-ltb 0 (s .parent g) (omega arith), z .under) m, (i, omega (arith, f .enough), rw (z .under, a, b)))
+  row-of uncovered l (i, m, o, a, h) =
+      let w : i < wordBits * words = omega (arith, f .enough) in
+      (m, (i, w, rw (a, false-some (k uncovered (omega arith) m) i w (held-none s c g i h))))
+  row-of shared l (h, j, i, m, z, d, x, o, a, b) =
+      let w : i < wordBits * words = omega (arith, f .enough) in
+      (m, (i, w, true-two (k shared (omega arith) m) i w (held-two s c g i h j z d x a b)))
   row-of below l v = absurd (omega arith)
   row-of above l v = absurd (omega arith)
 
@@ -155,15 +134,6 @@ rule-numbered (suc (suc (suc (suc (suc zero))))) a b = (below, refl)
 rule-numbered (suc (suc (suc (suc (suc (suc zero)))))) a b = (above, refl)
 rule-numbered (suc (suc (suc (suc (suc (suc (suc k))))))) a b = absurd (omega arith)
 
--- rules 1 and 2 need a parent
-pub may-parent : (t : List ℕ) (g k : ℕ) → 1 ≤ k → k ≤ 2 → mayBreak t g k ≡ true → 1 ≤ parentIn t g
-unfolding mayBreak
-may-parent t g zero a b e = absurd (omega arith)
-may-parent t g (suc zero) a b e = ltb-true 0 (parentIn t g) e
-may-parent t g (suc (suc zero)) a b e =
-    ltb-true 0 (parentIn t g) (and-true (ltb 0 (parentIn t g)) (sameMode (modeIn t (parentIn t g))) e .0)
-may-parent t g (suc (suc (suc k))) a b e = absurd (omega arith)
-
 -- the tests of a table of groups
 module _ {t : List ℕ} {n : ℕ} (k : Tabled t n) (g : ℕ) (a : 1 ≤ g) (b : g ≤ n) where
   group : Group (sheetIn t n) g
@@ -184,6 +154,15 @@ module _ {t : List ℕ} {n : ℕ} (k : Tabled t n) (g : ℕ) (a : 1 ≤ g) (b : 
   may-is shared l = rw (disjoint-in t n g group)
   may-is below l = absurd (omega arith)
   may-is above l = absurd (omega arith)
+
+  -- a group where rule 3 or rule 4 can be broken is 'cover' or 'disjoint'
+  pub may-asked : (q : Rule) → 3 ≤ ruleNumber q → may (sheetIn t n) g q ≡ true → modeIn t g % 4 ≡ 0 → ⊥
+  may-asked outside l m e = omega arith
+  may-asked lacking l m e = omega arith
+  may-asked uncovered l m e = omega (arith, eqb-true (modeIn t g / 2 % 2) 1 (sym (cover-in t n g group) ∙ m))
+  may-asked shared l m e = omega (arith, eqb-true (modeIn t g % 2) 1 (sym (disjoint-in t n g group) ∙ m))
+  may-asked below l m e = false≢true m
+  may-asked above l m e = false≢true m
 
   -- a count that breaks a rule, and a rule that a count breaks
   over : (c h : ℕ) → (not (eqb h noEnd) && ltb h c) ≡ true → AtMost c (endOf noEnd h) → ⊥

@@ -1,26 +1,28 @@
--- What the scan has passed: groups, rules and rows of which nothing is broken; and what its end says.
-use Prim.Native.Nat.{ℕ, _+_, _≤_, _<_}
+-- What the scan has passed: groups, rules and words of rows of which nothing is broken; and what its end says.
+use Prim.Native.Nat.{ℕ, _+_, _-_, _*_, _≤_, _<_}
 use mathlib.Core.Path.{_≡_, refl, sym, _∙_}
-use mathlib.Core.Bool.{true, false}
+use mathlib.Core.Bool.{Bool, true, false}
 use mathlib.Core.List.{List}
 use native.Mathlib.Omega.{arith}
 use native.Mathlib.Numerals.{add-one}
 use lib.ListN.{getD}
-use Rattle.registers.specs.Words.{rowGroups}
+use Rattle.rows.specs.RowsRead.{wordBits}
 use Rattle.meaning.specs.Sheet.{Sheet, Group}
 use Rattle.meaning.specs.SonList.{sonList}
 use Rattle.meaning.specs.Sets.{Sets}
 use Rattle.meaning.specs.Rule.{Rule, ruleNumber, Broken}
 use Rattle.reading.specs.SheetIn.{sheetIn, size-in, group-in, parent-in}
-use Rattle.laws.specs.Cases.{below-suc, true-not-false}
+use Rattle.laws.specs.Cases.{compare-le, below-suc, true-not-false}
 use Rattle.registers.specs.Unbroken.{unbroken-fits, fits-answered, broken-answered}
-use Rattle.registers.specs.Words.{WordsOf, wordSets, words-distinct}
-use Rattle.registers.specs.Tallies.{Checkable, Counted}
-use Rattle.registers.specs.RuleTests.{parentIn, mayBreak, rowBreaks, countBreaks}
+use Rattle.registers.specs.Columns.{columnSets, columns-distinct, WordsFor}
+use Rattle.registers.specs.SonLists.{keptSons}
+use Rattle.registers.specs.Joins.{Joined, JoinedFor}
+use Rattle.registers.specs.Tallies.{Checkable, Gathered}
+use Rattle.registers.specs.RuleTests.{parentIn, modeIn, mayBreak, rowBreaks, SomeBit, countBreaks}
 use Rattle.registers.specs.Checked.{AnswerTo}
 use Rattle.reading.specs.declared.tables.GroupNo.{GroupNo}
 use Rattle.registers.specs.declared.check.Check.the-variants as check
-use Rattle.registers.proofs.RuleLaws.{rule-first, rule-last, rule-numbered, by-row, row-of, may-is, by-count, count-of}
+use Rattle.registers.proofs.RuleLaws.{may, rule-first, rule-last, rule-numbered, by-row, row-of, may-is, may-asked, by-count, count-of}
 
 -- nothing is broken at a group before g
 pub record ClearGroups {X : Type 0} (s : Sheet) (A : Sets X) (g : ℕ) : Type 0 where
@@ -30,22 +32,27 @@ pub record ClearGroups {X : Type 0} (s : Sheet) (A : Sets X) (g : ℕ) : Type 0 
 pub record ClearRules {X : Type 0} (s : Sheet) (A : Sets X) (g k : ℕ) : Type 0 where
   pub clear : (q : Rule) → ruleNumber q < k → Broken s A g q → ⊥
 
--- no row before `row` breaks rule k at group g
-pub record ClearRows (k : ℕ) (w : List ℕ) (row low high g p : ℕ) : Type 0 where
-  pub clear : (i : ℕ) → i < row → rowBreaks k w i low high g p ≡ false
+-- no row of a word before w breaks rule k at group g
+pub record ClearRows (k : ℕ) (c some two : List ℕ) (w g p : ℕ) : Type 0 where
+  pub clear : (i : ℕ) → i < wordBits * w → rowBreaks k c some two g p i ≡ false
 
-pub rows-none : (k : ℕ) (w : List ℕ) (low high g p : ℕ) → ClearRows k w 0 low high g p
-rows-none k w low high g p = record { clear = λ i l. absurd (omega arith) }
+pub rows-none : (k : ℕ) (c some two : List ℕ) (g p : ℕ) → ClearRows k c some two 0 g p
+rows-none k c some two g p = record { clear = λ i l. absurd (omega arith) }
 
-pub rows-more : (k : ℕ) (w : List ℕ) (row low high g p : ℕ) → ClearRows k w row low high g p
-    → rowBreaks k w row low high g p ≡ false
-    → ClearRows k w (row + 1) low high g p
-rows-more k w row low high g p c e =
-    record { clear = λ i l. below-suc i row (rw add-one at l) (λ (x : i ≡ row). rw x e) (λ x. c .clear i x) }
+pub rows-more : {k : ℕ} {c some two : List ℕ} {w g p : ℕ} {r : Bool} → ClearRows k c some two w g p
+    → SomeBit (λ j. rowBreaks k c some two g p (wordBits * w + j)) r → r ≡ false
+    → ClearRows k c some two (w + 1) g p
+rows-more {k} {c} {some} {two} {w} {g} {p} d b e =
+    record {
+      clear = λ i l.
+          compare-le (wordBits * w) i
+          (λ o. let z : wordBits * w + (i - wordBits * w) ≡ i = omega arith in rw z at (b .none e (i - wordBits * w) (omega arith)))
+          (λ o. d .clear i o);
+    }
 
-rows-clash : (j k : ℕ) (w : List ℕ) (row low high g o p : ℕ) → j ≡ k → o ≡ p → ClearRows k w row low high g p
-    → (i : ℕ) → i < row → rowBreaks j w i low high g o ≡ true → ⊥
-rows-clash j k w row low high g o p d e c i l x = true-not-false _ (rw (d, e) at x) (c .clear i l)
+rows-clash : {j k : ℕ} {c some two : List ℕ} {w g o p : ℕ} → j ≡ k → o ≡ p → ClearRows k c some two w g p
+    → (i : ℕ) → i < wordBits * w → rowBreaks j c some two g o i ≡ true → ⊥
+rows-clash d e f i l x = true-not-false _ (rw (d, e) at x) (f .clear i l)
 
 pub rules-none : {X : Type 0} (s : Sheet) (A : Sets X) (g : ℕ) → ClearRules s A g 1
 rules-none s A g = record { clear = λ q l b. omega (arith, rule-first q) }
@@ -69,80 +76,85 @@ rules-more : {X : Type 0} (s : Sheet) (A : Sets X) (g k : ℕ) → ClearRules s 
 rules-more s A g k c f =
     record { clear = λ q l b. below-suc (ruleNumber q) k (rw add-one at l) (λ x. f q x b) (λ x. c .clear q x b) }
 
-module _ (t : List ℕ) (n : ℕ) (w : List ℕ) (rows : ℕ) (counts : List ℕ) (T : Checkable t n)
-    (tally : Counted (wordSets w rows) counts) where
-  size-most : sheetIn t n .size ≤ rowGroups
-  size-most = omega (arith, size-in t n, T .most)
-
+module _ {t : List ℕ} {n : ℕ} {c : List ℕ} {rows : ℕ} {starts order counts some₀ two₀ : List ℕ} (T : Checkable t n)
+    (G : Gathered t n c rows starts order counts some₀ two₀) where
   -- nothing is broken at any group
-  pub scan-fits : (g : ℕ) → n < g → ClearGroups (sheetIn t n) (wordSets w rows) g
-      → AnswerTo (sheetIn t n) (wordSets w rows) check.Fits
-  scan-fits g l c =
+  pub scan-fits : (g : ℕ) → n < g → ClearGroups (sheetIn t n) (columnSets c rows) g
+      → AnswerTo (sheetIn t n) (columnSets c rows) check.Fits
+  scan-fits g l d =
       record {
         names = record { group = 0; rule = 0 };
         gives = refl;
-        answered = fits-answered (unbroken-fits (sheetIn t n) (wordSets w rows) (T .tabled .tree) (words-distinct w rows)
-            (λ h y q b. c .clear h y (omega (arith, y .last, size-in t n)) q b));
+        answered = fits-answered (unbroken-fits (sheetIn t n) (columnSets c rows) (T .tabled .tree) (columns-distinct c rows)
+            (λ h y q b. d .clear h y (omega (arith, y .last, size-in t n)) q b));
       }
 
-  module _ (g k low high : ℕ) (a : 1 ≤ g) (b : g ≤ n) (sons : WordsOf (sonList (sheetIn t n) g) low high)
-      (c : ClearRules (sheetIn t n) (wordSets w rows) g k) where
+  module _ {words : ℕ} {some two : List ℕ} (g k : ℕ) (a : 1 ≤ g) (b : g ≤ n) (f : WordsFor rows words)
+      (sons : JoinedFor (modeIn t g) (keptSons starts order g) c words some two)
+      (r : ClearRules (sheetIn t n) (columnSets c rows) g k) where
+    group : Group (sheetIn t n) g
+    group = group-in t n a b
+
+    joined : (q : Rule) → 3 ≤ ruleNumber q → may (sheetIn t n) g q ≡ true → Joined (sonList (sheetIn t n) g) c words some two
+    joined q l m = rw (← G .sons .listed g group) (sons .joined (may-asked (T .tabled) g a b q l m))
+
     -- no row breaks the rule
-    pub rules-row : k < 5 → (row : ℕ) → rows ≤ row → ClearRows k w row low high g (parentIn t g)
-        → ClearRules (sheetIn t n) (wordSets w rows) g (k + 1)
-    rules-row l row m d =
-        rules-more (sheetIn t n) (wordSets w rows) g k c
+    pub rules-row : k < 5 → (w : ℕ) → words ≤ w → ClearRows k c some two w g (parentIn t g)
+        → ClearRules (sheetIn t n) (columnSets c rows) g (k + 1)
+    rules-row l w m d =
+        rules-more (sheetIn t n) (columnSets c rows) g k r
         (λ q e v.
-        let x = row-of (sheetIn t n) w low high rows g sons size-most (group-in t n a b) q (omega arith) v .1 in
-        rows-clash (ruleNumber q) k w row low high g _ _ e (parent-in t n g (group-in t n a b)) d (x .0) (omega arith) (x .2))
+        let x = row-of (sheetIn t n) (T .tabled .tree) c rows words some two g f (G .others) group joined q (omega arith) v .1 in
+        rows-clash e (parent-in t n g group) d (x .0) (omega arith) (x .2))
 
     -- the rule cannot be broken at the group
-    pub rules-not : k < 5 → mayBreak t g k ≡ false → ClearRules (sheetIn t n) (wordSets w rows) g (k + 1)
+    pub rules-not : k < 5 → mayBreak t g k ≡ false → ClearRules (sheetIn t n) (columnSets c rows) g (k + 1)
     rules-not l d =
-        rules-more (sheetIn t n) (wordSets w rows) g k c
+        rules-more (sheetIn t n) (columnSets c rows) g k r
         (λ q e v.
-        let x = row-of (sheetIn t n) w low high rows g sons size-most (group-in t n a b) q (omega arith) v .0 in
+        let x = row-of (sheetIn t n) (T .tabled .tree) c rows words some two g f (G .others) group joined q (omega arith) v .0 in
         true-not-false _ x (sym (may-is (T .tabled) g a b q (omega arith)) ∙ (rw e d)))
 
     -- the count does not break the rule
     pub rules-count : 5 ≤ k → countBreaks t (getD counts g 0) g k ≡ false
-        → ClearRules (sheetIn t n) (wordSets w rows) g (k + 1)
+        → ClearRules (sheetIn t n) (columnSets c rows) g (k + 1)
     rules-count l d =
-        rules-more (sheetIn t n) (wordSets w rows) g k c
-        (λ q e v. count-of (T .tabled) g a b (wordSets w rows) q (getD counts g 0) (omega arith) (tally .each g a (omega (arith, T .most)))
-        (rw e d) v)
+        rules-more (sheetIn t n) (columnSets c rows) g k r
+        (λ q e v. count-of (T .tabled) g a b (columnSets c rows) q (getD counts g 0) (omega arith) (G .counts .each g group) (rw e d) v)
 
-    module _ (d : ClearGroups (sheetIn t n) (wordSets w rows) g) (f : 1 ≤ k) (p : GroupNo) (e : p .0 ≡ g) where
+    module _ (d : ClearGroups (sheetIn t n) (columnSets c rows) g) (o : 1 ≤ k) (p : GroupNo) (e : p .0 ≡ g) where
       -- the rule is broken
-      scan-broken : (q : Rule) → k ≡ ruleNumber q → Broken (sheetIn t n) (wordSets w rows) g q
-          → AnswerTo (sheetIn t n) (wordSets w rows) (check.Broken p k)
+      scan-broken : (q : Rule) → k ≡ ruleNumber q → Broken (sheetIn t n) (columnSets c rows) g q
+          → AnswerTo (sheetIn t n) (columnSets c rows) (check.Broken p k)
       scan-broken q i v =
           record {
             names = record { group = p .0; rule = k };
             gives = refl;
             answered = rw (e, i) (broken-answered q (record {
-              group = group-in t n a b;
+              group = group;
               broken = v;
               lowest = d .clear;
-              first = λ p o. c .clear p (omega arith);
+              first = λ p l. r .clear p (omega arith);
             }));
           }
 
-      -- a row breaks it
-      pub scan-row : k < 5 → (row : ℕ) → row < rows → mayBreak t g k ≡ true → rowBreaks k w row low high g (parentIn t g) ≡ true
-          → AnswerTo (sheetIn t n) (wordSets w rows) (check.Broken p k)
-      scan-row l row m x y =
-          let q = rule-numbered k f (omega arith) in
+      -- a row of a word breaks it
+      pub scan-row : k < 5 → (w : ℕ) → w < words → mayBreak t g k ≡ true
+          → (x : Bool) → SomeBit (λ j. rowBreaks k c some two g (parentIn t g) (wordBits * w + j)) x → x ≡ true
+          → AnswerTo (sheetIn t n) (columnSets c rows) (check.Broken p k)
+      scan-row l w m y x z h =
+          let q = rule-numbered k o (omega arith) in
+          let j = z .some h in
           scan-broken (q .0) (q .1)
-          (by-row (sheetIn t n) w low high rows g sons size-most (group-in t n a b) (q .0) row (omega arith) m
-          (sym (may-is (T .tabled) g a b (q .0) (omega arith)) ∙ (rw (← q .1) x))
-          (rw (← q .1, parent-in t n g (group-in t n a b)) y))
+          (by-row (sheetIn t n) (T .tabled .tree) c rows words some two g f (G .others) group joined (q .0) (wordBits * w + j .0)
+          (omega arith) (omega arith)
+          (sym (may-is (T .tabled) g a b (q .0) (omega arith)) ∙ (rw (← q .1) y))
+          (rw (← q .1, parent-in t n g group) (j .2)))
 
       -- the count breaks it
       pub scan-count : 5 ≤ k → k < 7 → countBreaks t (getD counts g 0) g k ≡ true
-          → AnswerTo (sheetIn t n) (wordSets w rows) (check.Broken p k)
+          → AnswerTo (sheetIn t n) (columnSets c rows) (check.Broken p k)
       scan-count l m x =
-          let q = rule-numbered k f m in
+          let q = rule-numbered k o m in
           scan-broken (q .0) (q .1)
-          (by-count (T .tabled) g a b (wordSets w rows) (q .0) (getD counts g 0) (omega arith) (tally .each g a (omega (arith, T .most)))
-          (rw (← q .1) x))
+          (by-count (T .tabled) g a b (columnSets c rows) (q .0) (getD counts g 0) (omega arith) (G .counts .each g group) (rw (← q .1) x))

@@ -19,7 +19,7 @@ pub agree-sym : {X Y : Type 0} {s : Sheet} {A : Sets X} {B : Sets Y} → Agree s
 agree-sym {X} {Y} {s} {A} {B} h =
     record { bound = sym (h .bound); groups = λ i g l k. sym (h .groups i g (rw (h .bound) l) k) }
 
-count-agree : {X Y : Type 0} (s : Sheet) (A : Sets X) (B : Sets Y) (g : ℕ) → Agree s A B → Group s g → count A g ≡ count B g
+pub count-agree : {X Y : Type 0} (s : Sheet) (A : Sets X) (B : Sets Y) (g : ℕ) → Agree s A B → Group s g → count A g ≡ count B g
 unfolding count
 count-agree s A B g h k =
     sum-eq (λ i. bit (groupsOf A i g)) (λ i. bit (groupsOf B i g)) (A .bound) (λ i l. ap bit (h .groups i g l k))

@@ -8,6 +8,7 @@ use Rattle.meaning.specs.Sheet.{Sheet}
 use Rattle.meaning.specs.Sets.{Sets}
 use Rattle.meaning.specs.Rule.{Answered}
 use Rattle.meaning.specs.OfRecords.{listedSets}
+use Rattle.registers.specs.Tallies.{Counted}
 use Rattle.registers.specs.declared.check.Check.{Check}
 use Rattle.registers.specs.declared.check.Check.the-variants as check
 
@@ -32,3 +33,7 @@ pub record AnswerTo {X : Type 0} (s : Sheet) (A : Sets X) (r : Check) : Type 0 w
 pub record Checked (s : Sheet) (d : Reading (List Row)) (r : Check) : Type 0 where
   pub refusal : (n k : ℕ) → d ≡ refused n k → checkGives r ≡ refused n k
   pub answer : (rows : List Row) → d ≡ read rows → AnswerTo s (listedSets rows) r
+
+-- the counts that the check of a register leaves: of the sets that its rows list, where it is read
+pub record Tallied (s : Sheet) (d : Reading (List Row)) (t : List ℕ) : Type 0 where
+  pub counts : (rows : List Row) → d ≡ read rows → Counted s (listedSets rows) t

@@ -1,8 +1,9 @@
 pub mod Unbroken
-pub mod Words
-pub mod RowsRead
+pub mod Columns
+pub mod ColumnSteps
 pub mod SonLists
 pub mod SonSteps
+pub mod Joins
 pub mod Tallies
 pub mod RuleTests
 pub mod Checked

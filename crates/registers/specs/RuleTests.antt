@@ -1,13 +1,15 @@
--- The tests that the scan makes: whether a rule of one member can be broken at a group, whether a row breaks it, whether a
--- count does. Rules go by document 01's numbers.
-use Prim.Native.Nat.{ℕ, _+_, _-_, _*_}
-use mathlib.Core.Bool.{Bool, cond, not, _&&_}
+-- The tests that the scan makes: whether a rule of one member can be broken at a group, whether a row breaks it, whether some
+-- row of a word does, whether a count does. Rules go by document 01's numbers.
+use Prim.Native.Nat.{ℕ, _+_, _-_, _*_, _<_}
+use mathlib.Core.Path.{_≡_}
+use mathlib.Core.Bool.{Bool, true, false, cond, not, _&&_}
 use mathlib.Core.List.{List}
 use lib.ListN.{getD}
 use lib.Dec.{ltb, eqb}
 use Rattle.wire.specs.Limits.{noEnd}
 use Rattle.reading.specs.Modes.{disjointMode, coverMode, sameMode}
-use Rattle.registers.specs.Words.{holds, commonCount}
+use Rattle.rows.specs.RowsRead.{wordBits}
+use Rattle.registers.specs.Columns.{inColumn}
 
 -- by a rule's number, 1 to 4
 abbrev pub byRule : ℕ → Bool → Bool → Bool → Bool → Bool
@@ -36,15 +38,21 @@ mayBreak t g k =
     (coverMode (modeIn t g))
     (disjointMode (modeIn t g))
 
--- whether row i of the words w breaks rule k at group g, whose parent is p and whose sons are the digits of low and high
-unfoldable pub rowBreaks : ℕ → List ℕ → ℕ → ℕ → ℕ → ℕ → ℕ → Bool
-rowBreaks k w i low high g p =
+-- whether row i of the columns c breaks rule k at group g, whose parent is p; column 0 of `some` and of `two` tells who is in
+-- some son and who is in two
+unfoldable pub rowBreaks : ℕ → List ℕ → List ℕ → List ℕ → ℕ → ℕ → ℕ → Bool
+rowBreaks k c some two g p i =
     byRule
     k
-    (holds w i g && not (holds w i p))
-    (holds w i p && not (holds w i g))
-    (holds w i g && eqb (commonCount w i low high) 0)
-    (ltb 1 (commonCount w i low high))
+    (inColumn c g i && not (inColumn c p i))
+    (inColumn c p i && not (inColumn c g i))
+    (inColumn c g i && not (inColumn some 0 i))
+    (inColumn two 0 i)
+
+-- whether one of the 64 rows of a word passes a test
+pub record SomeBit (f : ℕ → Bool) (r : Bool) : Type 0 where
+  pub some : r ≡ true → (j : ℕ) × (j < wordBits) × (f j ≡ true)
+  pub none : r ≡ false → (j : ℕ) → j < wordBits → f j ≡ false
 
 -- whether a count c of group g breaks rule 5 or rule 6
 unfoldable pub countBreaks : List ℕ → ℕ → ℕ → ℕ → Bool

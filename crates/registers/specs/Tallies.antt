@@ -1,51 +1,55 @@
--- What the check asks of a table of groups, and what it has gathered before it looks for broken rules: the rows' words, each
+-- What the check asks of a table of groups, and what it has gathered before it looks for broken rules: the columns, each
 -- group's sons, and each group's count.
-use Prim.Native.Nat.{ℕ, _+_, _-_, _*_, _≤_, _<_}
+use Prim.Native.Nat.{ℕ, _+_, _≤_, _<_}
 use mathlib.Core.Path.{_≡_}
 use mathlib.Core.List.{List}
 use lib.ListN.{length, getD}
-use Rattle.registers.specs.Words.{rowGroups}
+use Rattle.wire.specs.Limits.{rowLimit}
+use Rattle.meaning.specs.Sheet.{Sheet, Group}
 use Rattle.meaning.specs.Sets.{Sets, count}
 use Rattle.reading.specs.SheetIn.{sheetIn, Tabled}
-use Rattle.registers.specs.Words.{pairDigit, wordSets}
+use Rattle.rows.specs.RowsRead.{rowGroups}
+use Rattle.registers.specs.Columns.{columnWords, groupPlaces, columnsLength, columnDigit, columnSets}
 use Rattle.registers.specs.SonLists.{SonsListed}
+use Rattle.registers.specs.SonSteps.{SonsReadable}
 
 -- the table holds the groups of a readable sheet, and a row has a bit for each
 pub record Checkable (t : List ℕ) (n : ℕ) : Type 0 where
   pub tabled : Tabled t n
   pub most : n ≤ rowGroups
 
--- places of a table by group: group numbers start at 1, and place 0 is for none
-abbrev pub groupPlaces : ℕ
-groupPlaces = rowGroups + 1
-
 -- places of the table that has where each group's sons begin, and where the last list ends
 abbrev pub sonStarts : ℕ
 sonStarts = groupPlaces + 1
 
 -- place g of the table is the count of group g
-pub record Counted {X : Type 0} (A : Sets X) (t : List ℕ) : Type 0 where
-  pub each : (g : ℕ) → 1 ≤ g → g ≤ rowGroups → getD t g 0 ≡ count A g
+pub record Counted {X : Type 0} (s : Sheet) (A : Sets X) (t : List ℕ) : Type 0 where
+  pub each : (g : ℕ) → Group s g → getD t g 0 ≡ count A g
 
--- one more in the table for each group of a row
-pub record CountedRow (low high : ℕ) (t u : List ℕ) : Type 0 where
-  pub each : (g : ℕ) → 1 ≤ g → g ≤ rowGroups → getD u g 0 ≡ getD t g 0 + pairDigit low high (g - 1)
+-- all that the scan takes: the columns c of n rows, the lists of sons, the counts u, and two tables of a column each
+pub record Gathered (t : List ℕ) (size : ℕ) (c : List ℕ) (n : ℕ) (starts order u some two : List ℕ) : Type 0 where
+  pub columns : columnsLength ≤ length c
+  pub rows : n ≤ rowLimit
+  pub others : (g i : ℕ) → Group (sheetIn t size) g → n ≤ i → i < rowLimit → columnDigit c g i ≡ 0
+  pub sons : SonsListed (sheetIn t size) starts order
+  pub places : groupPlaces ≤ length u
+  pub counts : Counted (sheetIn t size) (columnSets c n) u
+  pub some-words : columnWords ≤ length some
+  pub two-words : columnWords ≤ length two
 
--- no group's count is above m
-pub record CountsTo (m : ℕ) (t : List ℕ) : Type 0 where
-  pub each : (g : ℕ) → 1 ≤ g → g ≤ rowGroups → getD t g 0 ≤ m
+-- what is asked for to join the columns of group g's sons
+pub record Joinable (c : List ℕ) (words : ℕ) (starts order : List ℕ) (g : ℕ) (some two : List ℕ) : Type 0 where
+  pub readable : SonsReadable starts order g
+  pub most : words ≤ columnWords
+  pub columns : columnsLength ≤ length c
+  pub some-words : words ≤ length some
+  pub two-words : words ≤ length two
 
--- all that the scan takes: the words w of the rows, the lists of sons and the counts c
-pub record Gathered (t : List ℕ) (n : ℕ) (w : List ℕ) (rows : ℕ) (starts order c : List ℕ) : Type 0 where
-  pub row-words : 2 * rows ≤ length w
-  pub sons : SonsListed (sheetIn t n) starts order
-  pub places : groupPlaces ≤ length c
-  pub counts : Counted (wordSets w rows) c
-
--- what the test of one row asks: row and groups are within the tables, and rules 1 and 2 have a parent p
-pub record RowAsked (rule : ℕ) (w : List ℕ) (row g p : ℕ) : Type 0 where
-  pub row-words : 2 * row + 1 < length w
-  pub first : 1 ≤ g
+-- what the test of one word asks: word and groups are within the tables
+pub record WordAsked (c some two : List ℕ) (w g p : ℕ) : Type 0 where
+  pub columns : columnsLength ≤ length c
+  pub word : w < columnWords
   pub last : g ≤ rowGroups
-  pub parent : rule ≤ 2 → 1 ≤ p
   pub parent-last : p ≤ rowGroups
+  pub some-words : w < length some
+  pub two-words : w < length two

@@ -1,95 +1,45 @@
 // The check of a register: the lowest broken group with its first broken rule, once all rows are read.
+use crate::columns::column_word;
+use crate::columns::fill_columns;
+use crate::columns::words_for;
 use crate::counts::count_groups;
 use crate::counts::count_of;
-use crate::limits::GROUP_PLACES;
-use crate::limits::ROW_WORDS;
+use crate::joins::join_sons;
+use crate::limits::COLUMN_WORDS;
+use crate::limits::COLUMNS;
 use crate::limits::SON_STARTS;
 use crate::limits::SONS;
-use crate::rows::Rows;
-use crate::rows::read_rows;
-use crate::sons::GroupWords;
 use crate::sons::gather_sons;
-use crate::sons::sons_of;
 use reading::tables::GroupNo;
 use reading::tables::NO_END;
 use reading::tables::hi_of;
 use reading::tables::lo_of;
 use reading::tables::mode_of;
 use reading::tables::parent_of;
+use rows::read::Rows;
+use rows::read::read_rows;
 ghost use mathlib.Core.Path.{_≡_};
+ghost use mathlib.Core.Bool.{not, _&&_};
 ghost use Prim.Native.Nat.{_+_, _*_, _≤_, _<_};
 ghost use lib.ListN.{length, getD};
-ghost use lib.Dec.{eqb, ltb};
-ghost use lib.Count.{ones};
-ghost use Rattle.laws.specs.Sum.{sum};
-ghost use Rattle.registers.specs.Words.{rowGroups};
+ghost use lib.Dec.{eqb};
+ghost use Rattle.laws.specs.Digits.{digit};
 ghost use Rattle.wire.specs.Edition.{edition1};
 ghost use Rattle.wire.specs.RegisterFormat.{readRegister};
 ghost use Rattle.reading.specs.SheetIn.{sheetIn};
-ghost use Rattle.registers.specs.Words.{pairDigit, holds, Common, wordSets};
-ghost use Rattle.registers.specs.Tallies.{Checkable, Gathered, RowAsked};
-ghost use Rattle.registers.specs.RuleTests.{parentIn, mayBreak, rowBreaks, countBreaks};
-ghost use Rattle.registers.specs.Checked.{AnswerTo, Checked};
+ghost use Rattle.rows.specs.RowsRead.{wordBits};
+ghost use Rattle.registers.specs.Columns.{groupPlaces, columnSets};
+ghost use Rattle.registers.specs.Tallies.{Checkable, Gathered, Joinable, WordAsked};
+ghost use Rattle.registers.specs.SonLists.{keptSons};
+ghost use Rattle.registers.specs.Joins.{JoinedFor};
+ghost use Rattle.registers.specs.RuleTests.{parentIn, modeIn, mayBreak, SomeBit, rowBreaks, countBreaks};
+ghost use Rattle.registers.specs.Checked.{AnswerTo, Checked, Tallied};
 
 // The listed sets fit; a group's number with the number of the rule that it breaks first; or a refusal's number with the row's.
 pub enum Check {
     Fits,
     Broken(GroupNo, u16),
     Refused(u32, u32),
-}
-
-// whether group g is in the set at place i of a table
-fn has(table: &[u64], i: usize, g: GroupNo) -> bool
-    requires { ⌜ (2 * i + 1 < length (now table)) × ((1 ≤ g .0) × (g .0 ≤ rowGroups)) ⌝ }
-    ensures { λ r. ⌜ r ≡ holds (now (table .entry)) i (g .0) ⌝ }
-{
-    let j = g.0 as usize - 1;
-    let w = table[2 * i + j / 64];
-    (w >> (j % 64)) % 2 == 1
-}
-
-// those of the sons that the row has
-fn sons_in(words: &[u64], row: usize, sons: GroupWords) -> GroupWords
-    requires { ⌜ 2 * row + 1 < length (now words) ⌝ }
-    ensures { λ r. ⌜ Common (now (words .entry)) row (sons .low) (sons .high) (r .low) (r .high) ⌝ }
-{
-    GroupWords {
-        low: words[2 * row] & sons.low,
-        high: words[2 * row + 1] & sons.high,
-    }
-}
-
-// whether two words have no group
-fn none_in(low: u64, high: u64) -> bool
-    ensures { λ r. ⌜ r ≡ eqb (sum (pairDigit low high) rowGroups) 0 ⌝ }
-{
-    if low != 0 {
-        return false;
-    }
-    high == 0
-}
-
-// whether a word has two ones or more
-fn two_ones(word: u64) -> bool
-    ensures { λ r. ⌜ r ≡ ltb 1 (ones word) ⌝ }
-{
-    if word == 0 {
-        return false;
-    }
-    (word & (word - 1)) != 0
-}
-
-// whether two words have two groups or more
-fn two_in(low: u64, high: u64) -> bool
-    ensures { λ r. ⌜ r ≡ ltb 1 (sum (pairDigit low high) rowGroups) ⌝ }
-{
-    if low == 0 {
-        return two_ones(high);
-    }
-    if high == 0 {
-        return two_ones(low);
-    }
-    true
 }
 
 // whether one of the rules 1 to 4 can be broken at a group with the parent p
@@ -112,38 +62,36 @@ fn may_break(groups: &[u16], g: GroupNo, p: GroupNo, rule: u16) -> bool
     mode_of(groups, g) % 2 == 1
 }
 
-// whether a row breaks one of the rules 1 to 4 at a group, where the rule can be broken
-fn row_breaks(
+// whether a word has a bit that another lacks
+fn lacks(word: u64, other: u64) -> bool
+    ensures { λ r. ⌜ SomeBit (λ j. eqb (digit word j) 1 && not (eqb (digit other j) 1)) r ⌝ }
+{
+    (word & other) != word
+}
+
+// whether some row of a word breaks one of the rules 1 to 4 at a group, where the rule can be broken
+fn word_breaks(
     rule: u16,
-    words: &[u64],
-    row: usize,
-    sons: GroupWords,
+    columns: &[u64],
+    some: &[u64],
+    two: &[u64],
+    w: usize,
     g: GroupNo,
     p: GroupNo,
 ) -> bool
-    requires { ⌜ RowAsked rule (now words) row (g .0) (p .0) ⌝ }
-    ensures { λ r. ⌜ r ≡ rowBreaks rule (now (words .entry)) row (sons .low) (sons .high) (g .0) (p .0) ⌝ }
+    requires { ⌜ WordAsked (now columns) (now some) (now two) w (g .0) (p .0) ⌝ }
+    ensures { λ r. ⌜ SomeBit (λ j. rowBreaks rule (now (columns .entry)) (now (some .entry)) (now (two .entry)) (g .0) (p .0) (wordBits * w + j)) r ⌝ }
 {
     if rule == 1 {
-        if has(words, row, g) {
-            return !has(words, row, p);
-        }
-        return false;
+        return lacks(column_word(columns, g, w), column_word(columns, p, w));
     }
     if rule == 2 {
-        if has(words, row, p) {
-            return !has(words, row, g);
-        }
-        return false;
+        return lacks(column_word(columns, p, w), column_word(columns, g, w));
     }
-    let found = sons_in(words, row, sons);
     if rule == 3 {
-        if has(words, row, g) {
-            return none_in(found.low, found.high);
-        }
-        return false;
+        return lacks(column_word(columns, g, w), some[w]);
     }
-    two_in(found.low, found.high)
+    two[w] != 0
 }
 
 // whether a group's count breaks rule 5 or rule 6
@@ -162,30 +110,53 @@ fn count_breaks(groups: &[u16], counts: &[u32], g: GroupNo, rule: u16) -> bool
     (hi as u32) < n
 }
 
-// The scan over groups, rules and rows, left at the first broken rule.
+// the columns of a group's sons, where rule 3 or rule 4 asks for them
+fn join_asked(
+    groups: &[u16],
+    columns: &[u64],
+    words: usize,
+    starts: &[u32],
+    order: &[u16],
+    g: GroupNo,
+    some: &mut [u64],
+    two: &mut [u64],
+)
+    requires { ⌜ (1 ≤ g .0) × ((4 * (g .0) ≤ length (now groups)) × Joinable (now columns) words (now starts) (now order) (g .0) (now some) (now two)) ⌝ }
+    ensures { λ _. ⌜ JoinedFor (modeIn (now (groups .entry)) (g .0)) (keptSons (now (starts .entry)) (now (order .entry)) (g .0)) (now (columns .entry)) words (now (some .exit)) (now (two .exit)) ⌝ }
+{
+    if mode_of(groups, g) % 4 == 0 {
+        return;
+    }
+    join_sons(columns, words, starts, order, g, some, two);
+}
+
+// The scan over groups, rules and rows, 64 rows at a time, left at the first broken rule.
 fn scan(
     groups: &[u16],
     size: u16,
-    words: &[u64],
+    columns: &[u64],
     n: usize,
     starts: &[u32],
     order: &[u16],
     counts: &[u32],
+    some: &mut [u64],
+    two: &mut [u64],
 ) -> Check
-    requires { ⌜ Checkable (now groups) size × Gathered (now groups) size (now words) n (now starts) (now order) (now counts) ⌝ }
-    ensures { λ r. ⌜ AnswerTo (sheetIn (now (groups .entry)) size) (wordSets (now (words .entry)) n) r ⌝ }
+    requires { ⌜ Checkable (now groups) size × Gathered (now groups) size (now columns) n (now starts) (now order) (now counts) (now some) (now two) ⌝ }
+    ensures { λ r. ⌜ AnswerTo (sheetIn (now (groups .entry)) size) (columnSets (now (columns .entry)) n) r ⌝ }
 {
     let mut answer = Check::Fits;
     let end = size + 1;
+    let words = words_for(n);
     'scan: for g in 1..end {
         let group = GroupNo(g);
         let p = parent_of(groups, group);
-        let sons = sons_of(starts, order, group);
+        join_asked(groups, columns, words, starts, order, group, some, two);
         for rule in 1..7u16 {
             if rule < 5 {
                 if may_break(groups, group, p, rule) {
-                    for row in 0..n {
-                        if row_breaks(rule, words, row, sons, group, p) {
+                    for w in 0..words {
+                        if word_breaks(rule, columns, some, two, w, group, p) {
                             answer = Check::Broken(group, rule);
                             break 'scan;
                         }
@@ -202,21 +173,35 @@ fn scan(
     answer
 }
 
-// The sons are gathered before the first row is read, and all rows are read before any rule is looked at.
-pub fn check_register(groups: &[u16], size: u16, register: &[u8]) -> Check
-    requires { ⌜ Checkable (now groups) size ⌝ }
-    ensures { λ r. ⌜ Checked (sheetIn (now (groups .entry)) size) (readRegister edition1 size (now (register .entry))) r ⌝ }
+// The sons are gathered before the first row is read, and all rows are read before any rule is looked at. The count of each
+// group is left in the table.
+pub fn check_register(groups: &[u16], size: u16, register: &[u8], counts: &mut [u32]) -> Check
+    requires { ⌜ Checkable (now groups) size × (groupPlaces ≤ length (now counts)) ⌝ }
+    ensures { λ r. ⌜ Checked (sheetIn (now (groups .entry)) size) (readRegister edition1 size (now (register .entry))) r
+        × Tallied (sheetIn (now (groups .entry)) size) (readRegister edition1 size (now (register .entry))) (now (counts .exit)) ⌝ }
 {
     let mut starts = [0u32; SON_STARTS];
     let mut order = [0u16; SONS];
     gather_sons(groups, size, &mut starts, &mut order);
-    let mut words = [0u64; ROW_WORDS];
-    match read_rows(register, size, &mut words) {
+    match read_rows(register, size) {
         Rows::Refused(refusal, row) => Check::Refused(refusal, row),
         Rows::Count(n) => {
-            let mut counts = [0u32; GROUP_PLACES];
-            count_groups(&words, n, &mut counts);
-            scan(groups, size, &words, n, &starts, &order, &counts)
+            let mut columns = [0u64; COLUMNS];
+            fill_columns(register, n, &mut columns);
+            count_groups(&columns, size, words_for(n), counts);
+            let mut some = [0u64; COLUMN_WORDS];
+            let mut two = [0u64; COLUMN_WORDS];
+            scan(
+                groups,
+                size,
+                &columns,
+                n,
+                &starts,
+                &order,
+                counts,
+                &mut some,
+                &mut two,
+            )
         }
     }
 }

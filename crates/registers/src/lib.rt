@@ -1,9 +1,9 @@
-// The check of a register: its rows read to an end or a refusal, then the first broken rule, if any.
-// `sons` and `counts` gather what the rules ask for, `reader` and `rows` read, `check` scans groups, rules and rows.
-// Document 01, "Registers" and "Turned back, in checking order".
+// The check of a register: once its rows are read, the first broken rule, if any, and the count of each group.
+// `sons` lists each group's sons, `columns` turns the rows into a column of bits for each group, `counts` counts columns,
+// `joins` puts the columns of sons together, `check` scans groups, rules and rows. Document 01, "Registers".
 pub mod check;
+pub mod columns;
 pub mod counts;
+pub mod joins;
 pub mod limits;
-pub mod reader;
-pub mod rows;
 pub mod sons;

@@ -8,6 +8,9 @@ use Rattle.register_reply.proofs.RegisterLaws.{rows-under, rows-turned,
 use Rattle.register_reply.proofs.give_check.Statement.{statement}
 use Rattle.register_reply.proofs.give_check.Tie as tie
 
+slice-aggregate-check-register : tie.Need-slice-aggregate-check-register
+slice-aggregate-check-register c = search needs
+
 check-register-requires : tie.Need-check-register-requires
 check-register-requires c κs = search needs
 
@@ -31,7 +34,7 @@ give-answer-requires-2 c κs = search needs
 
 returns : tie.Need-returns
 returns c =
-    let w = rows-under _ (size-in _ _) (c .before .before .before .before .check-register .ensures) in
+    let w = rows-under _ (size-in _ _) (c .before .before .before .before .before .check-register .ensures .0) in
     let g = ap checkGives (c .before .before .n .given .1) in
     record {
       turned = λ n k f. turned-back g (c .pack .ensures) n k (w .refusal n k f);
@@ -43,7 +46,7 @@ same-length c = search needs
 
 returns-2 : tie.Need-returns-2
 returns-2 c =
-    let w = rows-under _ (size-in _ _) (c .before .before .before .before .before .before .before .check-register .ensures) in
+    let w = rows-under _ (size-in _ _) (c .before .before .before .before .before .before .before .before .check-register .ensures .0) in
     let g = ap checkGives (c .before .before .before .before .before .group .given .1) in
     record {
       turned = λ n k f. absurd (rows-passed w g n k f);
@@ -55,7 +58,7 @@ same-length-2 c = search needs
 
 returns-3 : tie.Need-returns-3
 returns-3 c =
-    let w = rows-under _ (size-in _ _) (c .before .before .before .before .before .before .check-register .ensures) in
+    let w = rows-under _ (size-in _ _) (c .before .before .before .before .before .before .before .check-register .ensures .0) in
     let g = ap checkGives (c .before .before .before .before .enum-told .given .1) in
     record {
       turned = λ n k f. absurd (rows-passed w g n k f);
@@ -66,6 +69,7 @@ pub give-check-spec : {M : Type 1} → statement M
 give-check-spec =
     tie.close
     (tie.spec
+    slice-aggregate-check-register
     check-register-requires
     enum-known-n
     pack-requires

@@ -1,23 +1,38 @@
--- `registers::check::check_register` meets its contract. The answer to the words of the rows is the answer to the rows.
+-- `registers::check::check_register` meets its contract. The answer to the columns of the rows is the answer to the rows.
 use borrow.Author.Needs.{needs}
-use mathlib.Core.Path.{sym}
+use mathlib.Core.Path.{_≡_, sym}
 use native.Mathlib.Omega.{arith}
 use native.Mathlib.Nat.{le-refl, le-of-eq}
-use Rattle.reading.specs.SheetIn.{size-in}
-use Rattle.registers.specs.declared.rows.Rows.the-variants as rows
-use Rattle.registers.specs.RowsRead.{ReadInto}
-use Rattle.registers.specs.Words.{rowGroups}
-use Rattle.registers.specs.Tallies.{groupPlaces, sonStarts}
-use Rattle.registers.proofs.CheckLaws.{checked-refused, rows-most, checked-words, zeros, counts-zeros}
+use Prim.Native.Nat.{_≤_}
+use Rattle.wire.specs.Edition.{edition1}
+use Rattle.wire.specs.Record.{read}
+use Rattle.wire.specs.RegisterFormat.{readRegister}
+use Rattle.reading.specs.SheetIn.{sheetIn, size-in}
+use Rattle.rows.specs.RowsRead.{rowGroups, rowsBefore}
+use Rattle.rows.proofs.RowLaws.{rows-long, rows-most}
+use Rattle.registers.specs.Columns.{columnWords, columnsLength, columnSets}
+use Rattle.registers.specs.Tallies.{sonStarts, Counted}
+use Rattle.registers.proofs.CheckLaws.{checked-refused, tallied-refused, others-none, columns-counted, checked-columns, tallied-columns, zeros}
 use Rattle.registers.proofs.check.check_register.Statement.{statement}
 use Rattle.registers.proofs.check.check_register.Tie as tie
 
--- n rows are read, and their words kept
-read-into : (c : tie.After-n)
-    → ReadInto (c .before .before .before .before .before .before .before .before .before .before .before .before .args .size)
-    (c .before .before .before .before .before .before .before .before .before .before .before .before .args .register .now) (rows.Count (c .n .given .0 .0))
-    (c .before .before .before .read-rows .last .1 .1 .0)
-read-into c = rw (c .n .given .1) at (c .before .before .before .read-rows .ensures)
+-- n rows are read
+rows-read : (c : tie.After-n)
+    → read (rowsBefore (c .before .before .before .before .before .before .before .before .before .before .before .args .register .now) (c .n .given .0 .0))
+    ≡ readRegister edition1 (c .before .before .before .before .before .before .before .before .before .before .before .args .size)
+    (c .before .before .before .before .before .before .before .before .before .before .before .args .register .now)
+rows-read c = rw (c .n .given .1) at (c .before .before .read-rows .ensures)
+
+-- the counts are those of the columns
+counted : (c : tie.After-count-groups)
+    → Counted (sheetIn (c .before .before .before .before .before .before .before .before .before .before .before .before .before .before .before .before .before .before .before .args .groups .now) (c .before .before .before .before .before .before .before .before .before .before .before .before .before .before .before .before .before .before .before .args .size)) (columnSets (c .before .before .before .before .before .fill-columns .last .1 .1 .0) (c .before .before .before .before .before .before .before .before .n .given .0 .0))
+    (c .count-groups .last .1 .1 .1 .0)
+counted c =
+    let w = c .before .before in
+    let f = w .before .before .before in
+    let start = f .before .before .before .before .before .before .before .before .before .before .before .before .before .before in
+    let z = size-in (start .args .groups .now) (start .args .size) in
+    columns-counted _ (omega (arith, z, start .pre .0 .most)) (f .fill-columns .ensures) (w .words-for .ensures) (rw z (c .count-groups .ensures))
 
 slice-aggregate-gather-sons : tie.Need-slice-aggregate-gather-sons
 slice-aggregate-gather-sons c = search needs
@@ -27,11 +42,7 @@ slice-aggregate-gather-sons-2 c = search needs
 
 gather-sons-requires : tie.Need-gather-sons-requires
 gather-sons-requires c κs =
-    let p = c .before .before .before .before .pre in
-    (p, (le-refl sonStarts, (le-refl rowGroups, zeros sonStarts)))
-
-slice-aggregate-read-rows : tie.Need-slice-aggregate-read-rows
-slice-aggregate-read-rows c = search needs
+    (c .before .before .before .before .before .pre .0, (le-refl sonStarts, (le-refl rowGroups, zeros sonStarts)))
 
 read-rows-requires : tie.Need-read-rows-requires
 read-rows-requires c κs = search needs
@@ -42,21 +53,22 @@ enum-known-refusal c = search needs
 enum-known-n : tie.Need-enum-known-n
 enum-known-n c = search needs
 
+slice-aggregate-fill-columns : tie.Need-slice-aggregate-fill-columns
+slice-aggregate-fill-columns c = search needs
+
+fill-columns-requires : tie.Need-fill-columns-requires
+fill-columns-requires c κs =
+    let r = rows-read (c .before .before) in
+    (rows-most _ _ _ r, (rows-long _ _ _ r, (le-refl columnsLength, record { each = zeros columnsLength })))
+
 slice-aggregate-count-groups : tie.Need-slice-aggregate-count-groups
 slice-aggregate-count-groups c = search needs
 
-slice-aggregate-count-groups-2 : tie.Need-slice-aggregate-count-groups-2
-slice-aggregate-count-groups-2 c = search needs
+words-for-requires : tie.Need-words-for-requires
+words-for-requires c κs = rows-most _ _ _ (rows-read (c .before .before .before .before .before))
 
 count-groups-requires : tie.Need-count-groups-requires
-count-groups-requires c κs =
-    let n = c .before .before .before in (
-      omega (arith, rows-most _ _ _ _ (read-into n)),
-      (
-        omega (arith, rows-most _ _ _ _ (read-into n), n .before .before .before .read-rows .kept .1 .1 .0),
-        (le-refl groupPlaces, counts-zeros groupPlaces),
-      ),
-    )
+count-groups-requires c κs = search needs
 
 slice-aggregate-scan : tie.Need-slice-aggregate-scan
 slice-aggregate-scan c = search needs
@@ -70,30 +82,50 @@ slice-aggregate-scan-3 c = search needs
 slice-aggregate-scan-4 : tie.Need-slice-aggregate-scan-4
 slice-aggregate-scan-4 c = search needs
 
+slice-aggregate-scan-5 : tie.Need-slice-aggregate-scan-5
+slice-aggregate-scan-5 c = search needs
+
 scan-requires : tie.Need-scan-requires
 scan-requires c κs =
-    let t = c .before .before .before .before .before in
-    let n = t .before .before .before .before in
-    let g = n .before .before .before .before .before .before .before in
-    let p = g .before .before .before .before .before .pre in (
-      p,
+    let k = c .before .before .before .before .before .before .before .before in
+    let w = k .before .before in
+    let f = w .before .before .before in
+    let n = f .before .before .before in
+    let g = n .before .before .before .before .before in
+    let start = g .before .before .before .before .before .before in
+    let z = size-in (start .args .groups .now) (start .args .size) in (
+      start .pre .0,
       record {
-        row-words = omega (arith, rows-most _ _ _ _ (read-into n), n .before .before .before .read-rows .kept .1 .1 .0);
+        columns = le-of-eq (sym (f .fill-columns .kept .1 .1 .0));
+        rows = rows-most _ _ _ (rows-read n);
+        others = λ h i y. others-none (f .fill-columns .ensures) h i (y .first) (omega (arith, y .last, z, start .pre .0 .most));
         sons = g .gather-sons .ensures;
-        places = le-of-eq (sym (t .count-groups .kept .1 .1 .0));
-        counts = t .count-groups .ensures;
+        places = omega (arith, k .count-groups .kept .1 .1 .1 .0);
+        counts = counted k;
+        some-words = le-refl columnWords;
+        two-words = le-refl columnWords;
       },
     )
 
 returns : tie.Need-returns
-returns c = checked-refused _ _ _ _
-    (rw (c .before .refusal .given .1) at (c .before .before .before .before .read-rows .ensures .reading))
+returns c =
+    let e = rw (c .before .refusal .given .1) at (c .before .before .before .read-rows .ensures) in
+    (checked-refused _ _ _ _ e, tallied-refused _ _ _ _ _ e)
+
+same-length : tie.Need-same-length
+same-length c = search needs
 
 returns-2 : tie.Need-returns-2
 returns-2 c =
-    let n = c .before .before .before .before .before .before .before .before .before .before in
-    let p = n .before .before .before .before .before .before .before .before .before .before .before .before .pre in
-    checked-words _ _ _ _ (read-into n) _ _ (p .tabled .tree) (rw (size-in _ _) (p .most)) (c .scan .ensures)
+    let k = c .before .before .before .before .before .before .before .before .before .before .before in
+    let f = k .before .before .before .before .before in
+    let n = f .before .before .before in
+    let start = n .before .before .before .before .before .before .before .before .before .before .before in
+    let z : sheetIn (start .args .groups .now) (start .args .size) .size ≤ rowGroups
+    = omega (arith, size-in (start .args .groups .now) (start .args .size), start .pre .0 .most) in (
+      checked-columns _ z _ _ _ _ (rows-read n) (f .fill-columns .ensures) _ (start .pre .0 .tabled .tree) (c .before .before .scan .ensures),
+      tallied-columns _ z _ _ _ _ (rows-read n) (f .fill-columns .ensures) _ (counted k),
+    )
 
 pub check-register-spec : {M : Type 1} → statement M
 check-register-spec =
@@ -102,17 +134,20 @@ check-register-spec =
     slice-aggregate-gather-sons
     slice-aggregate-gather-sons-2
     gather-sons-requires
-    slice-aggregate-read-rows
     read-rows-requires
     enum-known-refusal
     enum-known-n
+    slice-aggregate-fill-columns
+    fill-columns-requires
     slice-aggregate-count-groups
-    slice-aggregate-count-groups-2
+    words-for-requires
     count-groups-requires
     slice-aggregate-scan
     slice-aggregate-scan-2
     slice-aggregate-scan-3
     slice-aggregate-scan-4
+    slice-aggregate-scan-5
     scan-requires
     returns
+    same-length
     returns-2)

@@ -1,117 +1,137 @@
 -- `registers::check::scan` meets its contract. Invariants: nothing is broken at the groups before g, by the rules before `rule`,
--- by the rows before `row`.
+-- by the rows of the words before w.
 use borrow.Author.Needs.{needs}
 use Prim.Native.Nat.{_-_, _≤_, _<_}
 use mathlib.Core.Path.{_≡_, refl, sym, _∙_}
 use mathlib.Core.Logic.{⊎-elim}
 use native.Mathlib.Omega.{arith}
-use Rattle.meaning.specs.SonList.{sonList}
+use lib.ListN.{length}
 use Rattle.reading.specs.SheetIn.{sheetIn, size-in, group-in, parent-below}
-use Rattle.registers.specs.Words.{WordsOf, wordSets}
+use Rattle.registers.specs.Columns.{columnSets}
 use Rattle.registers.specs.RuleTests.{parentIn}
 use Rattle.registers.specs.declared.check.Check.the-variants as check
-use Rattle.registers.proofs.SonsRead.{sons-readable}
-use Rattle.registers.proofs.RuleLaws.{may-parent}
+use Rattle.registers.proofs.JoinLaws.{sons-readable}
 use Rattle.registers.proofs.ScanLaws.{ClearGroups, ClearRules, ClearRows, rows-none, rows-more, rules-none, groups-none}
 use Rattle.registers.proofs.ScanLaws.{groups-more, scan-fits, rules-row, rules-not, rules-count, scan-row, scan-count}
 use Rattle.registers.proofs.check.scan.Statement.{statement}
 use Rattle.registers.proofs.check.scan.Tie as tie
 
 abbrev Inv-loop2 : tie.InvT-loop2
-Inv-loop2 groups size words n starts order counts answer₀ end g group p sons rule row₀ answer row =
-    (row ≤ n) × ((answer ≡ check.Fits) × ClearRows rule words row (sons .low) (sons .high) (group .0) (p .0))
+Inv-loop2 groups size columns n starts order counts some two answer₀ end words g group p rule w₀ answer w =
+    (w ≤ words) × ((answer ≡ check.Fits) × ClearRows rule columns some two w (group .0) (p .0))
 
 abbrev μ-loop2 : tie.MeasureT-loop2
-μ-loop2 groups size words n starts order counts answer₀ end g group p sons rule row₀ answer row = n - row
+μ-loop2 groups size columns n starts order counts some two answer₀ end words g group p rule w₀ answer w = words - w
 
 abbrev Inv-loop : tie.InvT-loop
-Inv-loop groups size words n starts order counts answer₀ end g group p sons rule₀ answer rule =
-    (1 ≤ rule) × ((rule ≤ 7) × ((answer ≡ check.Fits) × ClearRules (sheetIn groups size) (wordSets words n) g rule))
+Inv-loop groups size columns n starts order counts some two answer₀ end words g group p rule₀ answer rule =
+    (1 ≤ rule) × ((rule ≤ 7) × ((answer ≡ check.Fits) × ClearRules (sheetIn groups size) (columnSets columns n) g rule))
 
 abbrev μ-loop : tie.MeasureT-loop
-μ-loop groups size words n starts order counts answer₀ end g group p sons rule₀ answer rule = 7 - rule
+μ-loop groups size columns n starts order counts some two answer₀ end words g group p rule₀ answer rule = 7 - rule
 
 abbrev Inv-scan : tie.InvT-scan
-Inv-scan groups size words n starts order counts answer₀ end g₀ answer g =
-    (1 ≤ g) × ((g ≤ end) × ((answer ≡ check.Fits) × ClearGroups (sheetIn groups size) (wordSets words n) g))
+Inv-scan groups size columns n starts order counts some₀ two₀ answer₀ end words g₀ some two answer g =
+    (1 ≤ g) × ((g ≤ end) × ((length some ≡ length some₀) × ((length two ≡ length two₀)
+    × ((answer ≡ check.Fits) × ClearGroups (sheetIn groups size) (columnSets columns n) g))))
 
 abbrev μ-scan : tie.MeasureT-scan
-μ-scan groups size words n starts order counts answer₀ end g₀ answer g = end - g
+μ-scan groups size columns n starts order counts some₀ two₀ answer₀ end words g₀ some two answer g = end - g
+
+-- what is behind a turn for a group, the start; and behind the loop over rules, the joining of the sons and the parent
+abbrev start : tie.In-scan Inv-loop2 μ-loop2 Inv-loop μ-loop Inv-scan μ-scan
+    → tie.Start Inv-loop2 μ-loop2 Inv-loop μ-loop Inv-scan μ-scan
+start s = s .before .before .before .before .before .before .before .before .before .before
+
+abbrev joining : tie.At-loop Inv-loop2 μ-loop2 Inv-loop μ-loop Inv-scan μ-scan
+    → tie.After-join-asked Inv-loop2 μ-loop2 Inv-loop μ-loop Inv-scan μ-scan
+joining l = l .before .before .before .before .before
+
+abbrev parent : tie.At-loop Inv-loop2 μ-loop2 Inv-loop μ-loop Inv-scan μ-scan
+    → tie.After-parent-of Inv-loop2 μ-loop2 Inv-loop μ-loop Inv-scan μ-scan
+parent l = joining l .before .before .before
 
 -- a group's parent comes before it
-below : (c : tie.In-scan Inv-loop2 μ-loop2 Inv-loop μ-loop Inv-scan μ-scan)
-    → parentIn (c .before .before .before .before .before .before .before .args .groups .now) (c .before .scan .g) < c .before .scan .g
-below c = parent-below (c .before .before .before .before .before .before .before .pre .0 .tabled) _ _ (omega arith) refl (c .before .scan .inv .0)
-
--- the words that are read off have the group's sons
-listed : (c : tie.After-sons-of Inv-loop2 μ-loop2 Inv-loop μ-loop Inv-scan μ-scan)
-    → WordsOf (sonList (sheetIn (c .before .before .before .before .before .before .before .before .before .args .groups .now)
-    (c .before .before .before .before .before .before .before .before .before .args .size)) (c .before .before .before .scan .g))
-    (c .sons-of .result .low) (c .sons-of .result .high)
-listed c =
-    let s = c .before .before .before in
-    let p = s .before .before .before .before .before .before .pre in
-    rw (← p .1 .sons .listed (s .scan .g) (group-in _ _ (s .scan .inv .0) (omega arith))) (c .sons-of .ensures)
+below : (s : tie.In-scan Inv-loop2 μ-loop2 Inv-loop μ-loop Inv-scan μ-scan)
+    → parentIn (start s .args .groups .now) (s .before .scan .g) < s .before .scan .g
+below s = parent-below (start s .pre .0 .tabled) _ _ (omega arith) refl (s .before .scan .inv .0)
 
 add-end : tie.Need-add-end Inv-loop2 μ-loop2 Inv-loop μ-loop Inv-scan μ-scan
 add-end c = search needs
 
+words-for-requires : tie.Need-words-for-requires Inv-loop2 μ-loop2 Inv-loop μ-loop Inv-scan μ-scan
+words-for-requires c κs = search needs
+
 scan-holds : tie.Need-scan-holds Inv-loop2 μ-loop2 Inv-loop μ-loop Inv-scan μ-scan
-scan-holds c = (search needs, (search needs, (refl, groups-none _ _)))
+scan-holds c = (search needs, (search needs, (refl, (refl, (refl, groups-none _ _)))))
 
 parent-of-requires : tie.Need-parent-of-requires Inv-loop2 μ-loop2 Inv-loop μ-loop Inv-scan μ-scan
 parent-of-requires c κs = search needs
 
-sons-of-requires : tie.Need-sons-of-requires Inv-loop2 μ-loop2 Inv-loop μ-loop Inv-scan μ-scan
-sons-of-requires c κs =
-    let s = c .before .before in
-    let a = s .before .before .before .before .before .before .args in
-    let p = s .before .before .before .before .before .before .pre in
-    sons-readable (p .1 .sons) (omega (arith, size-in (a .groups .now) (a .size), p .0 .most)) (group-in _ _ (s .scan .inv .0) (omega arith))
+join-asked-requires :
+    tie.Need-join-asked-requires Inv-loop2 μ-loop2 Inv-loop μ-loop Inv-scan μ-scan
+join-asked-requires c κs =
+    let s = c .before .before .before in
+    let a = start s .args in
+    let p = start s .pre in
+    let m = s .before .before .words-for .ensures .most in (
+      search needs,
+      (
+        search needs,
+        record {
+          readable = sons-readable (p .1 .sons) (omega (arith, size-in (a .groups .now) (a .size), p .0 .most))
+              (group-in _ _ (s .before .scan .inv .0) (omega arith));
+          most = m;
+          columns = p .1 .columns;
+          some-words = omega (arith, p .1 .some-words);
+          two-words = omega (arith, p .1 .two-words);
+        },
+      ),
+    )
 
 loop-holds : tie.Need-loop-holds Inv-loop2 μ-loop2 Inv-loop μ-loop Inv-scan μ-scan
-loop-holds c = (search needs, (search needs, (c .before .before .before .scan .inv .1 .1 .0, rules-none _ _ _)))
+loop-holds c =
+    let s = c .before .before .before .before .before .before .before .before .before in
+    (search needs, (search needs, (s .scan .inv .1 .1 .1 .1 .0, rules-none _ _ _)))
 
 may-break-requires : tie.Need-may-break-requires Inv-loop2 μ-loop2 Inv-loop μ-loop Inv-scan μ-scan
 may-break-requires c κs =
-    let q = c .before .before .before .before in
-    let l = below (q .before) in
-    (search needs, (search needs, (omega (arith, q .parent-of .ensures), q .parent-of .ensures)))
+    let q = parent (c .before .before) in
+    let l = below (q .before) in (
+      search needs,
+      (omega (arith, start (q .before) .pre .0 .tabled .long), (omega (arith, q .parent-of .ensures), q .parent-of .ensures)),
+    )
 
 loop2-holds : tie.Need-loop2-holds Inv-loop2 μ-loop2 Inv-loop μ-loop Inv-scan μ-scan
 loop2-holds c = (search needs, (c .before .before .before .before .loop .inv .1 .1 .0, rows-none _ _ _ _ _ _))
 
-row-breaks-requires :
-    tie.Need-row-breaks-requires Inv-loop2 μ-loop2 Inv-loop μ-loop Inv-scan μ-scan
-row-breaks-requires c κs =
-    let m = c .before .before .before in
-    let q = m .before .before .before .before .before in
-    let p = q .before .before .before .before .before .before .before .before .pre in
-    let l = below (q .before) in
-    let applies = sym (m .may-break .ensures) ∙ c .before .before .if2 .taken in
+word-breaks-requires :
+    tie.Need-word-breaks-requires Inv-loop2 μ-loop2 Inv-loop μ-loop Inv-scan μ-scan
+word-breaks-requires c κs =
+    let l = c .before .before .before .before .before .before .before .before in
+    let q = parent l in
+    let p = start (q .before) .pre in
+    let b = below (q .before) in
+    let m = q .before .before .before .words-for .ensures .most in
     record {
-      row-words = omega (arith, p .1 .row-words);
-      first = q .before .before .scan .inv .0;
-      last = omega (arith, p .0 .most, q .before .before .scan .inv .1 .0);
-      parent = λ k. rw (q .parent-of .ensures) (may-parent _ _ _ (m .before .before .before .loop .inv .0) k applies);
+      columns = p .1 .columns;
+      word = omega arith;
+      last = omega (arith, p .0 .most);
       parent-last = omega (arith, p .0 .most, q .parent-of .ensures);
+      some-words = omega (arith, p .1 .some-words);
+      two-words = omega (arith, p .1 .two-words);
     }
 
-add-row : tie.Need-add-row Inv-loop2 μ-loop2 Inv-loop μ-loop Inv-scan μ-scan
-add-row c = search needs
+add-w : tie.Need-add-w Inv-loop2 μ-loop2 Inv-loop μ-loop Inv-scan μ-scan
+add-w c = search needs
 
 loop2-less : tie.Need-loop2-less Inv-loop2 μ-loop2 Inv-loop μ-loop Inv-scan μ-scan
 loop2-less c = search needs
 
 loop2-again : tie.Need-loop2-again Inv-loop2 μ-loop2 Inv-loop μ-loop Inv-scan μ-scan
 loop2-again c =
-    let l = c .before .before .before in (
-      search needs,
-      (
-        l .loop2 .inv .1 .0,
-        rows-more _ _ _ _ _ _ _ (l .loop2 .inv .1 .1) (sym (c .before .row-breaks .ensures) ∙ c .if3 .left),
-      ),
-    )
+    let i = c .before .before .before .before .before .loop2 .inv in
+    (search needs, (i .1 .0, rows-more (i .1 .1) (c .before .word-breaks .ensures) (c .if3 .left)))
 
 count-breaks-requires :
     tie.Need-count-breaks-requires Inv-loop2 μ-loop2 Inv-loop μ-loop Inv-scan μ-scan
@@ -126,9 +146,10 @@ loop-less c = search needs
 loop-again : tie.Need-loop-again Inv-loop2 μ-loop2 Inv-loop μ-loop Inv-scan μ-scan
 loop-again c =
     let l = c .before .before in
-    let q = l .before .before in
-    let g = q .before .before in
-    let p = g .before .before .before .before .before .before .pre in
+    let q = parent l in
+    let s = q .before in
+    let p = start s .pre in
+    let f = s .before .before .words-for .ensures in
     ⊎-elim
     (λ w. (
       search needs,
@@ -136,7 +157,7 @@ loop-again c =
         omega (arith, w .0 .taken),
         (
           w .5 ∙ w .3 .inv .1 .0,
-          rules-row _ _ _ _ _ (p .0) (p .1 .counts) _ _ _ _ (g .scan .inv .0) (omega arith) (listed (l .before))
+          rules-row (p .0) (p .1) _ _ (s .before .scan .inv .0) (omega arith) f (joining l .join-asked .ensures)
               (l .loop .inv .1 .1 .1) (w .0 .taken) _ (w .4 .left) (rw (q .parent-of .ensures) at (w .3 .inv .1 .1)),
         ),
       ),
@@ -148,7 +169,7 @@ loop-again c =
         omega (arith, w .0 .taken),
         (
           w .3 ∙ l .loop .inv .1 .1 .0,
-          rules-not _ _ _ _ _ (p .0) (p .1 .counts) _ _ _ _ (g .scan .inv .0) (omega arith) (listed (l .before))
+          rules-not (p .0) (p .1) _ _ (s .before .scan .inv .0) (omega arith) f (joining l .join-asked .ensures)
               (l .loop .inv .1 .1 .1) (w .0 .taken) (sym (w .1 .ensures) ∙ w .2 .left),
         ),
       ),
@@ -159,7 +180,7 @@ loop-again c =
         omega arith,
         (
           w .3 ∙ l .loop .inv .1 .1 .0,
-          rules-count _ _ _ _ _ (p .0) (p .1 .counts) _ _ _ _ (g .scan .inv .0) (omega arith) (listed (l .before))
+          rules-count (p .0) (p .1) _ _ (s .before .scan .inv .0) (omega arith) f (joining l .join-asked .ensures)
               (l .loop .inv .1 .1 .1) (w .0 .left) (sym (w .1 .ensures) ∙ w .2 .left),
         ),
       ),
@@ -174,45 +195,63 @@ scan-less c = search needs
 
 scan-again : tie.Need-scan-again Inv-loop2 μ-loop2 Inv-loop μ-loop Inv-scan μ-scan
 scan-again c =
-    let l = c .before .before .before .before .before in (
+    let l = c .before in
+    let i = parent l .before .before .scan .inv in (
       search needs,
       (
         search needs,
         (
-          c .before .loop .inv .1 .1 .0,
-          groups-more _ _ _ _ (l .scan .inv .1 .1 .1) (omega arith) (c .before .loop .inv .1 .1 .1),
+          search needs,
+          (search needs, (l .loop .inv .1 .1 .0, groups-more _ _ _ _ (i .1 .1 .1 .1 .1) (omega arith) (l .loop .inv .1 .1 .1))),
         ),
       ),
     )
 
+same-length : tie.Need-same-length Inv-loop2 μ-loop2 Inv-loop μ-loop Inv-scan μ-scan
+same-length c = search needs
+
+same-length-2 : tie.Need-same-length-2 Inv-loop2 μ-loop2 Inv-loop μ-loop Inv-scan μ-scan
+same-length-2 c = search needs
+
 returns : tie.Need-returns Inv-loop2 μ-loop2 Inv-loop μ-loop Inv-scan μ-scan
 returns c =
-    let l = c .before in
-    let p = l .before .before .before .before .before .before .pre in
-    rw (l .scan .inv .1 .1 .0)
-    (scan-fits _ _ _ _ _ (p .0) (p .1 .counts) _ (omega arith) (l .scan .inv .1 .1 .1))
+    let s = c .before in
+    let p = s .before .before .before .before .before .before .before .before .before .pre in
+    rw (s .scan .inv .1 .1 .1 .1 .0) (scan-fits (p .0) (p .1) _ (omega arith) (s .scan .inv .1 .1 .1 .1 .1))
+
+same-length-3 : tie.Need-same-length-3 Inv-loop2 μ-loop2 Inv-loop μ-loop Inv-scan μ-scan
+same-length-3 c = search needs
+
+same-length-4 : tie.Need-same-length-4 Inv-loop2 μ-loop2 Inv-loop μ-loop Inv-scan μ-scan
+same-length-4 c = search needs
 
 returns-2 : tie.Need-returns-2 Inv-loop2 μ-loop2 Inv-loop μ-loop Inv-scan μ-scan
 returns-2 c =
-    let r = c .before .before in
+    let r = c .before .before .before .before in
     let m = r .before .before .before in
     let l = m .before .before .before in
-    let q = l .before .before in
-    let g = q .before .before in
-    let p = g .before .before .before .before .before .before .pre in
-    scan-row _ _ _ _ _ (p .0) (p .1 .counts) _ _ _ _ (g .scan .inv .0) (omega arith) (listed (l .before))
-    (l .loop .inv .1 .1 .1) (g .scan .inv .1 .1 .1) (l .loop .inv .0) _ refl (m .before .if1 .taken) _ (r .loop2-test .taken)
-    (sym (m .may-break .ensures) ∙ r .before .before .if2 .taken)
-    (rw (← q .parent-of .ensures) (sym (c .before .row-breaks .ensures) ∙ c .if3 .taken))
+    let q = parent l in
+    let s = q .before in
+    let p = start s .pre in
+    scan-row (p .0) (p .1) _ _ (s .before .scan .inv .0) (omega arith) (s .before .before .words-for .ensures)
+    (joining l .join-asked .ensures) (l .loop .inv .1 .1 .1) (s .before .scan .inv .1 .1 .1 .1 .1) (l .loop .inv .0) _ refl
+    (m .before .if1 .taken) _ (r .loop2-test .taken) (sym (m .may-break .ensures) ∙ r .before .before .if2 .taken) _
+    (rw (← q .parent-of .ensures) (c .before .word-breaks .ensures)) (c .if3 .taken)
+
+same-length-5 : tie.Need-same-length-5 Inv-loop2 μ-loop2 Inv-loop μ-loop Inv-scan μ-scan
+same-length-5 c = search needs
+
+same-length-6 : tie.Need-same-length-6 Inv-loop2 μ-loop2 Inv-loop μ-loop Inv-scan μ-scan
+same-length-6 c = search needs
 
 returns-3 : tie.Need-returns-3 Inv-loop2 μ-loop2 Inv-loop μ-loop Inv-scan μ-scan
 returns-3 c =
     let l = c .before .before .before .before in
-    let g = l .before .before .before .before in
-    let p = g .before .before .before .before .before .before .pre in
-    scan-count _ _ _ _ _ (p .0) (p .1 .counts) _ _ _ _ (g .scan .inv .0) (omega arith) (listed (l .before))
-    (l .loop .inv .1 .1 .1) (g .scan .inv .1 .1 .1) (l .loop .inv .0) _ refl (c .before .before .if1 .left) (omega arith)
-    (sym (c .before .count-breaks .ensures) ∙ c .if4 .taken)
+    let s = parent l .before in
+    let p = start s .pre in
+    scan-count (p .0) (p .1) _ _ (s .before .scan .inv .0) (omega arith) (s .before .before .words-for .ensures)
+    (joining l .join-asked .ensures) (l .loop .inv .1 .1 .1) (s .before .scan .inv .1 .1 .1 .1 .1) (l .loop .inv .0) _ refl
+    (c .before .before .if1 .left) (omega arith) (rw (← c .before .count-breaks .ensures) (c .if4 .taken))
 
 pub scan-spec : {M : Type 1} → statement M
 scan-spec =
@@ -225,14 +264,15 @@ scan-spec =
     Inv-scan
     μ-scan
     add-end
+    words-for-requires
     scan-holds
     parent-of-requires
-    sons-of-requires
+    join-asked-requires
     loop-holds
     may-break-requires
     loop2-holds
-    row-breaks-requires
-    add-row
+    word-breaks-requires
+    add-w
     loop2-less
     loop2-again
     count-breaks-requires
@@ -242,6 +282,12 @@ scan-spec =
     add-g
     scan-less
     scan-again
+    same-length
+    same-length-2
     returns
+    same-length-3
+    same-length-4
     returns-2
+    same-length-5
+    same-length-6
     returns-3)

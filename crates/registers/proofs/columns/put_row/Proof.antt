@@ -1,0 +1,67 @@
+-- `registers::columns::put_row` meets its contract. Invariant: the groups of the first k words are put.
+use borrow.Author.Needs.{needs}
+use native.Mathlib.Omega.{arith}
+use Prim.Native.Nat.{_-_, _≤_}
+use mathlib.Core.Path.{_≡_, refl}
+use lib.ListN.{length}
+use Rattle.rows.specs.RowsRead.{rowWords}
+use Rattle.registers.specs.ColumnSteps.{Put}
+use Rattle.registers.proofs.PutLaws.{firstBits, bits-none, bits-more, bits-all}
+use Rattle.registers.proofs.columns.put_row.Statement.{statement}
+use Rattle.registers.proofs.columns.put_row.Tie as tie
+
+abbrev Inv-loop : tie.InvT-loop
+Inv-loop register place row columns₀ k₀ columns k =
+    (k ≤ rowWords) × ((length columns ≡ length columns₀) × Put (firstBits register place k) row columns₀ columns)
+
+abbrev μ-loop : tie.MeasureT-loop
+μ-loop register place row columns₀ k₀ columns k = rowWords - k
+
+loop-holds : tie.Need-loop-holds Inv-loop μ-loop
+loop-holds c = (search needs, (refl, bits-none _ _ _ _))
+
+word-at-requires : tie.Need-word-at-requires Inv-loop μ-loop
+word-at-requires c κs = search needs
+
+mul-put-word : tie.Need-mul-put-word Inv-loop μ-loop
+mul-put-word c = search needs
+
+put-word-requires : tie.Need-put-word-requires Inv-loop μ-loop
+put-word-requires c κs = search needs
+
+add-k : tie.Need-add-k Inv-loop μ-loop
+add-k c = search needs
+
+loop-less : tie.Need-loop-less Inv-loop μ-loop
+loop-less c = search needs
+
+loop-again : tie.Need-loop-again Inv-loop μ-loop
+loop-again c =
+    let p = c .before .before in
+    let w = p .before .before in
+    let l = w .before .before .loop in (
+      search needs,
+      (search needs, bits-more (l .inv .1 .1) (w .word-at .ensures) (search needs) (p .put-word .ensures)),
+    )
+
+same-length : tie.Need-same-length Inv-loop μ-loop
+same-length c = search needs
+
+returns : tie.Need-returns Inv-loop μ-loop
+returns c = bits-all _ _ _ _ (c .before .loop .inv .1 .1) (omega arith)
+
+pub put-row-spec : {M : Type 1} → statement M
+put-row-spec =
+    tie.close
+    (tie.spec
+    Inv-loop
+    μ-loop
+    loop-holds
+    word-at-requires
+    mul-put-word
+    put-word-requires
+    add-k
+    loop-less
+    loop-again
+    same-length
+    returns)

@@ -1,0 +1,46 @@
+-- The steps to the columns: a row's digit is set for one group, for the groups of a word, for all groups of the row; and the
+-- counts that are read off.
+use Prim.Native.Nat.{ℕ, _+_, _-_, _*_, _≤_, _<_, max}
+use mathlib.Core.Path.{_≡_}
+use mathlib.Core.Bool.{cond, _&&_}
+use mathlib.Core.List.{List}
+use lib.ListN.{getD}
+use lib.Dec.{leb, eqb}
+use lib.Bits.{bitAnd}
+use Rattle.laws.specs.Sum.{sum, bit}
+use Rattle.laws.specs.Digits.{digit, Lowest}
+use Rattle.wire.specs.Limits.{rowLimit}
+use Rattle.rows.specs.RowsRead.{wordBits, rowGroups, bitAt}
+use Rattle.registers.specs.Columns.{columnDigit}
+
+-- group g is the lowest set digit of a word whose digits are the groups after `before`
+pub record LowestGroup (before word g : ℕ) : Type 0 where
+  pub place : ℕ
+  pub within : place < wordBits
+  pub numbered : g ≡ before + place + 1
+  pub lowest : Lowest word place (bitAnd word (word - 1))
+
+-- from t to u, row's digit is set in the columns of the groups that have the bit f
+pub record Put (f : ℕ → ℕ) (row : ℕ) (t u : List ℕ) : Type 0 where
+  pub each : (g i : ℕ) → 1 ≤ g → g ≤ rowGroups → i < rowLimit → columnDigit u g i ≡ max (columnDigit t g i) (cond (eqb i row) (f g) 0)
+
+-- for one group, for the digits of a word that comes after `before` groups, for the bits of the bytes from a place on
+abbrev pub GroupPut : ℕ → ℕ → List ℕ → List ℕ → Type 0
+GroupPut g = Put (λ h. bit (eqb h g))
+
+abbrev pub wordBit : ℕ → ℕ → ℕ → ℕ
+wordBit word before g = cond (leb (before + 1) g) (digit word (g - 1 - before)) 0
+
+abbrev pub WordPut : ℕ → ℕ → ℕ → List ℕ → List ℕ → Type 0
+WordPut word before = Put (wordBit word before)
+
+abbrev pub RowPut : List ℕ → ℕ → ℕ → List ℕ → List ℕ → Type 0
+RowPut b place = Put (λ g. bitAt b place (g - 1))
+
+-- no digit is set
+pub record Empty (t : List ℕ) : Type 0 where
+  pub each : (i : ℕ) → getD t i 0 ≡ 0
+
+-- place g of the table u is the number of ones of group g's column
+pub record ColumnsCounted (t : List ℕ) (size words : ℕ) (u : List ℕ) : Type 0 where
+  pub each : (g : ℕ) → 1 ≤ g → g ≤ size → getD u g 0 ≡ sum (columnDigit t g) (wordBits * words)

@@ -1,0 +1,50 @@
+-- Membership as columns: for each group a column of digits, 64 members a word, member i being digit i mod 64 of word i div 64.
+-- A table has the columns one behind the other, by the groups' numbers.
+use Prim.Native.Nat.{ℕ, _+_, _-_, _*_, _/_, _%_, _≤_, _<_}
+use mathlib.Core.Path.{_≡_}
+use mathlib.Core.Bool.{Bool, cond}
+use mathlib.Core.List.{List}
+use lib.ListN.{getD}
+use lib.Dec.{ltb, eqb}
+use Rattle.laws.specs.Digits.{digit}
+use Rattle.wire.specs.Limits.{rowLimit}
+use Rattle.meaning.specs.Sets.{Sets, Distinct, numbered}
+use Rattle.rows.specs.RowsRead.{wordBits, rowGroups, bitsPlace, bitAt}
+
+-- the words of a column: a digit for each row
+abbrev pub columnWords : ℕ
+columnWords = 32
+
+-- places of a table by group: group numbers start at 1, and place 0 is for none
+abbrev pub groupPlaces : ℕ
+groupPlaces = rowGroups + 1
+
+abbrev pub columnsLength : ℕ
+columnsLength = columnWords * groupPlaces
+
+-- where word w of group g's column stands
+abbrev pub columnWord : ℕ → ℕ → ℕ
+columnWord g w = columnWords * g + w
+
+-- digit i of group g's column
+unfoldable pub columnDigit : List ℕ → ℕ → ℕ → ℕ
+columnDigit t g i = digit (getD t (columnWord g (i / wordBits)) 0) (i % wordBits)
+
+unfoldable pub inColumn : List ℕ → ℕ → ℕ → Bool
+inColumn t g i = eqb (columnDigit t g i) 1
+
+-- the sets that the columns list of n members
+abbrev pub columnSets : List ℕ → ℕ → Sets ℕ
+columnSets t n = numbered n (inColumn t)
+
+pub columns-distinct : (t : List ℕ) (n : ℕ) → Distinct (columnSets t n)
+columns-distinct t n = record { once = λ i j k l e. e }
+
+-- so many words have a digit for each of n rows
+pub record WordsFor (n words : ℕ) : Type 0 where
+  pub enough : n ≤ wordBits * words
+  pub most : words ≤ columnWords
+
+-- the columns have the bits of the first n rows of a register, and no others
+pub record Filled (b : List ℕ) (n : ℕ) (t : List ℕ) : Type 0 where
+  pub each : (g i : ℕ) → 1 ≤ g → g ≤ rowGroups → i < rowLimit → columnDigit t g i ≡ cond (ltb i n) (bitAt b (bitsPlace i) (g - 1)) 0

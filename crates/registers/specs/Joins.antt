@@ -1,0 +1,35 @@
+-- The columns of several groups put together, word by word: who is in some of them, and who is in two.
+use Prim.Native.Nat.{ℕ, _+_, _-_, _*_, _%_, _<_, min}
+use mathlib.Core.Path.{_≡_}
+use mathlib.Core.List.{List, [], _∷_}
+use lib.ListN.{getD}
+use lib.Bits.{bitAnd, bitOr}
+use Rattle.rows.specs.RowsRead.{wordBits}
+use Rattle.registers.specs.Columns.{columnWord, columnDigit}
+
+-- the first words of a table are 0
+pub record Cleared (words : ℕ) (t : List ℕ) : Type 0 where
+  pub each : (w : ℕ) → w < words → getD t w 0 ≡ 0
+
+-- group g's column is put to those before
+pub record ColumnJoined (t : List ℕ) (g words : ℕ) (some two some′ two′ : List ℕ) : Type 0 where
+  pub some-word : (w : ℕ) → w < words → getD some′ w 0 ≡ bitOr (getD some w 0) (getD t (columnWord g w) 0)
+  pub two-word : (w : ℕ) → w < words → getD two′ w 0 ≡ bitOr (getD two w 0) (bitAnd (getD some w 0) (getD t (columnWord g w) 0))
+
+-- the sum of f over a list of groups
+unfoldable pub total : (ℕ → ℕ) → List ℕ → ℕ
+total f [] = 0
+total f (g ∷ l) = f g + total f l
+
+-- in how many groups of the list member i is
+abbrev pub heldBy : List ℕ → List ℕ → ℕ → ℕ
+heldBy t l i = total (λ g. columnDigit t g i) l
+
+-- digit i of `some` and of `two` tells whether member i is in some group of the list, and whether in two
+pub record Joined (l t : List ℕ) (words : ℕ) (some two : List ℕ) : Type 0 where
+  pub in-some : (i : ℕ) → i < wordBits * words → columnDigit some 0 i ≡ min 1 (heldBy t l i)
+  pub in-two : (i : ℕ) → i < wordBits * words → columnDigit two 0 i ≡ min 1 (heldBy t l i - 1)
+
+-- the same of a group whose mode has 'disjoint' or 'cover'
+pub record JoinedFor (mode : ℕ) (l t : List ℕ) (words : ℕ) (some two : List ℕ) : Type 0 where
+  pub joined : (mode % 4 ≡ 0 → ⊥) → Joined l t words some two

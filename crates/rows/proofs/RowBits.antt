@@ -1,0 +1,86 @@
+-- The words of membership bytes hold their bits, and whether a bit above the groups is set, word by word.
+use Prim.Native.Nat.{ℕ, zero, suc, _+_, _-_, _*_, _/_, _%_, _^_, _≤_, _<_}
+use mathlib.Core.Path.{_≡_, refl, sym, _∙_}
+use mathlib.Core.Bool.{Bool, true, false, not, true≢false, false≢true}
+use mathlib.Core.List.{List}
+use native.Mathlib.Omega.{arith}
+use native.Mathlib.Numerals.{add-one}
+use borrow.Author.Tests.{eqb-true, eqb-false, not-true, not-false}
+use lib.ListN.{getD}
+use lib.Dec.{eqb}
+use Rattle.laws.specs.Cases.{compare-le}
+use Rattle.laws.specs.Digits.{digit, digit-low, digit-shift, digit-none, digit-some}
+use Rattle.wire.specs.Wide.{u64At, bytesAt, u64-bytes}
+use Rattle.wire.specs.Encoding.{Bytes}
+use Rattle.rows.specs.RowsRead.{wordBits, bitAt, WordAt, Above}
+
+-- bits counted from n bytes further on
+bit-on : (b : List ℕ) (place n j : ℕ) → bitAt b (place + n) j ≡ bitAt b place (8 * n + j)
+unfolding bitAt
+bit-on b place n j =
+    let q : place + (8 * n + j) / 8 ≡ place + n + j / 8 = omega arith in
+    let r : (8 * n + j) % 8 ≡ j % 8 = omega arith in rw (q, r)
+
+bit-low : (b : List ℕ) (place j : ℕ) → j < 8 → bitAt b place j ≡ digit (getD b place 0) j
+unfolding bitAt
+bit-low b place j l =
+    let q : place + j / 8 ≡ place = omega arith in
+    let r : j % 8 ≡ j = omega arith in rw (q, r)
+
+-- the digits of a field are the bits of its bytes
+digit-bytes : (n : ℕ) (b : List ℕ) (i j : ℕ) → Bytes b → j < 8 * n → digit (bytesAt n b i) j ≡ bitAt b i j
+unfolding bytesAt
+digit-bytes zero b i j h l = absurd (omega arith)
+digit-bytes (suc n) b i j h l =
+    compare-le 8 j
+    (λ o. let s : j ≡ 8 * 1 + (j - 8) = omega arith in
+    let high : (bytesAt n b (suc i) * 256 + getD b i 0) / 2 ^ 8 ≡ bytesAt n b (suc i) = omega (arith, h i) in
+    rw (s, ← bit-on b i 1 (j - 8), add-one i, ← digit-shift (bytesAt n b (suc i) * 256 + getD b i 0) 8 (j - 8), high)
+    (digit-bytes n b (suc i) (j - 8) h (omega arith)))
+    (λ o. digit-low 8 j (bytesAt n b (suc i)) (getD b i 0) o ∙ sym (bit-low b i j o))
+
+pub word-at : (b : List ℕ) (place k : ℕ) → Bytes b → WordAt b place k (u64At b (place + 8 * k))
+word-at b place k h =
+    record {
+      each = λ j l.
+          let s : 8 * (8 * k) + j ≡ wordBits * k + j = omega arith in
+          rw (u64-bytes b (place + 8 * k)) (digit-bytes 8 b (place + 8 * k) j h l ∙ bit-on b place (8 * k) j ∙ (rw s));
+    }
+
+-- no bit is above the groups
+pub above-nothing : {f : ℕ → ℕ} (groups before n : ℕ) → before + n ≤ groups → Above groups before n f false
+above-nothing groups before n l = record { some = λ e. absurd (false≢true e); none = λ e j a b. absurd (omega arith) }
+
+-- whether a digit of a word is above the groups, by a shift
+pub above-shift : (groups before word : ℕ) → word < 2 ^ 64
+    → Above groups before wordBits (digit word) (not (eqb (word / 2 ^ (groups - before)) 0))
+above-shift groups before word h =
+    let high = word / 2 ^ (groups - before) in
+    record {
+      some = λ e.
+          let z : high ≡ 0 → ⊥ = eqb-false high 0 (not-true (eqb high 0) e) in
+          let w = digit-some 64 word (groups - before) h (omega arith) in
+          (w .0, omega arith, w .2, w .3);
+      none = λ e j a b. digit-none word (groups - before) j (eqb-true high 0 (not-false (eqb high 0) e)) (omega arith);
+    }
+
+-- the bits of one word more
+pub above-on : {b : List ℕ} {place groups k word : ℕ} {r : Bool} → Above groups 0 (wordBits * k) (bitAt b place) false
+    → WordAt b place k word → Above groups (wordBits * k) wordBits (digit word) r
+    → Above groups 0 (wordBits * (k + 1)) (bitAt b place) r
+above-on {b} {place} {groups} {k} {word} c w a =
+    record {
+      some = λ e.
+          let j = a .some e in
+          (wordBits * k + j .0, omega arith, omega arith, sym (w .each (j .0) (j .2)) ∙ j .3);
+      none = λ e j l m.
+          compare-le (wordBits * k) j
+          (λ o. let s : j ≡ wordBits * k + (j - wordBits * k) = omega arith in
+          rw s (sym (w .each (j - wordBits * k) (omega arith)) ∙ a .none e (j - wordBits * k) (omega arith) (omega arith)))
+          (λ o. c .none refl j l o);
+    }
+
+-- a bit that is found stays found
+pub above-more : {f : ℕ → ℕ} {groups m n : ℕ} → m ≤ n → Above groups 0 m f true → Above groups 0 n f true
+above-more l a =
+    record { some = λ e. let j = a .some e in (j .0, j .1, omega arith, j .3); none = λ e. absurd (true≢false e) }

@@ -1,0 +1,80 @@
+-- What the row decoder gives, and what reading all rows gives.
+use Prim.Native.Nat.{ℕ, zero, suc, _+_, _*_, _/_, _%_, _≤_, _<_}
+use mathlib.Core.Path.{_≡_}
+use mathlib.Core.Bool.{Bool, true, false, cond}
+use mathlib.Core.List.{List, [], _∷_, _++_}
+use lib.ListN.{length, take, drop, getD}
+use lib.Dec.{eqb}
+use Rattle.laws.specs.Digits.{digit}
+use Rattle.wire.specs.Edition.{edition1, rowBytes}
+use Rattle.wire.specs.Record.{Test, refusal, Reading, read, refused}
+use Rattle.wire.specs.RegisterFormat.{Row, rowOf, rowTests}
+use Rattle.rows.specs.declared.decode.RowAnswer.{RowAnswer}
+use Rattle.rows.specs.declared.decode.RowAnswer.the-variants as answer
+use Rattle.rows.specs.declared.read.Rows.{Rows}
+use Rattle.rows.specs.declared.read.Rows.the-variants as rows
+
+-- a word of membership bytes has a bit for each of 64 groups, and two words have those of a row
+abbrev pub wordBits : ℕ
+wordBits = 64
+
+abbrev pub rowWords : ℕ
+rowWords = 2
+
+abbrev pub rowGroups : ℕ
+rowGroups = rowWords * wordBits
+
+-- what stands at a place: no bytes at all; a row, with its member, the place of its membership bytes and the place after it; or
+-- a row that is turned back with a refusal's number
+pub data Front : Type 0 where
+  ended : Front
+  held : ℕ → ℕ → ℕ → Front
+  turned : ℕ → Front
+
+-- document 01's number and values of the decoder's answer
+abbrev pub rowGives : RowAnswer → Front
+rowGives answer.End = ended
+rowGives (answer.Row r) = held (r .member) (r .bits) (r .next)
+rowGives (answer.Refused n) = turned n
+
+-- 11 is the first of a row's tests, and asks nothing of the sheet or of the rows before
+abbrev pub frameTests : List ℕ → List Test
+frameTests b = take 1 (rowTests edition1 0 [] b)
+
+-- a row's membership bytes are the last ones of it
+unfoldable pub frontAt : List ℕ → ℕ → Front
+frontAt b at =
+    cond (eqb (length (drop at b)) 0) ended
+    (cond (eqb (refusal (frameTests (drop at b))) 0)
+    (held (rowOf edition1 (drop at b) .member) (at + 8) (at + rowBytes edition1))
+    (turned (refusal (frameTests (drop at b)))))
+
+-- the bytes from row i on, and the first n rows of a register
+abbrev pub fromRow : List ℕ → ℕ → List ℕ
+fromRow b i = drop (rowBytes edition1 * i) b
+
+unfoldable pub rowsBefore : List ℕ → ℕ → List Row
+rowsBefore b zero = []
+rowsBefore b (suc n) = rowsBefore b n ++ (rowOf edition1 (fromRow b n) ∷ [])
+
+-- the place of the membership bytes of row i
+abbrev pub bitsPlace : ℕ → ℕ
+bitsPlace i = rowBytes edition1 * i + 8
+
+-- bit j of the bytes from a place on, the lowest bit of each byte first
+unfoldable pub bitAt : List ℕ → ℕ → ℕ → ℕ
+bitAt b place j = digit (getD b (place + j / 8) 0) (j % 8)
+
+-- the digits of a word are the bits of word k of the bytes from a place on
+pub record WordAt (b : List ℕ) (place k word : ℕ) : Type 0 where
+  pub each : (j : ℕ) → j < wordBits → digit word j ≡ bitAt b place (wordBits * k + j)
+
+-- whether one of the n bits f is set of which group `groups` and those below have none; `before` groups come before bit 0
+pub record Above (groups before n : ℕ) (f : ℕ → ℕ) (r : Bool) : Type 0 where
+  pub some : r ≡ true → (j : ℕ) × (groups ≤ before + j) × (j < n) × (f j ≡ 1)
+  pub none : r ≡ false → (j : ℕ) → groups ≤ before + j → j < n → f j ≡ 0
+
+-- document 01's number and values of the reader's answer: so many rows, or a refusal with its row
+abbrev pub rowsGive : List ℕ → Rows → Reading (List Row)
+rowsGive b (rows.Count n) = read (rowsBefore b n)
+rowsGive b (rows.Refused n r) = refused n r

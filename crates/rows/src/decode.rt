@@ -1,0 +1,98 @@
+// One row of the lent bytes: its frame and its fields, and the bits of its membership bytes.
+use crate::limits::ROW_BITS;
+use crate::limits::ROW_BYTES;
+use crate::limits::ROW_KIND;
+use crate::limits::ROW_LENGTH;
+use crate::limits::ROW_MEMBER;
+use crate::limits::ROW_WORDS;
+use crate::limits::WORD_BITS;
+use crate::limits::WORD_BYTES;
+use wire::bytes;
+ghost use mathlib.Core.Path.{_≡_};
+ghost use Prim.Native.Nat.{_+_, _≤_, _<_};
+ghost use lib.ListN.{length};
+ghost use Rattle.laws.specs.Digits.{digit};
+ghost use Rattle.wire.specs.Edition.{edition1, membershipBytes};
+ghost use Rattle.wire.specs.Limits.{rowLimit};
+ghost use Rattle.rows.specs.RowsRead.{rowGives, frontAt, bitsPlace, bitAt, wordBits, rowWords, rowGroups, WordAt, Above};
+
+// A row's member, the place of its membership bytes, and the place after the row.
+pub struct RowFound {
+    pub member: u32,
+    pub bits: usize,
+    pub next: usize,
+}
+
+// No bytes are left; a row; or the refusal that its frame meets.
+pub enum RowAnswer {
+    End,
+    Row(RowFound),
+    Refused(u32),
+}
+
+// The row at a place.
+pub fn row_at(register: &[u8], at: usize) -> RowAnswer
+    ensures { λ r. ⌜ rowGives r ≡ frontAt (now (register .entry)) at ⌝ }
+{
+    if register.len() <= at {
+        return RowAnswer::End;
+    }
+    let left = register.len() - at;
+    if left < ROW_BYTES {
+        return RowAnswer::Refused(11);
+    }
+    if bytes::word(register, at) != ROW_LENGTH {
+        return RowAnswer::Refused(11);
+    }
+    if bytes::word(register, at + 2) != ROW_KIND {
+        return RowAnswer::Refused(11);
+    }
+    RowAnswer::Row(RowFound {
+        member: bytes::long(register, at + ROW_MEMBER),
+        bits: at + ROW_BITS,
+        next: at + ROW_BYTES,
+    })
+}
+
+// The place of the membership bytes of the row after `row` rows.
+pub fn bits_of(row: usize) -> usize
+    requires { ⌜ row ≤ rowLimit ⌝ }
+    ensures { λ r. ⌜ r ≡ bitsPlace row ⌝ }
+{
+    ROW_BYTES * row + ROW_BITS
+}
+
+// Word k of the membership bytes at a place.
+pub fn word_at(register: &[u8], place: usize, k: u16) -> u64
+    requires { ⌜ (k < rowWords) × (place + membershipBytes edition1 ≤ length (now register)) ⌝ }
+    ensures { λ r. ⌜ WordAt (now (register .entry)) place k r ⌝ }
+{
+    bytes::wide(register, place + WORD_BYTES * (k as usize))
+}
+
+// whether a bit of a group above `groups` is set in a word that comes after `before` groups
+fn word_above(word: u64, before: u16, groups: u16) -> bool
+    requires { ⌜ before ≤ rowGroups ⌝ }
+    ensures { λ r. ⌜ Above groups before wordBits (digit word) r ⌝ }
+{
+    if before + WORD_BITS <= groups {
+        return false;
+    }
+    if groups <= before {
+        return word != 0;
+    }
+    (word >> (groups - before)) != 0
+}
+
+// whether a bit of a group above `groups` is set in the membership bytes at a place
+pub fn bit_above(register: &[u8], place: usize, groups: u16) -> bool
+    requires { ⌜ place + membershipBytes edition1 ≤ length (now register) ⌝ }
+    ensures { λ r. ⌜ Above groups 0 rowGroups (bitAt (now (register .entry)) place) r ⌝ }
+{
+    for k in 0..ROW_WORDS {
+        if word_above(word_at(register, place, k), WORD_BITS * k, groups) {
+            return true;
+        }
+    }
+    false
+}

@@ -1,0 +1,49 @@
+// All rows of a register, read to an end or to a refusal (10 to 13).
+use crate::decode::RowAnswer;
+use crate::decode::bit_above;
+use crate::limits::ROW_TOO_MANY;
+use crate::limits::ROWS;
+use crate::reader::row_of;
+ghost use mathlib.Core.Path.{_≡_};
+ghost use Rattle.wire.specs.Edition.{edition1};
+ghost use Rattle.wire.specs.RegisterFormat.{readRegister};
+ghost use Rattle.rows.specs.RowsRead.{rowsGive};
+
+// The number of rows, or a refusal's number with the row's number.
+pub enum Rows {
+    Count(usize),
+    Refused(u32, u32),
+}
+
+// All rows, each tested before the next is read.
+pub fn read_rows(register: &[u8], groups: u16) -> Rows
+    ensures { λ r. ⌜ rowsGive (now (register .entry)) r ≡ readRegister edition1 groups (now (register .entry)) ⌝ }
+{
+    let mut at = 0;
+    let mut last: u32 = 0;
+    for row in 0..ROWS {
+        let number = row as u32 + 1;
+        match row_of(register, at) {
+            RowAnswer::End => {
+                return Rows::Count(row);
+            }
+            RowAnswer::Refused(n) => {
+                return Rows::Refused(n, number);
+            }
+            RowAnswer::Row(r) => {
+                if r.member <= last {
+                    return Rows::Refused(12, number);
+                }
+                if bit_above(register, r.bits, groups) {
+                    return Rows::Refused(13, number);
+                }
+                last = r.member;
+                at = r.next;
+            }
+        }
+    }
+    if at < register.len() {
+        return Rows::Refused(10, ROW_TOO_MANY);
+    }
+    Rows::Count(ROWS)
+}
