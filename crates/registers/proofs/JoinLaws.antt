@@ -1,15 +1,16 @@
 -- The columns of a group's sons put together: word by word, son by son, and what they tell of the sons.
 use Prim.Native.Nat.{ℕ, zero, suc, _+_, _-_, _*_, _/_, _%_, _≤_, _<_, min, max}
-use mathlib.Core.Path.{_≡_, refl, _∙_}
+use mathlib.Core.Path.{_≡_, refl, ap, _∙_}
 use mathlib.Core.Bool.{true, false}
 use mathlib.Core.List.{List, [], _∷_, _++_, append-nil, Memᴰ·append-right}
-use mathlib.Core.List.{List·Memᴰ, List·Memᴰ·head, List·Memᴰ·tail, List·Memᴰ·not-nil, List·Memᴰ·cases-cons}
+use mathlib.Core.List.{List·Memᴰ, List·Memᴰ·head, List·Memᴰ·tail, List·Memᴰ·not-nil, List·Memᴰ·cases-cons, List·Memᴰ·eq-of-singleton}
 use mathlib.Core.Logic.{⊎-elim}
 use native.Mathlib.Omega.{arith}
 use native.Mathlib.Nat.{zero-add}
 use native.Mathlib.Numerals.{add-one}
+use borrow.Author.Tests.{lt-ltb}
 use lib.ListN.{length, getD, set, take, length-take, drop-of-length-le}
-use lib.Seq.{getD-set-same, getD-set-other, append-snoc, slice, slice-cons}
+use lib.Seq.{getD-set-same, getD-set-other, append-snoc, slice, slice-cons, length-slice}
 use lib.Bits.{bitAnd}
 use Rattle.laws.specs.Cases.{compare-le, compare-eq, not-true-false, true-not-false}
 use Rattle.laws.specs.Digits.{digit-of-zero, digit-and, digit-or}
@@ -19,7 +20,7 @@ use Rattle.meaning.proofs.SonListLaws.{listed-son, son-listed, son-list-rises}
 use Rattle.rows.specs.RowsRead.{wordBits, rowGroups}
 use Rattle.registers.specs.Columns.{columnWord, columnDigit, inColumn}
 use Rattle.registers.specs.SonLists.{SonsListed}
-use Rattle.registers.specs.SonSteps.{SonsReadable}
+use Rattle.registers.specs.SonSteps.{severalSons, SonsReadable}
 use Rattle.registers.specs.Joins.{Cleared, ColumnJoined, total, heldBy, Joined}
 use Rattle.registers.proofs.ColumnLaws.{column-le, column-one, one-column}
 
@@ -215,3 +216,17 @@ module _ (s : Sheet) (t : List ℕ) (p i : ℕ) where
         column-one t h i x,
         column-one t j i y,
       )
+
+-- a group with two sons has a list of several
+several : (l : List ℕ) (h j : ℕ) → List·Memᴰ h l → List·Memᴰ j l → h < j → 1 < length l
+several [] h j m n o = absurd (List·Memᴰ·not-nil m)
+several (x ∷ []) h j m n o = absurd (omega (arith, List·Memᴰ·eq-of-singleton m, List·Memᴰ·eq-of-singleton n))
+several (x ∷ (y ∷ l)) h j m n o = omega arith
+
+pub two-sons : {s : Sheet} {starts order : List ℕ} {g : ℕ} → SonsListed s starts order → Group s g → (h j : ℕ) → Son s g h → Son s g j → h < j
+    → severalSons starts g ≡ true
+two-sons {s} {starts} {order} {g} w k h j y z o =
+    let l = several (sonList s g) h j (son-listed y) (son-listed z) o in
+    let e = ap length (w .listed g k) in
+    lt-ltb (getD starts g 0 + 1) (getD starts (suc g) 0)
+    (omega (arith, length-slice (getD starts g 0) (getD starts (suc g) 0) order (w .within g k)))

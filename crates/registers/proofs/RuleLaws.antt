@@ -13,12 +13,12 @@ use Rattle.meaning.specs.Tree.{Tree}
 use Rattle.meaning.specs.SonList.{sonList}
 use Rattle.meaning.specs.Sets.{Sets, count}
 use Rattle.meaning.specs.Rule.{Rule, outside, lacking, uncovered, shared, below, above, ruleNumber, Broken}
-use Rattle.reading.specs.Modes.{sameMode}
+use Rattle.reading.specs.Modes.{disjointMode, coverMode, sameMode}
 use Rattle.reading.specs.SheetIn.{sheetIn, Tabled, group-in, parent-in, lo-in, hi-in, disjoint-in, cover-in, same-in, parent-below}
 use Rattle.meaning.proofs.SonLaws.{son-parent}
-use Rattle.laws.specs.Cases.{and-true, split, compare-le}
+use Rattle.laws.specs.Cases.{and-true, or-left, or-right, split, compare-le}
 use Rattle.registers.specs.Columns.{columnDigit, inColumn, columnSets, WordsFor}
-use Rattle.registers.specs.Joins.{heldBy, Joined}
+use Rattle.registers.specs.Joins.{asksSons, heldBy, Joined}
 use Rattle.registers.specs.RuleTests.{parentIn, loIn, hiIn, modeIn, mayBreak, rowBreaks, countBreaks}
 use Rattle.registers.proofs.ColumnLaws.{bit-column, column-one, one-column}
 use Rattle.registers.proofs.JoinLaws.{none-held, held-none, two-held, held-two}
@@ -41,26 +41,27 @@ module _ {l c : List ℕ} {words : ℕ} {some two : List ℕ} (k : Joined l c wo
   true-two : 1 < heldBy c l i → inColumn two 0 i ≡ true
   true-two h = one-column two 0 i (omega (arith, k .in-two i o))
 
--- whether rule q, one of the first four, can be broken at a group of any sheet
-abbrev pub may : Sheet → ℕ → Rule → Bool
-may s g outside = ltb 0 (s .parent g)
-may s g lacking = ltb 0 (s .parent g) && s .same (s .parent g)
-may s g uncovered = s .cover g
-may s g shared = s .disjoint g
-may s g below = false
-may s g above = false
+-- whether rule q, one of the first four, can be broken at a group of any sheet, with several sons or not
+abbrev pub may : Sheet → Bool → ℕ → Rule → Bool
+may s several g outside = ltb 0 (s .parent g)
+may s several g lacking = ltb 0 (s .parent g) && s .same (s .parent g)
+may s several g uncovered = s .cover g
+may s several g shared = s .disjoint g && several
+may s several g below = false
+may s several g above = false
 
 -- A rule of one member is broken exactly by a row that breaks it, where it can be broken. Columns have no digits after row n.
 module _ (s : Sheet) (T : Tree s) (c : List ℕ) (n words : ℕ) (some two : List ℕ) (g : ℕ) (f : WordsFor n words)
     (others : (h i : ℕ) → Group s h → n ≤ i → i < rowLimit → columnDigit c h i ≡ 0) (y : Group s g)
-    (k : (q : Rule) → 3 ≤ ruleNumber q → may s g q ≡ true → Joined (sonList s g) c words some two) where
+    (several : Bool) (two-sons : (h j : ℕ) → Son s g h → Son s g j → h < j → several ≡ true)
+    (k : (q : Rule) → 3 ≤ ruleNumber q → may s several g q ≡ true → Joined (sonList s g) c words some two) where
   in-rows : (h i : ℕ) → Group s h → i < wordBits * words → inColumn c h i ≡ true → i < n
   in-rows h i z o e =
       compare-le n i
       (λ m. absurd (omega (arith, column-one c h i e, others h i z m (omega (arith, f .most)))))
       (λ m. m)
 
-  pub by-row : (q : Rule) (i : ℕ) → ruleNumber q < 5 → i < wordBits * words → may s g q ≡ true
+  pub by-row : (q : Rule) (i : ℕ) → ruleNumber q < 5 → i < wordBits * words → may s several g q ≡ true
       → rowBreaks (ruleNumber q) c some two g (s .parent g) i ≡ true
       → Broken s (columnSets c n) g q
   unfolding rowBreaks
@@ -88,12 +89,12 @@ module _ (s : Sheet) (T : Tree s) (c : List ℕ) (n words : ℕ) (some two : Lis
       )
   by-row shared i l o m e =
       let x = two-held s c g i (two-true (k shared (omega arith) m) i o e) in
-      (x .0, x .1, i, m, x .2, x .3, x .4, in-rows (x .0) i (x .2 .group) o (x .5), x .5, x .6)
+      (x .0, x .1, i, and-true (s .disjoint g) several m .0, x .2, x .3, x .4, in-rows (x .0) i (x .2 .group) o (x .5), x .5, x .6)
   by-row below i l o m e = absurd (omega arith)
   by-row above i l o m e = absurd (omega arith)
 
   pub row-of : (q : Rule) → ruleNumber q < 5 → Broken s (columnSets c n) g q
-      → (may s g q ≡ true) × ((i : ℕ) × (i < wordBits * words) × (rowBreaks (ruleNumber q) c some two g (s .parent g) i ≡ true))
+      → (may s several g q ≡ true) × ((i : ℕ) × (i < wordBits * words) × (rowBreaks (ruleNumber q) c some two g (s .parent g) i ≡ true))
   unfolding rowBreaks
   row-of outside l (p, i, z, o, a, b) =
       (lt-ltb 0 (s .parent g) (omega arith), (i, omega (arith, f .enough), rw (z .under, a, b)))
@@ -104,7 +105,8 @@ module _ (s : Sheet) (T : Tree s) (c : List ℕ) (n words : ℕ) (some two : Lis
       (m, (i, w, rw (a, false-some (k uncovered (omega arith) m) i w (held-none s c g i h))))
   row-of shared l (h, j, i, m, z, d, x, o, a, b) =
       let w : i < wordBits * words = omega (arith, f .enough) in
-      (m, (i, w, true-two (k shared (omega arith) m) i w (held-two s c g i h j z d x a b)))
+      let v : may s several g shared ≡ true = rw (m, two-sons h j z d x) in
+      (v, (i, w, true-two (k shared (omega arith) v) i w (held-two s c g i h j z d x a b)))
   row-of below l v = absurd (omega arith)
   row-of above l v = absurd (omega arith)
 
@@ -135,7 +137,7 @@ rule-numbered (suc (suc (suc (suc (suc (suc zero)))))) a b = (above, refl)
 rule-numbered (suc (suc (suc (suc (suc (suc (suc k))))))) a b = absurd (omega arith)
 
 -- the tests of a table of groups
-module _ {t : List ℕ} {n : ℕ} (k : Tabled t n) (g : ℕ) (a : 1 ≤ g) (b : g ≤ n) where
+module _ {t : List ℕ} {n : ℕ} (k : Tabled t n) (several : Bool) (g : ℕ) (a : 1 ≤ g) (b : g ≤ n) where
   group : Group (sheetIn t n) g
   group = group-in t n a b
 
@@ -146,7 +148,7 @@ module _ {t : List ℕ} {n : ℕ} (k : Tabled t n) (g : ℕ) (a : 1 ≤ g) (b : 
       (λ o. rw (same-in t n (parentIn t g) (group-in t n o (omega (arith, parent-below k g (parentIn t g) b refl a)))))
       (λ o. rw (le-ltb 0 (parentIn t g) (omega arith)))
 
-  pub may-is : (q : Rule) → ruleNumber q < 5 → mayBreak t g (ruleNumber q) ≡ may (sheetIn t n) g q
+  pub may-is : (q : Rule) → ruleNumber q < 5 → mayBreak t several g (ruleNumber q) ≡ may (sheetIn t n) several g q
   unfolding mayBreak
   may-is outside l = rw (parent-in t n g group)
   may-is lacking l = rw (parent-in t n g group) same-parent
@@ -155,14 +157,15 @@ module _ {t : List ℕ} {n : ℕ} (k : Tabled t n) (g : ℕ) (a : 1 ≤ g) (b : 
   may-is below l = absurd (omega arith)
   may-is above l = absurd (omega arith)
 
-  -- a group where rule 3 or rule 4 can be broken is 'cover' or 'disjoint'
-  pub may-asked : (q : Rule) → 3 ≤ ruleNumber q → may (sheetIn t n) g q ≡ true → modeIn t g % 4 ≡ 0 → ⊥
-  may-asked outside l m e = omega arith
-  may-asked lacking l m e = omega arith
-  may-asked uncovered l m e = omega (arith, eqb-true (modeIn t g / 2 % 2) 1 (sym (cover-in t n g group) ∙ m))
-  may-asked shared l m e = omega (arith, eqb-true (modeIn t g % 2) 1 (sym (disjoint-in t n g group) ∙ m))
-  may-asked below l m e = false≢true m
-  may-asked above l m e = false≢true m
+  -- where rule 3 or rule 4 can be broken, the sons are asked for
+  pub may-asked : (q : Rule) → 3 ≤ ruleNumber q → may (sheetIn t n) several g q ≡ true → asksSons (modeIn t g) several ≡ true
+  may-asked outside l m = absurd (omega arith)
+  may-asked lacking l m = absurd (omega arith)
+  may-asked uncovered l m = or-left (coverMode (modeIn t g)) _ (sym (cover-in t n g group) ∙ m)
+  may-asked shared l m =
+      or-right (coverMode (modeIn t g)) (disjointMode (modeIn t g) && several) (rw (← disjoint-in t n g group) m)
+  may-asked below l m = absurd (false≢true m)
+  may-asked above l m = absurd (false≢true m)
 
   -- a count that breaks a rule, and a rule that a count breaks
   over : (c h : ℕ) → (not (eqb h noEnd) && ltb h c) ≡ true → AtMost c (endOf noEnd h) → ⊥

@@ -16,12 +16,14 @@ use Rattle.laws.specs.Cases.{compare-le, below-suc, true-not-false}
 use Rattle.registers.specs.Unbroken.{unbroken-fits, fits-answered, broken-answered}
 use Rattle.registers.specs.Columns.{columnSets, columns-distinct, WordsFor}
 use Rattle.registers.specs.SonLists.{keptSons}
+use Rattle.registers.specs.SonSteps.{severalSons}
 use Rattle.registers.specs.Joins.{Joined, JoinedFor}
 use Rattle.registers.specs.Tallies.{Checkable, Gathered}
 use Rattle.registers.specs.RuleTests.{parentIn, modeIn, mayBreak, rowBreaks, SomeBit, countBreaks}
 use Rattle.registers.specs.Checked.{AnswerTo}
 use Rattle.reading.specs.declared.tables.GroupNo.{GroupNo}
 use Rattle.registers.specs.declared.check.Check.the-variants as check
+use Rattle.registers.proofs.JoinLaws.{two-sons}
 use Rattle.registers.proofs.RuleLaws.{may, rule-first, rule-last, rule-numbered, by-row, row-of, may-is, may-asked, by-count, count-of}
 
 -- nothing is broken at a group before g
@@ -90,13 +92,13 @@ module _ {t : List ℕ} {n : ℕ} {c : List ℕ} {rows : ℕ} {starts order coun
       }
 
   module _ {words : ℕ} {some two : List ℕ} (g k : ℕ) (a : 1 ≤ g) (b : g ≤ n) (f : WordsFor rows words)
-      (sons : JoinedFor (modeIn t g) (keptSons starts order g) c words some two)
+      (sons : JoinedFor (modeIn t g) (severalSons starts g) (keptSons starts order g) c words some two)
       (r : ClearRules (sheetIn t n) (columnSets c rows) g k) where
     group : Group (sheetIn t n) g
     group = group-in t n a b
 
-    joined : (q : Rule) → 3 ≤ ruleNumber q → may (sheetIn t n) g q ≡ true → Joined (sonList (sheetIn t n) g) c words some two
-    joined q l m = rw (← G .sons .listed g group) (sons .joined (may-asked (T .tabled) g a b q l m))
+    joined : (q : Rule) → 3 ≤ ruleNumber q → may (sheetIn t n) (severalSons starts g) g q ≡ true → Joined (sonList (sheetIn t n) g) c words some two
+    joined q l m = rw (← G .sons .listed g group) (sons .joined (may-asked (T .tabled) _ g a b q l m))
 
     -- no row breaks the rule
     pub rules-row : k < 5 → (w : ℕ) → words ≤ w → ClearRows k c some two w g (parentIn t g)
@@ -104,23 +106,23 @@ module _ {t : List ℕ} {n : ℕ} {c : List ℕ} {rows : ℕ} {starts order coun
     rules-row l w m d =
         rules-more (sheetIn t n) (columnSets c rows) g k r
         (λ q e v.
-        let x = row-of (sheetIn t n) (T .tabled .tree) c rows words some two g f (G .others) group joined q (omega arith) v .1 in
+        let x = row-of (sheetIn t n) (T .tabled .tree) c rows words some two g f (G .others) group (severalSons starts g) (two-sons (G .sons) group) joined q (omega arith) v .1 in
         rows-clash e (parent-in t n g group) d (x .0) (omega arith) (x .2))
 
     -- the rule cannot be broken at the group
-    pub rules-not : k < 5 → mayBreak t g k ≡ false → ClearRules (sheetIn t n) (columnSets c rows) g (k + 1)
+    pub rules-not : k < 5 → mayBreak t (severalSons starts g) g k ≡ false → ClearRules (sheetIn t n) (columnSets c rows) g (k + 1)
     rules-not l d =
         rules-more (sheetIn t n) (columnSets c rows) g k r
         (λ q e v.
-        let x = row-of (sheetIn t n) (T .tabled .tree) c rows words some two g f (G .others) group joined q (omega arith) v .0 in
-        true-not-false _ x (sym (may-is (T .tabled) g a b q (omega arith)) ∙ (rw e d)))
+        let x = row-of (sheetIn t n) (T .tabled .tree) c rows words some two g f (G .others) group (severalSons starts g) (two-sons (G .sons) group) joined q (omega arith) v .0 in
+        true-not-false _ x (sym (may-is (T .tabled) (severalSons starts g) g a b q (omega arith)) ∙ (rw e d)))
 
     -- the count does not break the rule
     pub rules-count : 5 ≤ k → countBreaks t (getD counts g 0) g k ≡ false
         → ClearRules (sheetIn t n) (columnSets c rows) g (k + 1)
     rules-count l d =
         rules-more (sheetIn t n) (columnSets c rows) g k r
-        (λ q e v. count-of (T .tabled) g a b (columnSets c rows) q (getD counts g 0) (omega arith) (G .counts .each g group) (rw e d) v)
+        (λ q e v. count-of (T .tabled) (severalSons starts g) g a b (columnSets c rows) q (getD counts g 0) (omega arith) (G .counts .each g group) (rw e d) v)
 
     module _ (d : ClearGroups (sheetIn t n) (columnSets c rows) g) (o : 1 ≤ k) (p : GroupNo) (e : p .0 ≡ g) where
       -- the rule is broken
@@ -139,16 +141,16 @@ module _ {t : List ℕ} {n : ℕ} {c : List ℕ} {rows : ℕ} {starts order coun
           }
 
       -- a row of a word breaks it
-      pub scan-row : k < 5 → (w : ℕ) → w < words → mayBreak t g k ≡ true
+      pub scan-row : k < 5 → (w : ℕ) → w < words → mayBreak t (severalSons starts g) g k ≡ true
           → (x : Bool) → SomeBit (λ j. rowBreaks k c some two g (parentIn t g) (wordBits * w + j)) x → x ≡ true
           → AnswerTo (sheetIn t n) (columnSets c rows) (check.Broken p k)
       scan-row l w m y x z h =
           let q = rule-numbered k o (omega arith) in
           let j = z .some h in
           scan-broken (q .0) (q .1)
-          (by-row (sheetIn t n) (T .tabled .tree) c rows words some two g f (G .others) group joined (q .0) (wordBits * w + j .0)
+          (by-row (sheetIn t n) (T .tabled .tree) c rows words some two g f (G .others) group (severalSons starts g) (two-sons (G .sons) group) joined (q .0) (wordBits * w + j .0)
           (omega arith) (omega arith)
-          (sym (may-is (T .tabled) g a b (q .0) (omega arith)) ∙ (rw (← q .1) y))
+          (sym (may-is (T .tabled) (severalSons starts g) g a b (q .0) (omega arith)) ∙ (rw (← q .1) y))
           (rw (← q .1, parent-in t n g group) (j .2)))
 
       -- the count breaks it
@@ -157,4 +159,4 @@ module _ {t : List ℕ} {n : ℕ} {c : List ℕ} {rows : ℕ} {starts order coun
       scan-count l m x =
           let q = rule-numbered k o m in
           scan-broken (q .0) (q .1)
-          (by-count (T .tabled) g a b (columnSets c rows) (q .0) (getD counts g 0) (omega arith) (G .counts .each g group) (rw (← q .1) x))
+          (by-count (T .tabled) (severalSons starts g) g a b (columnSets c rows) (q .0) (getD counts g 0) (omega arith) (G .counts .each g group) (rw (← q .1) x))

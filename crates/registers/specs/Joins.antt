@@ -1,9 +1,11 @@
 -- The columns of several groups put together, word by word: who is in some of them, and who is in two.
-use Prim.Native.Nat.{ℕ, _+_, _-_, _*_, _%_, _<_, min}
+use Prim.Native.Nat.{ℕ, _+_, _-_, _*_, _<_, min}
 use mathlib.Core.Path.{_≡_}
+use mathlib.Core.Bool.{Bool, true, _&&_, _||_}
 use mathlib.Core.List.{List, [], _∷_}
 use lib.ListN.{getD}
 use lib.Bits.{bitAnd, bitOr}
+use Rattle.reading.specs.Modes.{disjointMode, coverMode}
 use Rattle.rows.specs.RowsRead.{wordBits}
 use Rattle.registers.specs.Columns.{columnWord, columnDigit}
 
@@ -30,6 +32,10 @@ pub record Joined (l t : List ℕ) (words : ℕ) (some two : List ℕ) : Type 0 
   pub in-some : (i : ℕ) → i < wordBits * words → columnDigit some 0 i ≡ min 1 (heldBy t l i)
   pub in-two : (i : ℕ) → i < wordBits * words → columnDigit two 0 i ≡ min 1 (heldBy t l i - 1)
 
--- the same of a group whose mode has 'disjoint' or 'cover'
-pub record JoinedFor (mode : ℕ) (l t : List ℕ) (words : ℕ) (some two : List ℕ) : Type 0 where
-  pub joined : (mode % 4 ≡ 0 → ⊥) → Joined l t words some two
+-- whether rule 3 or rule 4 asks for the sons of a group
+abbrev pub asksSons : ℕ → Bool → Bool
+asksSons mode several = coverMode mode || disjointMode mode && several
+
+-- the same where the sons are asked for
+pub record JoinedFor (mode : ℕ) (several : Bool) (l t : List ℕ) (words : ℕ) (some two : List ℕ) : Type 0 where
+  pub joined : asksSons mode several ≡ true → Joined l t words some two

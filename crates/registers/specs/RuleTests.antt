@@ -28,15 +28,15 @@ hiIn t g = getD t (4 * (g - 1) + 2) 0
 abbrev pub modeIn : List ℕ → ℕ → ℕ
 modeIn t g = getD t (4 * (g - 1) + 3) 0
 
--- rules 1 and 2 need a parent, 2 one that is 'same', 3 needs 'cover' and 4 'disjoint'
-unfoldable pub mayBreak : List ℕ → ℕ → ℕ → Bool
-mayBreak t g k =
+-- rules 1 and 2 need a parent, 2 one that is 'same', 3 needs 'cover' and 4 'disjoint' over several sons
+unfoldable pub mayBreak : List ℕ → Bool → ℕ → ℕ → Bool
+mayBreak t several g k =
     byRule
     k
     (ltb 0 (parentIn t g))
     (ltb 0 (parentIn t g) && sameMode (modeIn t (parentIn t g)))
     (coverMode (modeIn t g))
-    (disjointMode (modeIn t g))
+    (disjointMode (modeIn t g) && several)
 
 -- whether row i of the columns c breaks rule k at group g, whose parent is p; column 0 of `some` and of `two` tells who is in
 -- some son and who is in two

@@ -10,6 +10,7 @@ use crate::limits::COLUMNS;
 use crate::limits::SON_STARTS;
 use crate::limits::SONS;
 use crate::sons::gather_sons;
+use crate::sons::several_sons;
 use reading::tables::GroupNo;
 use reading::tables::NO_END;
 use reading::tables::hi_of;
@@ -31,7 +32,8 @@ ghost use Rattle.rows.specs.RowsRead.{wordBits};
 ghost use Rattle.registers.specs.Columns.{groupPlaces, columnSets};
 ghost use Rattle.registers.specs.Tallies.{Checkable, Gathered, Joinable, WordAsked};
 ghost use Rattle.registers.specs.SonLists.{keptSons};
-ghost use Rattle.registers.specs.Joins.{JoinedFor};
+ghost use Rattle.registers.specs.SonSteps.{severalSons};
+ghost use Rattle.registers.specs.Joins.{asksSons, JoinedFor};
 ghost use Rattle.registers.specs.RuleTests.{parentIn, modeIn, mayBreak, SomeBit, rowBreaks, countBreaks};
 ghost use Rattle.registers.specs.Checked.{AnswerTo, Checked, Tallied};
 
@@ -43,9 +45,9 @@ pub enum Check {
 }
 
 // whether one of the rules 1 to 4 can be broken at a group with the parent p
-fn may_break(groups: &[u16], g: GroupNo, p: GroupNo, rule: u16) -> bool
-    requires { ⌜ (1 ≤ g .0) × ((4 * (g .0) ≤ length (now groups)) × ((p .0 < g .0) × (p .0 ≡ parentIn (now groups) (g .0)))) ⌝ }
-    ensures { λ r. ⌜ r ≡ mayBreak (now (groups .entry)) (g .0) rule ⌝ }
+fn may_break(groups: &[u16], starts: &[u32], g: GroupNo, p: GroupNo, rule: u16) -> bool
+    requires { ⌜ (g .0 + 1 < length (now starts)) × ((1 ≤ g .0) × ((4 * (g .0) ≤ length (now groups)) × ((p .0 < g .0) × (p .0 ≡ parentIn (now groups) (g .0))))) ⌝ }
+    ensures { λ r. ⌜ r ≡ mayBreak (now (groups .entry)) (severalSons (now (starts .entry)) (g .0)) (g .0) rule ⌝ }
 {
     if rule == 1 {
         return 0 < p.0;
@@ -59,7 +61,10 @@ fn may_break(groups: &[u16], g: GroupNo, p: GroupNo, rule: u16) -> bool
     if rule == 3 {
         return mode_of(groups, g) / 2 % 2 == 1;
     }
-    mode_of(groups, g) % 2 == 1
+    if mode_of(groups, g) % 2 == 1 {
+        return several_sons(starts, g);
+    }
+    false
 }
 
 // whether a word has a bit that another lacks
@@ -110,6 +115,19 @@ fn count_breaks(groups: &[u16], counts: &[u32], g: GroupNo, rule: u16) -> bool
     (hi as u32) < n
 }
 
+// whether rule 3 or rule 4 asks for a group's sons
+fn asks_sons(mode: u16, several: bool) -> bool
+    ensures { λ r. ⌜ r ≡ asksSons mode several ⌝ }
+{
+    if mode / 2 % 2 == 1 {
+        return true;
+    }
+    if mode % 2 == 1 {
+        return several;
+    }
+    false
+}
+
 // the columns of a group's sons, where rule 3 or rule 4 asks for them
 fn join_asked(
     groups: &[u16],
@@ -122,12 +140,11 @@ fn join_asked(
     two: &mut [u64],
 )
     requires { ⌜ (1 ≤ g .0) × ((4 * (g .0) ≤ length (now groups)) × Joinable (now columns) words (now starts) (now order) (g .0) (now some) (now two)) ⌝ }
-    ensures { λ _. ⌜ JoinedFor (modeIn (now (groups .entry)) (g .0)) (keptSons (now (starts .entry)) (now (order .entry)) (g .0)) (now (columns .entry)) words (now (some .exit)) (now (two .exit)) ⌝ }
+    ensures { λ _. ⌜ JoinedFor (modeIn (now (groups .entry)) (g .0)) (severalSons (now (starts .entry)) (g .0)) (keptSons (now (starts .entry)) (now (order .entry)) (g .0)) (now (columns .entry)) words (now (some .exit)) (now (two .exit)) ⌝ }
 {
-    if mode_of(groups, g) % 4 == 0 {
-        return;
+    if asks_sons(mode_of(groups, g), several_sons(starts, g)) {
+        join_sons(columns, words, starts, order, g, some, two);
     }
-    join_sons(columns, words, starts, order, g, some, two);
 }
 
 // The scan over groups, rules and rows, 64 rows at a time, left at the first broken rule.
@@ -154,7 +171,7 @@ fn scan(
         join_asked(groups, columns, words, starts, order, group, some, two);
         for rule in 1..7u16 {
             if rule < 5 {
-                if may_break(groups, group, p, rule) {
+                if may_break(groups, starts, group, p, rule) {
                     for w in 0..words {
                         if word_breaks(rule, columns, some, two, w, group, p) {
                             answer = Check::Broken(group, rule);

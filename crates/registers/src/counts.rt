@@ -31,11 +31,11 @@ fn count_column(columns: &[u64], g: GroupNo, words: usize) -> u32
     requires { ⌜ (g .0 ≤ rowGroups) × ((words ≤ columnWords) × (columnsLength ≤ length (now columns))) ⌝ }
     ensures { λ r. ⌜ r ≡ sum (columnDigit (now (columns .entry)) (g .0)) (wordBits * words) ⌝ }
 {
-    let mut n = 0u32;
+    let mut n = 0u64;
     for w in 0..words {
-        n = n + u64::count_ones(column_word(columns, g, w));
+        n = n + u64::count_ones(column_word(columns, g, w)) as u64;
     }
-    n
+    n as u32
 }
 
 // the count of each group

@@ -10,11 +10,13 @@ use borrow.Author.Tests.{lt-ltb, le-ltb, le-leb, lt-leb, eq-eqb, ne-eqb, eqb-tru
 use lib.ListN.{length, drop, getD, length-append, length-drop, List·getD-append}
 use lib.Seq.{getD-take, getD-drop, drop-drop, getD-at}
 use lib.Dec.{leb, eqb}
-use Rattle.laws.specs.Cases.{split, and-true, below-suc}
+use Rattle.laws.specs.Cases.{split, and-true, compare-eq, below-suc}
 use Rattle.wire.specs.Limits.{rowLimit}
 use Rattle.wire.specs.Edition.{edition1, groupLimit, membershipBytes, rowBytes, rowKind}
 use Rattle.wire.specs.Bytes.{u16At, u32At}
 use Rattle.wire.specs.Fields.{u16-drop}
+use Rattle.wire.specs.Encoding.{Bytes}
+use Rattle.wire.specs.Facts.{u16-most}
 use Rattle.wire.specs.Record.{after, Reading, read, refused, onward, refusal}
 use Rattle.wire.specs.RegisterFormat.{Row, rowOf, inGroup, lastMember, clearAbove, rowTests, readRows, readRegister}
 use Rattle.wire.specs.Many.{Reads, stop, go}
@@ -72,6 +74,11 @@ u32-drop : (n : ℕ) (b : List ℕ) (i : ℕ) → u32At (drop n b) i ≡ u32At b
 unfolding u32At
 u32-drop n b i = simp (getD-drop, add-assoc)
 
+-- a field of four bytes is two of two
+u32-halves : (b : List ℕ) (i : ℕ) → u32At b i ≡ u16At b i + 65536 * u16At b (i + 2)
+unfolding u16At u32At
+u32-halves b i = let e : i + 2 + 1 ≡ i + 3 = omega arith in rw e (omega arith)
+
 -- what bytes begin with
 abbrev rowFramed : List ℕ → Bool
 rowFramed b = leb (rowBytes edition1) (length b) && eqb (u16At b 0) (rowBytes edition1 - 2) && eqb (u16At b 2) (rowKind edition1)
@@ -115,19 +122,29 @@ module _ (b : List ℕ) (at : ℕ) where
           add-zero at,
         ))
 
-    pub front-length : (u16At b at ≡ rowBytes edition1 - 2 → ⊥) → frontAt b at ≡ turned 11
-    front-length e = front-long ∙ (rw (ne-eqb (u16At b at) (rowBytes edition1 - 2) e))
+    -- length and kind as one field
+    abbrev frame : ℕ
+    frame = rowBytes edition1 - 2 + 65536 * rowKind edition1
 
-    module _ (d : u16At b at ≡ rowBytes edition1 - 2) where
-      pub front-kind : (u16At b (at + 2) ≡ rowKind edition1 → ⊥) → frontAt b at ≡ turned 11
-      front-kind e = front-long ∙ (rw (eq-eqb (u16At b at) (rowBytes edition1 - 2) d, ne-eqb (u16At b (at + 2)) (rowKind edition1) e))
+    framed-by : Bytes b → u32At b at ≡ frame → (u16At b at ≡ rowBytes edition1 - 2) × (u16At b (at + 2) ≡ rowKind edition1)
+    unfolding membershipBytes rowKind
+    framed-by k e = omega (arith, u32-halves b at, u16-most b k at, u16-most b k (at + 2))
 
-      pub front-row : u16At b (at + 2) ≡ rowKind edition1 → {m : ℕ} → m ≡ u32At b (at + 4)
-          → held m (at + 8) (at + rowBytes edition1) ≡ frontAt b at
-      unfolding rowOf
-      front-row e x =
-          rw (x, ← u32-drop at b 4)
-          (sym (front-long ∙ (rw (eq-eqb (u16At b at) (rowBytes edition1 - 2) d, eq-eqb (u16At b (at + 2)) (rowKind edition1) e))))
+    pub front-frame : (u32At b at ≡ frame → ⊥) → frontAt b at ≡ turned 11
+    front-frame n =
+        front-long
+        ∙ compare-eq (u16At b at) (rowBytes edition1 - 2)
+        (λ x. compare-eq (u16At b (at + 2)) (rowKind edition1)
+        (λ y. absurd (n (omega (arith, u32-halves b at))))
+        (λ y. rw (eq-eqb (u16At b at) (rowBytes edition1 - 2) x, ne-eqb (u16At b (at + 2)) (rowKind edition1) y)))
+        (λ x. rw (ne-eqb (u16At b at) (rowBytes edition1 - 2) x))
+
+    pub front-row : Bytes b → u32At b at ≡ frame → {m : ℕ} → m ≡ u32At b (at + 4) → held m (at + 8) (at + rowBytes edition1) ≡ frontAt b at
+    unfolding rowOf
+    front-row k e x =
+        let w = framed-by k e in
+        rw (x, ← u32-drop at b 4)
+        (sym (front-long ∙ (rw (eq-eqb (u16At b at) (rowBytes edition1 - 2) (w .0), eq-eqb (u16At b (at + 2)) (rowKind edition1) (w .1)))))
 
   -- what an answer says of the bytes
   end-empty : ended ≡ frontAt b at → eqb (length (drop at b)) 0 ≡ true

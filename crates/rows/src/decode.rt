@@ -1,8 +1,7 @@
 // One row of the lent bytes: its frame and its fields, and the bits of its membership bytes.
 use crate::limits::ROW_BITS;
 use crate::limits::ROW_BYTES;
-use crate::limits::ROW_KIND;
-use crate::limits::ROW_LENGTH;
+use crate::limits::ROW_FRAME;
 use crate::limits::ROW_MEMBER;
 use crate::limits::ROW_WORDS;
 use crate::limits::WORD_BITS;
@@ -12,7 +11,7 @@ ghost use mathlib.Core.Path.{_≡_};
 ghost use Prim.Native.Nat.{_+_, _≤_, _<_};
 ghost use lib.ListN.{length};
 ghost use Rattle.laws.specs.Digits.{digit};
-ghost use Rattle.wire.specs.Edition.{edition1, membershipBytes};
+ghost use Rattle.wire.specs.Edition.{edition1, membershipBytes, rowBytes};
 ghost use Rattle.wire.specs.Limits.{rowLimit};
 ghost use Rattle.rows.specs.RowsRead.{rowGives, frontAt, bitsPlace, bitAt, wordBits, rowWords, rowGroups, WordAt, Above};
 
@@ -30,21 +29,28 @@ pub enum RowAnswer {
     Refused(u32),
 }
 
-// The row at a place.
-pub fn row_at(register: &[u8], at: usize) -> RowAnswer
+// what stands at a place where no whole row does
+fn no_row(register: &[u8], at: usize) -> RowAnswer
+    requires { ⌜ length (now register) < at + rowBytes edition1 ⌝ }
     ensures { λ r. ⌜ rowGives r ≡ frontAt (now (register .entry)) at ⌝ }
 {
     if register.len() <= at {
         return RowAnswer::End;
     }
-    let left = register.len() - at;
-    if left < ROW_BYTES {
-        return RowAnswer::Refused(11);
+    RowAnswer::Refused(11)
+}
+
+// The row at a place.
+pub fn row_at(register: &[u8], at: usize) -> RowAnswer
+    ensures { λ r. ⌜ rowGives r ≡ frontAt (now (register .entry)) at ⌝ }
+{
+    if register.len() < ROW_BYTES {
+        return no_row(register, at);
     }
-    if bytes::word(register, at) != ROW_LENGTH {
-        return RowAnswer::Refused(11);
+    if register.len() - ROW_BYTES < at {
+        return no_row(register, at);
     }
-    if bytes::word(register, at + 2) != ROW_KIND {
+    if bytes::long(register, at) != ROW_FRAME {
         return RowAnswer::Refused(11);
     }
     RowAnswer::Row(RowFound {

@@ -17,6 +17,9 @@ pub const ROW_LENGTH: u16 = ROW_BYTES as u16 - 2;
 
 pub const ROW_KIND: u16 = 32;
 
+// Length and kind, read as one field.
+pub const ROW_FRAME: u32 = ROW_LENGTH as u32 + 65536 * (ROW_KIND as u32);
+
 // The membership bytes as words of eight bytes, a bit for each of 64 groups.
 pub const WORD_BYTES: usize = 8;
 

@@ -97,9 +97,11 @@ loop-holds c =
 may-break-requires : tie.Need-may-break-requires Inv-loop2 μ-loop2 Inv-loop μ-loop Inv-scan μ-scan
 may-break-requires c κs =
     let q = parent (c .before .before) in
+    let p = start (q .before) .pre in
+    let a = start (q .before) .args in
     let l = below (q .before) in (
-      search needs,
-      (omega (arith, start (q .before) .pre .0 .tabled .long), (omega (arith, q .parent-of .ensures), q .parent-of .ensures)),
+      omega (arith, p .1 .sons .long, size-in (a .groups .now) (a .size)),
+      (search needs, (omega (arith, p .0 .tabled .long), (omega (arith, q .parent-of .ensures), q .parent-of .ensures))),
     )
 
 loop2-holds : tie.Need-loop2-holds Inv-loop2 μ-loop2 Inv-loop μ-loop Inv-scan μ-scan
@@ -223,7 +225,9 @@ same-length-3 : tie.Need-same-length-3 Inv-loop2 μ-loop2 Inv-loop μ-loop Inv-s
 same-length-3 c = search needs
 
 same-length-4 : tie.Need-same-length-4 Inv-loop2 μ-loop2 Inv-loop μ-loop Inv-scan μ-scan
-same-length-4 c = search needs
+same-length-4 c =
+    let l = c .before .before .before .before .before .before .before .before .before .before in
+    search (needs, joining l .join-asked .kept, parent l .before .before .scan .inv)
 
 returns-2 : tie.Need-returns-2 Inv-loop2 μ-loop2 Inv-loop μ-loop Inv-scan μ-scan
 returns-2 c =

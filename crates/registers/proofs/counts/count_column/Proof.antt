@@ -3,7 +3,7 @@ use borrow.Author.Needs.{needs}
 use native.Mathlib.Omega.{arith}
 use Prim.Native.Nat.{_-_, _*_, _≤_}
 use mathlib.Core.Path.{_≡_, refl, sym, _∙_}
-use lib.Count.{ones-le}
+use lib.Count.{ones, ones-le}
 use Rattle.laws.specs.Sum.{sum}
 use Rattle.rows.specs.RowsRead.{wordBits}
 use Rattle.registers.specs.Columns.{columnDigit}
@@ -24,11 +24,17 @@ loop-holds c = (search needs, refl)
 column-word-requires : tie.Need-column-word-requires Inv-loop μ-loop
 column-word-requires c κs = search needs
 
+few : (c : tie.After-column-word Inv-loop μ-loop) → ones (c .column-word .result) ≤ wordBits
+few c = ones-le wordBits (c .column-word .result) (search needs)
+
+cast-n : tie.Need-cast-n Inv-loop μ-loop
+cast-n c = omega (arith, few c)
+
 add-n : tie.Need-add-n Inv-loop μ-loop
 add-n c =
     let l = c .before .before .loop in
     let a = c .before .before .before .before .args in
-    omega (arith, ones-le 64 (c .column-word .result) (search needs), count-most (a .columns .now) (a .g .0) (wordBits * l .w))
+    omega (arith, few c, count-most (a .columns .now) (a .g .0) (wordBits * l .w))
 
 add-w : tie.Need-add-w Inv-loop μ-loop
 add-w c = search needs
@@ -40,6 +46,12 @@ loop-again : tie.Need-loop-again Inv-loop μ-loop
 loop-again c =
     let l = c .before .before .loop in
     (search needs, rw (l .inv .1, c .column-word .ensures) (sym (count-word _ _ _ (rw (← c .column-word .ensures) (search needs)))))
+
+cast-result : tie.Need-cast-result Inv-loop μ-loop
+cast-result c =
+    let l = c .before .loop in
+    let a = c .before .before .before .args in
+    omega (arith, count-most (a .columns .now) (a .g .0) (wordBits * l .w))
 
 returns : tie.Need-returns Inv-loop μ-loop
 returns c =
@@ -55,8 +67,10 @@ count-column-spec =
     μ-loop
     loop-holds
     column-word-requires
+    cast-n
     add-n
     add-w
     loop-less
     loop-again
+    cast-result
     returns)
