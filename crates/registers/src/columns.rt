@@ -1,5 +1,5 @@
 // A column of bits for each group: bit i is set where the member of row i is in the group, 64 rows a word. The groups of a row
-// are taken lowest bit first, as many as the row has ones.
+// are taken lowest bit first; as many are left to take as there are ones left.
 use crate::limits::COLUMN_WORDS;
 use reading::tables::GroupNo;
 use rows::decode::bits_of;
@@ -71,9 +71,8 @@ fn put_word(word: u64, before: u16, row: usize, columns: &mut [u64])
     requires { ⌜ (before + 64 ≤ rowGroups) × ((row < rowLimit) × (columnsLength ≤ length (now columns))) ⌝ }
     ensures { λ _. ⌜ WordPut word before row (now (columns .entry)) (now (columns .exit)) ⌝ }
 {
-    let n = u64::count_ones(word);
     let mut left = word;
-    for _ in 0..n {
+    while u64::count_ones(left) != 0 {
         put_group(columns, lowest_group(left, before), row);
         left = rest_of(left);
     }
