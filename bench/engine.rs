@@ -1,5 +1,6 @@
 // The three operations in ordinary Rust, with the engine's algorithm: one fold from the last
-// group to the first, then flat passes from 2 to G. It is what the library's speed is held to.
+// group to the first, then flat passes from 2 to G; a register by one walk over its rows, and by
+// columns. It is what the library's speed is held to.
 
 const MAX_G: usize = 128;
 const MAX_S: usize = 128;
@@ -612,182 +613,221 @@ pub fn claim(sheet: &[u8], claim: u32, reply: &mut [u8]) -> u64 {
 }
 
 const ROW: usize = 24;
+const WORDS: usize = MAX_ROWS.div_ceil(64); // of a column: 64 rows each
 
-fn member(reg: &[u8], row: usize) -> u32 {
-    let at = row * ROW + 4;
-    u32::from_le_bytes([reg[at], reg[at + 1], reg[at + 2], reg[at + 3]])
+fn get64(row: &[u8; ROW], at: usize) -> u64 {
+    u64::from_le_bytes(row[at..at + 8].try_into().unwrap())
 }
 
-fn bits(reg: &[u8], row: usize) -> u128 {
-    let mut b = [0u8; 16];
-    b.copy_from_slice(&reg[row * ROW + 8..row * ROW + 24]);
-    u128::from_le_bytes(b)
-}
-
-fn read_rows(reg: &[u8], groups: usize) -> Result<usize, Refusal> {
-    let mut row = 0;
+// Reads the rows in order and gives each, with its groups from 1 to 64 and from 65, to 'take'; how many there are.
+#[inline(always)]
+fn each_row(reg: &[u8], groups: usize, mut take: impl FnMut(usize, u64, u64)) -> Result<usize, Refusal> {
+    let (rows, cut) = reg.as_chunks::<ROW>();
+    let too_high = u128::MAX.checked_shl(groups as u32).unwrap_or(0);
+    let (too_high_low, too_high_high) = (too_high as u64, (too_high >> 64) as u64);
     let mut last = 0u32;
-    while row * ROW < reg.len() {
-        let no = row as u32 + 1;
-        if row == MAX_ROWS {
+    for (r, row) in rows.iter().enumerate() {
+        let no = r as u32 + 1;
+        if r == MAX_ROWS {
             return Err((10, no));
         }
-        let at = row * ROW;
-        if reg.len() - at < ROW || get16(reg, at) != 22 || get16(reg, at + 2) != 32 {
+        let start = get64(row, 0);
+        if start as u32 != 22 | 32 << 16 {
             return Err((11, no));
         }
-        let m = member(reg, row);
-        if m <= last {
+        let member = (start >> 32) as u32;
+        if member <= last {
             return Err((12, no));
         }
-        if groups < 128 && bits(reg, row) >> groups != 0 {
+        let (low, high) = (get64(row, 8), get64(row, 16));
+        if low & too_high_low | high & too_high_high != 0 {
             return Err((13, no));
         }
-        last = m;
-        row += 1;
+        last = member;
+        take(r, low, high);
     }
-    Ok(row)
+    if !cut.is_empty() {
+        return Err((if rows.len() < MAX_ROWS { 11 } else { 10 }, rows.len() as u32 + 1));
+    }
+    Ok(rows.len())
 }
 
-fn sons_of(t: &Tables) -> [u128; MAX_G + 1] {
-    let mut sons = [0u128; MAX_G + 1];
-    for i in 2..=t.groups {
-        sons[t.parent[i] as usize] |= 1 << (i - 1);
+// The bits of the groups that 'of' is true of, as two words.
+fn bits_of(t: &Tables, of: impl Fn(usize) -> bool) -> [u64; 2] {
+    let mut out = [0; 2];
+    for g in (1..=t.groups).filter(|&g| of(g)) {
+        out[(g - 1) / 64] |= 1 << ((g - 1) % 64);
     }
-    sons
+    out
 }
 
-// Groups, then rules, then rows, as the paper has it.
-fn scan(t: &Tables, reg: &[u8], rows: usize) -> (u16, u16) {
-    let sons = sons_of(t);
-    let mut counts = [0u32; MAX_G];
-    for r in 0..rows {
-        let mut b = bits(reg, r);
-        while b != 0 {
-            counts[b.trailing_zeros() as usize] += 1;
-            b &= b - 1;
+// One walk over the rows, which are read on the way: each broken rule 1, 3 or 4 leaves a bit in that rule's words. Where
+// a group is part of its parent, the parent has a member that the group lacks when their counts differ.
+fn walk(t: &Tables, reg: &[u8]) -> Result<(u16, u16), Refusal> {
+    // The bit of the parent, for groups from 1 to 64 and from 65; 0 for the root.
+    let mut above = [0u64; 64];
+    let mut above_high = [[0u64; 2]; 64];
+    for g in 2..=t.groups {
+        let p = t.parent[g] as usize - 1;
+        if g <= 64 {
+            above[g - 1] = 1 << p;
+        } else {
+            above_high[g - 65][p / 64] = 1 << (p % 64);
         }
     }
-    for g in 1..=t.groups {
-        let me = 1u128 << (g - 1);
-        if g > 1 {
-            let p = t.parent[g] as usize;
-            let above = 1u128 << (p - 1);
-            for r in 0..rows {
-                let b = bits(reg, r);
-                if b & me != 0 && b & above == 0 {
-                    return (g as u16, 1);
-                }
-            }
-            if t.mode[p] & SAME != 0 {
-                for r in 0..rows {
-                    let b = bits(reg, r);
-                    if b & above != 0 && b & me == 0 {
-                        return (g as u16, 2);
-                    }
-                }
-            }
-        }
-        if t.mode[g] & COVER != 0 {
-            for r in 0..rows {
-                let b = bits(reg, r);
-                if b & me != 0 && b & sons[g] == 0 {
-                    return (g as u16, 3);
-                }
-            }
-        }
-        if t.mode[g] & DISJOINT != 0 {
-            for r in 0..rows {
-                let b = bits(reg, r) & sons[g];
-                if b & b.wrapping_sub(1) != 0 {
-                    return (g as u16, 4);
-                }
-            }
-        }
-        if counts[g - 1] < t.lo[g] {
-            return (g as u16, 5);
-        }
-        if t.hi[g] != ENDLESS && counts[g - 1] > t.hi[g] {
-            return (g as u16, 6);
-        }
-    }
-    (0, 0)
-}
-
-// One walk over the rows: each broken rule leaves a bit in that rule's word.
-fn walk(t: &Tables, reg: &[u8], rows: usize) -> (u16, u16) {
-    let sons = sons_of(t);
-    let mut of_mode = [0u128; 3];
-    for g in 1..=t.groups {
-        for k in 0..3 {
-            if t.mode[g] >> k & 1 == 1 {
-                of_mode[k] |= 1 << (g - 1);
-            }
-        }
-    }
-    let mut counts = [0u32; MAX_G];
-    let mut broken = [0u128; 4];
-    for r in 0..rows {
-        let row = bits(reg, r);
-        let mut b = row;
-        let mut seen = 0u128;
-        let mut twice = 0u128;
+    let disjoint = bits_of(t, |g| t.mode[g] & DISJOINT != 0);
+    let cover = bits_of(t, |g| t.mode[g] & COVER != 0);
+    let mut counts = [[0u32; 64]; 2];
+    let (mut outside, mut bare, mut shared) = ([0u64; 2], [0u64; 2], [0u64; 2]);
+    each_row(reg, t.groups, |_, low, high| {
+        let row = [low, high];
+        let (mut seen, mut twice) = ([0u64; 2], [0u64; 2]);
+        let mut b = low;
         while b != 0 {
             let g = b.trailing_zeros() as usize;
-            let me = b & b.wrapping_neg();
-            counts[g] += 1;
-            if g > 0 {
-                let above = 1u128 << (t.parent[g + 1] - 1);
-                if row & above == 0 {
-                    broken[0] |= me;
-                }
-                twice |= seen & above;
-                seen |= above;
+            counts[0][g] += 1;
+            twice[0] |= seen[0] & above[g];
+            seen[0] |= above[g];
+            b &= b - 1;
+        }
+        let mut b = high;
+        while b != 0 {
+            let g = b.trailing_zeros() as usize;
+            counts[1][g] += 1;
+            for k in 0..2 {
+                twice[k] |= seen[k] & above_high[g][k];
+                seen[k] |= above_high[g][k];
             }
             b &= b - 1;
         }
-        broken[3] |= twice & of_mode[0];
-        broken[2] |= row & of_mode[1] & !seen;
-        let mut same = row & of_mode[2];
-        while same != 0 {
-            broken[1] |= sons[same.trailing_zeros() as usize + 1] & !row;
-            same &= same - 1;
-        }
-    }
-    for g in 1..=t.groups {
-        for (k, word) in broken.iter().enumerate() {
-            if word >> (g - 1) & 1 == 1 {
-                return (g as u16, k as u16 + 1);
+        if seen[0] & !low | seen[1] & !high != 0 {
+            let lacks = |g: usize| {
+                let p = t.parent[g] as usize;
+                p > 0 && row[(g - 1) / 64] >> ((g - 1) % 64) & 1 == 1 && row[(p - 1) / 64] >> ((p - 1) % 64) & 1 == 0
+            };
+            let found = bits_of(t, lacks);
+            for k in 0..2 {
+                outside[k] |= found[k];
             }
         }
-        if counts[g - 1] < t.lo[g] {
-            return (g as u16, 5);
+        for k in 0..2 {
+            bare[k] |= row[k] & cover[k] & !seen[k];
+            shared[k] |= twice[k] & disjoint[k];
         }
-        if t.hi[g] != ENDLESS && counts[g - 1] > t.hi[g] {
-            return (g as u16, 6);
+    })?;
+    let counts = counts.as_flattened();
+    for g in 1..=t.groups {
+        let p = t.parent[g] as usize;
+        let on = |words: [u64; 2]| words[(g - 1) / 64] >> ((g - 1) % 64) & 1 == 1;
+        let rule = if on(outside) {
+            1
+        } else if g > 1 && t.mode[p] & SAME != 0 && counts[g - 1] != counts[p - 1] {
+            2
+        } else if on(bare) {
+            3
+        } else if on(shared) {
+            4
+        } else {
+            count_rule(t, g, counts[g - 1])
+        };
+        if rule != 0 {
+            return Ok((g as u16, rule));
         }
     }
-    (0, 0)
+    Ok((0, 0))
+}
+
+// Rule 5 or 6, or 0.
+fn count_rule(t: &Tables, g: usize, count: u32) -> u16 {
+    if count < t.lo[g] {
+        5
+    } else if count > t.hi[g] {
+        6
+    } else {
+        0
+    }
+}
+
+// A column of bits for each group, a bit for each row; then the rules by whole columns.
+fn columns(t: &Tables, reg: &[u8]) -> Result<(u16, u16), Refusal> {
+    let mut of = [[0u64; WORDS]; MAX_G];
+    let rows = each_row(reg, t.groups, |r, low, high| {
+        let (word, bit) = (r / 64, 1 << (r % 64));
+        let mut b = low;
+        while b != 0 {
+            of[b.trailing_zeros() as usize][word] |= bit;
+            b &= b - 1;
+        }
+        let mut b = high;
+        while b != 0 {
+            of[64 + b.trailing_zeros() as usize][word] |= bit;
+            b &= b - 1;
+        }
+    })?;
+    let words = rows.div_ceil(64);
+    let column = |g: usize| &of[g - 1][..words];
+    // Whether some member of a is not in b.
+    let beyond = |a: &[u64], b: &[u64]| a.iter().zip(b).fold(0, |all, (a, b)| all | a & !b) != 0;
+    let mut first = [0u16; MAX_G + 1]; // son of a group, and after that the next one; 0 where there is none
+    let mut next = [0u16; MAX_G + 1];
+    for g in (2..=t.groups).rev() {
+        let p = t.parent[g] as usize;
+        next[g] = first[p];
+        first[p] = g as u16;
+    }
+    for g in 1..=t.groups {
+        let own = column(g);
+        if g > 1 {
+            let p = t.parent[g] as usize;
+            if beyond(own, column(p)) {
+                return Ok((g as u16, 1));
+            }
+            if t.mode[p] & SAME != 0 && beyond(column(p), own) {
+                return Ok((g as u16, 2));
+            }
+        }
+        if t.mode[g] & COVER != 0 || t.mode[g] & DISJOINT != 0 && first[g] != 0 {
+            let (mut some, mut two) = ([0u64; WORDS], [0u64; WORDS]);
+            let mut son = first[g] as usize;
+            while son != 0 {
+                for ((some, two), x) in some.iter_mut().zip(&mut two).zip(column(son)) {
+                    *two |= *some & x;
+                    *some |= x;
+                }
+                son = next[son] as usize;
+            }
+            if t.mode[g] & COVER != 0 && beyond(own, &some) {
+                return Ok((g as u16, 3));
+            }
+            if t.mode[g] & DISJOINT != 0 && two.iter().any(|&w| w != 0) {
+                return Ok((g as u16, 4));
+            }
+        }
+        let rule = count_rule(t, g, own.iter().map(|w| w.count_ones()).sum());
+        if rule != 0 {
+            return Ok((g as u16, rule));
+        }
+    }
+    Ok((0, 0))
 }
 
 fn check(
     sheet: &[u8],
     reg: &[u8],
     reply: &mut [u8],
-    how: fn(&Tables, &[u8], usize) -> (u16, u16),
+    how: impl Fn(&Tables, &[u8]) -> Result<(u16, u16), Refusal>,
 ) -> u64 {
     let mut t = EMPTY;
     if let Err((n, r)) = read(sheet, &mut t) {
         return pack(n, r);
     }
-    let rows = match read_rows(reg, t.groups) {
-        Ok(rows) => rows,
+    let (g, rule) = match how(&t, reg) {
+        Ok(found) => found,
         Err((n, r)) => return pack(n, r),
     };
     if reply.len() < 8 {
         return pack(14, 0);
     }
-    let (g, rule) = how(&t, reg, rows);
     put16(reply, 0, 6);
     put16(reply, 2, 20);
     put16(reply, 4, g);
@@ -795,12 +835,12 @@ fn check(
     pack(0, 8)
 }
 
-pub fn register_scan(sheet: &[u8], reg: &[u8], reply: &mut [u8]) -> u64 {
-    check(sheet, reg, reply, scan)
-}
-
 pub fn register_walk(sheet: &[u8], reg: &[u8], reply: &mut [u8]) -> u64 {
     check(sheet, reg, reply, walk)
+}
+
+pub fn register_columns(sheet: &[u8], reg: &[u8], reply: &mut [u8]) -> u64 {
+    check(sheet, reg, reply, columns)
 }
 
 const EMPTY: Tables = Tables {

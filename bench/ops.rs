@@ -1,5 +1,6 @@
 // Our operations beside ordinary Rust of the same algorithm, on the same bytes, in turns.
-//   ops FOLDER [WHAT]     FOLDER has the sheets NAME.sheet; prints a line 'what ours rust' in ns for each, or for WHAT alone
+//   ops FOLDER [WHAT]     FOLDER has the sheets NAME.sheet and the registers NAME.rows; prints a line 'what ours rust' in
+//                         ns for each, or for WHAT alone
 
 #[path = "engine.rs"]
 mod engine;
@@ -73,41 +74,6 @@ fn word(b: &[u8], at: usize) -> usize {
     b[at] as usize + 256 * b[at + 1] as usize
 }
 
-// 2,048 rows over a tree with the parents of the sheet: every row is the way from some group up to
-// the root, so that no row and no group is empty.
-fn rows(sheet: &[u8], number: usize) -> Vec<u8> {
-    let groups = word(sheet, 6);
-    let mut out = Vec::new();
-    for m in 1..=number {
-        let mut bits = 0u128;
-        let mut g = (m - 1) % groups + 1;
-        while g > 0 {
-            bits |= 1 << (g - 1);
-            g = word(sheet, 12 * g + 4);
-        }
-        out.extend([22, 0, 32, 0]);
-        out.extend((m as u32).to_le_bytes());
-        out.extend(bits.to_le_bytes());
-    }
-    out
-}
-
-// The sheet's tree with no bounds; modes 0, but the last group may have a lo that is broken.
-fn loose(sheet: &[u8], last_lo: u16) -> Vec<u8> {
-    let groups = word(sheet, 6);
-    let mut out = sheet[..12].to_vec();
-    out[8..12].fill(0);
-    for g in 1..=groups {
-        let mut r = sheet[12 * g..12 * g + 12].to_vec();
-        r[6..12].copy_from_slice(&[0, 0, 255, 255, 0, 0]);
-        if g == groups {
-            r[6..8].copy_from_slice(&last_lo.to_le_bytes());
-        }
-        out.extend(r);
-    }
-    out
-}
-
 // All claims of a sheet.
 fn claims(what: &str, s: &[u8], x: &mut [u8], y: &mut [u8]) {
     let q = word(s, 10) as u32;
@@ -167,16 +133,19 @@ fn main() {
             claims(&format!("claims {shape} {size}"), &s, &mut x, &mut y);
         }
         claims(&format!("places {shape} 128"), &sheet(&format!("{shape}-places")), &mut x, &mut y);
-        let s = sheet(&format!("{shape}-128"));
-        let reg = rows(&s, 2048);
-        for (lo, what) in [(0, "fits"), (65534, "broken at the last group")] {
-            let s = loose(&s, lo);
+    }
+
+    // Registers: a sheet that the rows fit, and one that they break at its last group alone.
+    for shape in ["star", "bushy", "caterpillar", "chain"] {
+        let reg = fs::read(format!("{folder}/register-{shape}.rows")).expect(shape);
+        for (which, what, last) in [("fits", "fits", 0), ("broken", "broken at the last group", 128)] {
+            let s = sheet(&format!("register-{shape}-{which}"));
             for (how, rust) in [
-                ("scan", engine::register_scan as fn(&[u8], &[u8], &mut [u8]) -> u64),
-                ("walk", engine::register_walk),
+                ("walk", engine::register_walk as fn(&[u8], &[u8], &mut [u8]) -> u64),
+                ("columns", engine::register_columns),
             ] {
                 same(what, (register(&s, &reg, &mut x), &x[..8]), (rust(&s, &reg, &mut y), &y[..8]));
-                assert!(word(&x, 4) == if lo == 0 { 0 } else { 128 });
+                assert!(word(&x, 4) == last, "{shape} {what}: group {}", word(&x, 4));
                 measure(
                     &format!("register {shape} {what}, Rust by {how}"),
                     || {

@@ -1,6 +1,6 @@
-"""Makes the sheets, runs the measurements and prints them as Markdown.
+"""Makes the sheets and registers, runs the measurements and prints them as Markdown.
 
-    report.py FOLDER OPS STACK DRIVER FLAGS     FOLDER for the sheets; FLAGS are shown as they are"""
+    report.py FOLDER OPS STACK DRIVER FLAGS     FOLDER for both; FLAGS are shown as they are"""
 import os
 import random
 import statistics
@@ -11,10 +11,12 @@ import time
 
 sys.path.insert(0, os.path.join(os.path.dirname(os.path.abspath(__file__)), '..', 'tests', 'solvers'))
 from models import Cvc5Sizes, GlpkSizes, Unanswered, Z3Sizes, claims_shown, search_range  # noqa: E402
-from sheets import Library, largest, largest_places, record  # noqa: E402
+from sheets import (COVER, DISJOINT, NO_END, SAME, Library, largest, largest_places, record,  # noqa: E402
+                    way_up)
 
 folder, ops, stack, driver, flags = sys.argv[1:]
 SHAPES, SIZES = ['chain', 'star', 'bushy'], [16, 32, 64, 128]
+REGISTERS = ['star', 'bushy', 'caterpillar', 'chain']
 LABELS = {'first': b'%03dSIXTEEN-BYTES', 'last': b'SIXTEEN-BYTES%03d'}  # of a largest sheet, by the bytes that differ
 RUNS = 3
 OPERATIONS = {'ranges': 'all ranges', 'claims': '64 claims of kinds 4 to 6', 'places': '64 claims of kind 7',
@@ -32,6 +34,48 @@ def longest(sheet, label):
         out += record(5 + c % 3, [8, 8] + [1 + (c + 7 * k) % 128 for k in range(16)])
     assert len(out) == 6924
     return out
+
+
+def register(shape):
+    """A register of 2,048 rows and two sheets of 128 groups: one that it fits, one that it breaks at group 128 alone.
+
+    A row goes from a leaf up to the root, the leaves in turn; under 'same' it is in all sons, else in one, so that
+    'cover' and 'disjoint' hold too. On a chain it is in all groups. Modes and bounds are on most groups."""
+    groups = range(1, 129)
+    parent = {g: {'star': 1, 'bushy': (g + 2) // 4, 'caterpillar': g - 1 if g % 2 == 0 else g - 2,
+                  'chain': g - 1}[shape] for g in groups}
+    parent[1] = 0
+    sons = {g: [s for s in groups if parent[s] == g] for g in groups}
+    leaves = [g for g in groups if not sons[g]]
+    mode = {}
+    for g in groups:
+        if not sons[g]:
+            mode[g] = 0 if g % 8 == 0 else DISJOINT
+        elif len(sons[g]) == 1:
+            mode[g] = [3, 7, 3, 7, 3, 1, 7, 2][g % 8]
+        else:
+            mode[g] = {5: COVER, 7: COVER + SAME, 13: DISJOINT, 15: COVER + SAME}.get(g % 16, 3)
+    rows, size = b'', dict.fromkeys(groups, 0)
+    for member in range(1, 2049):
+        held = set(way_up([parent[g] for g in groups], leaves[member % len(leaves)]))
+        for g in groups:
+            if g in held and sons[g]:
+                if mode[g] & SAME:
+                    held.update(sons[g])
+                elif not held & set(sons[g]):
+                    held.add(sons[g][member % len(sons[g])])
+        for g in held:
+            size[g] += 1
+        rows += struct.pack('<HHI', 22, 32, member) + sum(1 << g - 1 for g in held).to_bytes(16, 'little')
+    assert min(size.values()) > 0
+    sheets = []
+    for last in [size[128], size[128] + 1]:
+        out = record(1, [1, 128, 0, 0])
+        for g in groups:
+            lo = last if g == 128 else 0 if g % 16 == 9 else max(0, size[g] - g % 4)
+            out += record(2, [parent[g], lo, NO_END if g % 8 == 3 else size[g] + g % 3, mode[g]])
+        sheets.append(out)
+    return rows, sheets
 
 
 def in_turns(what, solver):
@@ -103,6 +147,11 @@ def main():
     for where, label in LABELS.items():
         with open('%s/largest-%s.sheet' % (folder, where), 'wb') as f:
             f.write(longest(sheets['bushy', 128], label))
+    for shape in REGISTERS:
+        rows, (fits, broken) = register(shape)
+        for name, content in [('.rows', rows), ('-fits.sheet', fits), ('-broken.sheet', broken)]:
+            with open('%s/register-%s%s' % (folder, shape, name), 'wb') as f:
+                f.write(content)
     library = Library(driver)
 
     measured = measure()
@@ -123,10 +172,12 @@ def main():
         if parts[0] in ('ranges', 'claims') and parts[-1] != '128':
             continue
         label = ', '.join([OPERATIONS[parts[0]], ' '.join(parts[1:])]) if parts[0] in OPERATIONS else what
-        goal = {'reading': '1.2', 'claims': '2', 'places': '2'}.get(parts[0], '1.5')
-        print('| %s | %s | %s | %.2f | at most %s |' % (label, show(a), show(b), a / b, goal))
-    print('\n`scan` goes through groups, rules and rows in this order; `walk` takes all rules in one walk over '
-          'the rows. Reading is a call with an empty register.\n')
+        goal = {'reading': '1.2', 'ranges': '1.5', 'register': '1.1'}.get(parts[0], '2')
+        goal = 'none' if parts[-1] == 'columns' else 'at most ' + goal
+        print('| %s | %s | %s | %.2f | %s |' % (label, show(a), show(b), a / b, goal))
+    print('\n`walk` takes all rules in one walk over the rows; `columns` makes a column of bits for each group and takes '
+          'the rules by columns. The registers: %s; modes and bounds on most groups, no row and no group empty, on the '
+          'chain every row in all groups. Reading is a call with an empty register.\n' % ', '.join(REGISTERS))
 
     print('## Growth\n')
     print('| operation | tree | %s |\n|---|---|%s' % (' | '.join('%d groups' % n for n in SIZES), '---|' * len(SIZES)))
@@ -169,17 +220,19 @@ def main():
                 ' | '.join('no answer' if t is None else show(t) for t in times), min(ratios), goal))
 
     print('\n## Stack of the deepest call\n')
-    print('On a painted stack, below the caller, for a sheet of 128 groups; the claim of kind 7 is a yes.\n')
-    print('| operation | chain | star | bushy |\n|---|---|---|---|')
+    print('On a painted stack, below the caller, for a sheet of 128 groups; the claim of kind 7 is a yes, the register has '
+          '2,048 rows.\n')
+    print('| operation | %s |\n|---|%s' % (' | '.join(REGISTERS), '---|' * len(REGISTERS)))
     depth = {}
-    for shape in SHAPES:
-        paths = ['%s/%s-%s.sheet' % (folder, shape, which) for which in (128, 'places')]
+    for shape in REGISTERS:
+        paths = ['%s/%s-%s.sheet' % (folder, shape, which) for which in (128, 'places')] if shape in SHAPES else ['-', '-']
+        paths += ['%s/register-%s%s' % (folder, shape, which) for which in ('-fits.sheet', '.rows')]
         out = subprocess.run([stack] + paths, check=True, capture_output=True, text=True)
         for line in out.stdout.splitlines():
             what, used = line.split('\t')
-            depth.setdefault(what, []).append('%s bytes' % format(int(used), ','))
+            depth.setdefault(what, {})[shape] = '%s bytes' % format(int(used), ',')
     for what, row in depth.items():
-        print('| %s | %s |' % (what, ' | '.join(row)))
+        print('| %s | %s |' % (what, ' | '.join(row.get(shape, '-') for shape in REGISTERS)))
 
 
 main()

@@ -1,6 +1,7 @@
 /* How deep the stack goes in one call: a thread on a painted stack, and the lowest byte that the
-   call changed.  stack SHEET PLACES  prints a line 'operation bytes' for each. The first claims of SHEET
-   are of kinds 4, 5 and 6; the first claim of PLACES is of kind 7 and a yes. */
+   call changed.  stack SHEET PLACES OF-REGISTER ROWS  prints a line 'operation bytes' for each. The first claims
+   of SHEET are of kinds 4, 5 and 6; the first claim of PLACES is of kind 7 and a yes; the register ROWS is full
+   and fits the sheet OF-REGISTER. With - for SHEET the register alone is measured. */
 #define _GNU_SOURCE
 #include <pthread.h>
 #include <stdio.h>
@@ -12,8 +13,8 @@
 
 enum { STACK = 8 << 20, PAINT = 0xa7 };
 
-static uint8_t sheet[8192], places[8192], reply[SHEET_MAX_REPLY], *stack;
-static size_t len, places_len;
+static uint8_t sheet[8192], places[8192], of_register[8192], rows[24 * SHEET_MAX_ROWS], reply[SHEET_MAX_REPLY], *stack;
+static size_t len, places_len, of_register_len, rows_len;
 static int what;
 static size_t used;
 
@@ -31,10 +32,11 @@ static void *run(void *unused)
     case 3: got = sheet_claim(sheet, len, 2, reply, sizeof reply); break;
     case 4: got = sheet_claim(sheet, len, 3, reply, sizeof reply); break;
     case 5: got = sheet_claim(places, places_len, 1, reply, sizeof reply); break;
-    case 6: got = sheet_register(sheet, len, NULL, 0, reply, sizeof reply); break;
+    case 6: got = sheet_register(of_register, of_register_len, rows, rows_len, reply, sizeof reply); break;
     }
-    if (sheet_refusal_of(got) != 0 || (what == 5 && sheet_get16(reply + 4) != SHEET_HOLDS)) {
-        fprintf(stderr, "operation %d: refused %u, or a no\n", what, (unsigned)sheet_refusal_of(got));
+    if (sheet_refusal_of(got) != 0 || (what == 5 && sheet_get16(reply + 4) != SHEET_HOLDS) ||
+        (what == 6 && sheet_get16(reply + 4) != 0)) {
+        fprintf(stderr, "operation %d: refused %u, a no, or a broken rule\n", what, (unsigned)sheet_refusal_of(got));
         exit(1);
     }
     uint8_t *p = stack;
@@ -57,14 +59,21 @@ static size_t load(const char *path, uint8_t *to, size_t most)
 int main(int argc, char **argv)
 {
     static const char *names[] = {"", "ranges", "claim (count)", "claim (inside)", "claim (apart)", "claim (place)", "register"};
-    if (argc != 3)
+    if (argc != 5)
         return 2;
-    len = load(argv[1], sheet, sizeof sheet);
-    places_len = load(argv[2], places, sizeof places);
+    int all = strcmp(argv[1], "-") != 0;
+    if (all) {
+        len = load(argv[1], sheet, sizeof sheet);
+        places_len = load(argv[2], places, sizeof places);
+    }
+    of_register_len = load(argv[3], of_register, sizeof of_register);
+    rows_len = load(argv[4], rows, sizeof rows);
+    if (rows_len != sizeof rows)
+        return 2;
     stack = mmap(NULL, STACK, PROT_READ | PROT_WRITE, MAP_PRIVATE | MAP_ANONYMOUS, -1, 0);
     if (stack == MAP_FAILED)
         return 2;
-    for (what = 1; what <= 6; what++) {
+    for (what = all ? 1 : 6; what <= 6; what++) {
         pthread_attr_t attr;
         pthread_t thread;
         pthread_attr_init(&attr);

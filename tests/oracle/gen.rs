@@ -591,45 +591,122 @@ pub fn register(rng: &mut Rng, d: &Draft) -> Vec<u8> {
             }
         }
     }
+    let mut bytes = written(rng, &rows);
+    if rng.chance(30) {
+        damage_rows(rng, &mut bytes, n);
+    }
+    bytes
+}
+
+// A sheet of groups alone and registers of many rows: one that fits it, some with rows spoilt, some damaged.
+pub fn full(rng: &mut Rng) -> (Vec<u8>, Vec<Vec<u8>>) {
+    let n = match rng.below(4) {
+        0 => 128,
+        1 => 65 + rng.index(64),
+        2 => 2 + rng.index(127),
+        _ => rng.pick(&[1, 7, 63, 64, 65, 127]),
+    };
+    let tree = Tree::new(rng, n);
+    let many = if rng.chance(75) {
+        2040 + rng.index(10)
+    } else {
+        rng.pick(&[63, 64, 65, 127, 128, 129, 1984, 1985, 2016, 2017])
+    };
+    let rows: Vec<u128> = (0..many).map(|_| if rng.chance(3) { 0 } else { tree.member(rng) }).collect();
+    let mut sheet = record(1, &words(&[1, n as u16, 0, 0]));
+    let tight = rng.below(3);
+    for g in 0..n {
+        let size = rows.iter().filter(|&&set| set >> g & 1 == 1).count() as u16;
+        let (lo, hi) = match if tight == 0 { 0 } else { rng.below(3 * tight + 2) } {
+            0 => (size, size),
+            1 => (size.saturating_sub(1), size + 1),
+            2 => (size, 65535),
+            3 => (0, size),
+            _ => (0, 65535),
+        };
+        sheet.extend(record(2, &words(&[if g == 0 { 0 } else { tree.parent[g] as u16 + 1 }, lo, hi, tree.mode[g]])));
+    }
+    let mut registers = Vec::new();
+    for k in 0..5 {
+        let mut now = rows.clone();
+        for _ in 0..[0, 1, 1, 1, 2][k] {
+            let edge = rng.pick(&[0, 62, 63, 64, 126, 127, 128, 1983, 1984, 2016, 2046, 2047, many - 1, many - 1]);
+            let r = if edge < many && rng.chance(80) { edge } else { rng.index(many) };
+            spoil(rng, &tree, &mut now[r]);
+        }
+        let mut bytes = written(rng, &now);
+        if k == 4 && rng.chance(50) {
+            damage_rows(rng, &mut bytes, n);
+        }
+        registers.push(bytes);
+    }
+    (sheet, registers)
+}
+
+// Another set than one that fits: out of a parent, out of all sons, in one more son, out of a son of a 'same' group, or
+// one group other.
+fn spoil(rng: &mut Rng, tree: &Tree, set: &mut u128) {
+    let n = tree.parent.len();
+    let held: Vec<usize> = (0..n).filter(|&g| *set >> g & 1 == 1).collect();
+    let g = if held.is_empty() { rng.index(n) } else { rng.pick(&held) };
+    let sons = &tree.sons[g];
+    let equal: Vec<usize> = held.iter().copied().filter(|&s| s > 0 && tree.mode[tree.parent[s]] & 4 != 0).collect();
+    match rng.below(7) {
+        0 => *set &= !(1 << tree.parent[g]),
+        1 => sons.iter().for_each(|&s| *set &= !(1 << s)),
+        2 if !sons.is_empty() => *set |= 1 << rng.pick(sons),
+        3 if sons.len() > 1 => {
+            *set |= 1 << sons[0] | 1 << sons[sons.len() - 1];
+            *set &= !((rng.below(2) as u128) << g);
+        }
+        4 => *set = tree.member(rng),
+        5 if !equal.is_empty() => *set &= !(1 << rng.pick(&equal)),
+        _ => *set ^= 1 << rng.index(n),
+    }
+}
+
+fn written(rng: &mut Rng, rows: &[u128]) -> Vec<u8> {
     let mut member = 0u32;
     let mut bytes: Vec<u8> = Vec::new();
     let step = rng.pick(&[1u64, 2, 1000, 1_000_000]);
-    for set in &rows {
+    for set in rows {
         member += 1 + rng.below(step) as u32;
         let mut body = member.to_le_bytes().to_vec();
         body.extend(set.to_le_bytes());
         bytes.extend(record(32, &body));
     }
-    if rng.chance(30) {
-        let count = rows.len();
-        let r = match rng.below(3) {
-            0 => 0,
-            1 => count / 2,
-            _ => count.saturating_sub(1),
-        } * 24;
-        match rng.below(10) {
-            0 => bytes.truncate(rng.index(bytes.len() + 1)),
-            1 => bytes.push(rng.next() as u8),
-            2 => bytes.extend([22, 0, 32]),
-            3 if count > 0 => set_word(&mut bytes, r, rng.pick(&[0, 1, 21, 23, 278, 65535])),
-            4 if count > 0 => set_word(&mut bytes, r + 2, rng.pick(&[0, 31, 33, 288, 2])),
-            5 if count > 0 => bytes[r + 4..r + 8].fill(0),
-            6 if count > 1 && r > 0 => {
-                let before = bytes[r - 20..r - 16].to_vec();
-                bytes[r + 4..r + 8].copy_from_slice(&before);
-            }
-            7 if count > 0 && n < 128 => {
-                let g = n + rng.index(128 - n);
-                bytes[r + 8 + g / 8] |= 1 << (g % 8);
-            }
-            8 if count > 0 => bytes[r + 4..r + 8].fill(255),
-            _ => {
-                if !bytes.is_empty() {
-                    let k = rng.index(bytes.len());
-                    bytes[k] ^= 1 << rng.below(8);
-                }
+    bytes
+}
+
+// One change to the bytes of rows, mostly one that is turned back.
+fn damage_rows(rng: &mut Rng, bytes: &mut Vec<u8>, n: usize) {
+    let count = bytes.len() / 24;
+    let r = match rng.below(3) {
+        0 => 0,
+        1 => count / 2,
+        _ => count.saturating_sub(1),
+    } * 24;
+    match rng.below(10) {
+        0 => bytes.truncate(rng.index(bytes.len() + 1)),
+        1 => bytes.push(rng.next() as u8),
+        2 => bytes.extend([22, 0, 32]),
+        3 if count > 0 => set_word(bytes, r, rng.pick(&[0, 1, 21, 23, 278, 65535])),
+        4 if count > 0 => set_word(bytes, r + 2, rng.pick(&[0, 31, 33, 288, 2])),
+        5 if count > 0 => bytes[r + 4..r + 8].fill(0),
+        6 if count > 1 && r > 0 => {
+            let before = bytes[r - 20..r - 16].to_vec();
+            bytes[r + 4..r + 8].copy_from_slice(&before);
+        }
+        7 if count > 0 && n < 128 => {
+            let g = n + rng.index(128 - n);
+            bytes[r + 8 + g / 8] |= 1 << (g % 8);
+        }
+        8 if count > 0 => bytes[r + 4..r + 8].fill(255),
+        _ => {
+            if !bytes.is_empty() {
+                let k = rng.index(bytes.len());
+                bytes[k] ^= 1 << rng.below(8);
             }
         }
     }
-    bytes
 }

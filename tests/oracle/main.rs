@@ -254,6 +254,14 @@ impl Run {
         self.number = number;
         let mut rng = Rng::new(self.seed.wrapping_mul(1_000_003).wrapping_add(number));
         let rng = &mut rng;
+        if HAS_REGISTER && number % FULL == 7 {
+            let (bytes, registers) = gen::full(rng);
+            let sheet = read_sheet(&bytes).expect("a readable sheet");
+            for reg in &registers {
+                self.register(rng, &bytes, &sheet, reg);
+            }
+            return;
+        }
         let draft = gen::draft(rng);
         let bytes = if rng.chance(35) { gen::damage(rng, &draft) } else { draft.records.concat() };
         let sheet = match read_sheet(&bytes) {
@@ -283,21 +291,33 @@ impl Run {
         if HAS_REGISTER {
             for _ in 0..1 + rng.below(3) {
                 let reg = gen::register(rng, &draft);
-                let want = match read_register(&reg, sheet.groups.len()) {
-                    Err((n, r)) => Want::Refused(n, r),
-                    Ok(rows) => {
-                        let members: Vec<(u128, u64)> = rows.iter().map(|r| (r.1, 1)).collect();
-                        let (g, rule) = broken_rule(&sheet, &members);
-                        self.met(&format!("register: rule {rule}"));
-                        let mut b = vec![6, 0, 20, 0];
-                        b.extend(g.to_le_bytes());
-                        b.extend(rule.to_le_bytes());
-                        Want::Bytes(b)
-                    }
-                };
-                self.case(rng, &bytes, &Ask::Register(&reg), want);
+                self.register(rng, &bytes, &sheet, &reg);
             }
         }
+    }
+
+    fn register(&mut self, rng: &mut Rng, bytes: &[u8], sheet: &Sheet, reg: &[u8]) {
+        let want = match read_register(reg, sheet.groups.len()) {
+            Err((n, r)) => {
+                if r >= 2040 {
+                    self.met(&format!("register: refusal {n} at row 2,040 or later"));
+                }
+                Want::Refused(n, r)
+            }
+            Ok(rows) => {
+                let members: Vec<(u128, u64)> = rows.iter().map(|r| (r.1, 1)).collect();
+                let (g, rule) = broken_rule(sheet, &members);
+                self.met(&format!("register: rule {rule}"));
+                if rows.len() >= 2040 {
+                    self.met(&format!("register: rule {rule}, 2,040 rows or more"));
+                }
+                let mut b = vec![6, 0, 20, 0];
+                b.extend(g.to_le_bytes());
+                b.extend(rule.to_le_bytes());
+                Want::Bytes(b)
+            }
+        };
+        self.case(rng, bytes, &Ask::Register(reg), want);
     }
 
     fn ranges_and_claims(&mut self, rng: &mut Rng, bytes: &[u8], sheet: &Sheet) {
@@ -438,7 +458,9 @@ fn wanted() -> Vec<String> {
         refusals("register", &[1, 2, 3, 4, 5, 6, 7, 10, 11, 12, 13, 14]);
         for rule in 0..7 {
             all.push(format!("register: rule {rule}"));
+            all.push(format!("register: rule {rule}, 2,040 rows or more"));
         }
+        all.push("register: refusal 10 at row 2,040 or later".to_string());
     }
     if HAS_CLAIM {
         for kind in ["count"].into_iter().chain(LIST_KINDS.map(ListKind::word)) {
@@ -471,6 +493,7 @@ fn wanted() -> Vec<String> {
 const PAIRS_ONLY: &str = "claim: place denied, where any two left sets have it";
 
 const WORKERS: u64 = 2;
+const FULL: u64 = 151; // one sheet in so many is drawn around a register of many rows
 
 fn main() {
     let (mut seed, mut cases, mut only, mut own) = (20_240_229u64, 1_000_000u64, None, false);
