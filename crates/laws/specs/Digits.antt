@@ -1,7 +1,6 @@
 -- The binary digits of a word: what 'and', 'or', the lowest set digit and the number of ones are in terms of digits.
 use Prim.Native.Nat.{ℕ, zero, suc, _+_, _-_, _*_, _/_, _%_, _^_, _≤_, _<_, min, max}
 use mathlib.Core.Path.{_≡_, refl, sym, ap, _∙_}
-use mathlib.Core.Logic.{inl, inr}
 use native.Mathlib.Omega.{arith}
 use native.Mathlib.Nat.{lt-of-le-of-lt, div-one, zero-div, zero-add, pow-suc}
 use native.Mathlib.Numerals.{one-add}
@@ -13,7 +12,7 @@ use lib.Bits.{bitAnd, bitOr, and-step, or-step, and-self, and-le-l, block-half, 
 use lib.Count.{ones, ones-step, trailingZeros}
 unfoldable pub use Rattle.laws.specs.Digit.{digit}
 use Rattle.laws.specs.Sum.{sum, bit}
-use Rattle.laws.specs.Cases.{compare-le, compare-eq, find}
+use Rattle.laws.specs.Cases.{compare-le, compare-eq}
 use Rattle.laws.specs.SumLaws.{sum-eq, sum-zero, sum-first}
 
 pub digit-zero : (w : ℕ) → digit w 0 ≡ w % 2
@@ -170,33 +169,14 @@ digit-some n w k h p =
     let one : digit w (k + t) ≡ 1 = sym (digit-shift w k t) ∙ lowest n (w / 2 ^ k) p (lt-of-le-of-lt (shr-le w k) h) .1 .set in
     (k + t, omega arith, compare-le n (k + t) (λ o. absurd (omega (arith, digit-beyond n w (k + t) h o))) (λ o. o), one)
 
--- numbers with the same digits are equal
-pub digits-same : (n x y : ℕ) → x < 2 ^ n → y < 2 ^ n → ((k : ℕ) → k < n → digit x k ≡ digit y k) → x ≡ y
-digits-same zero x y a b h = omega (arith, lt-one a, lt-one b)
-digits-same (suc n) x y a b h =
-    let r = digits-same n (x / 2) (y / 2) (let z = rw (pow-suc 2 n) at a in omega arith) (let z = rw (pow-suc 2 n) at b in omega arith)
-    (λ k l. sym (digit-suc x k) ∙ h (suc k) (omega arith) ∙ digit-suc y k) in
-    let z = sym (digit-zero x) ∙ h 0 (omega arith) ∙ digit-zero y in omega arith
+-- `a - (a & b)` has the digits that a has and b lacks
+less-half : (a b : ℕ) → ((a - bitAnd a b) / 2 ≡ a / 2 - bitAnd (a / 2) (b / 2)) × ((a - bitAnd a b) % 2 ≡ a % 2 - b % 2)
+less-half a b = omega (arith, and-step a b, and-le-l (a / 2) (b / 2))
 
--- a has a digit that b lacks exactly where `a & b` is not a
-pub and-lacks : (n a b : ℕ) → a < 2 ^ n → (bitAnd a b ≡ a → ⊥) → (k : ℕ) × (k < n) × (digit a k ≡ 1) × (digit b k ≡ 0)
-and-lacks n a b l e =
-    find n (λ k. (digit a k ≡ 1) × (digit b k ≡ 0))
-    (λ k. compare-eq (digit a k) 1
-    (λ x. compare-eq (digit b k) 0 (λ y. inl (x, y)) (λ y. inr (λ w. y (w .1))))
-    (λ x. inr (λ w. x (w .0))))
-    (λ k o w. (k, o, w .0, w .1))
-    (λ none. absurd (e (digits-same n (bitAnd a b) a (lt-of-le-of-lt (and-le-l a b) l) l (λ k o. within k o (none k o)))))
-  where
-    within : (k : ℕ) → k < n → ((digit a k ≡ 1) × (digit b k ≡ 0) → ⊥) → digit (bitAnd a b) k ≡ digit a k
-    within k o h =
-        compare-eq (digit a k) 1
-        (λ x. compare-eq (digit b k) 0 (λ y. absurd (h (x, y)))
-        (λ y. omega (arith, digit-and a b k, digit-le b k)))
-        (λ x. omega (arith, digit-and a b k, digit-le a k))
-
-pub and-same : (a b k : ℕ) → bitAnd a b ≡ a → digit a k ≤ digit b k
-and-same a b k e = let z = rw e at (digit-and a b k) in omega arith
+pub digit-less : (a b k : ℕ) → digit (a - bitAnd a b) k ≡ digit a k - digit b k
+digit-less a b zero = rw (digit-zero (a - bitAnd a b), digit-zero a, digit-zero b) (less-half a b .1)
+digit-less a b (suc k) =
+    rw (digit-suc (a - bitAnd a b) k, digit-suc a k, digit-suc b k, less-half a b .0) (digit-less (a / 2) (b / 2) k)
 
 -- `1 << k` in a word of 64 digits
 pub one-shifted : (k : ℕ) → k < 64 → 1 * 2 ^ k % 18446744073709551616 ≡ 2 ^ k
