@@ -1,7 +1,7 @@
 -- The columns of a register that was read show the sets that its rows list; what a reading gives is what the check answers, and
 -- the ones of the columns are the counts.
 use Prim.Native.Nat.{ℕ, _*_, _≤_, _<_}
-use mathlib.Core.Path.{_≡_, sym, ap, _∙_}
+use mathlib.Core.Path.{_≡_, refl, sym, ap, _∙_}
 use mathlib.Core.List.{List}
 use native.Mathlib.Omega.{arith}
 use borrow.Author.Tests.{lt-ltb, le-ltb}
@@ -19,7 +19,7 @@ use Rattle.meaning.specs.ReadableRows.{distinct-of-readable, listed-at}
 use Rattle.laws.specs.Cases.{compare-le}
 use Rattle.rows.specs.RowsRead.{wordBits, rowGroups, rowsBefore}
 use Rattle.rows.proofs.RowLaws.{length-rowsBefore, row-before, in-group-bit, rows-most}
-use Rattle.registers.specs.Columns.{columnDigit, inColumn, columnSets, columns-distinct, WordsFor, Filled}
+use Rattle.registers.specs.Columns.{columnDigit, inColumn, columnSets, columns-distinct, WordsFor, ColumnsFilled}
 use Rattle.registers.specs.ColumnSteps.{ColumnsCounted}
 use Rattle.registers.specs.Tallies.{Counted}
 use Rattle.registers.specs.Agree.{Agree, answered-agree, count-agree}
@@ -36,16 +36,17 @@ checked-refused s d n k e =
       answer = λ rows f. absurd (let z : _≡_ {A = ℕ} 0 1 = cc in omega arith);
     }
 
-pub tallied-refused : (s : Sheet) (d : Reading (List Row)) (n k : ℕ) (t : List ℕ) → refused n k ≡ d → Tallied s d t
-tallied-refused s d n k t e = record { counts = λ rows f. absurd (let z : _≡_ {A = ℕ} 0 1 = cc in omega arith) }
+pub tallied-refused : (s : Sheet) (d : Reading (List Row)) (n k : ℕ) (t : List ℕ) → refused n k ≡ d → Tallied s d t t
+tallied-refused s d n k t e =
+    record { counts = λ rows f. absurd (let z : _≡_ {A = ℕ} 0 1 = cc in omega arith); kept = λ m j f. refl }
 
 -- no digit is set from row n on
-pub others-none : {b t : List ℕ} {n : ℕ} → Filled b n t → (g i : ℕ) → 1 ≤ g → g ≤ rowGroups → n ≤ i → i < rowLimit
+pub others-none : {b t : List ℕ} {n : ℕ} → ColumnsFilled b n t → (g i : ℕ) → 1 ≤ g → g ≤ rowGroups → n ≤ i → i < rowLimit
     → columnDigit t g i ≡ 0
 others-none {b} {t} {n} f g i a c o l = f .each g i a c l ∙ (rw (le-ltb i n o))
 
 -- the counts that were read off are those of the sets
-pub columns-counted : {b t u : List ℕ} {n words : ℕ} (s : Sheet) → s .size ≤ rowGroups → Filled b n t → WordsFor n words
+pub columns-counted : {b t u : List ℕ} {n words : ℕ} (s : Sheet) → s .size ≤ rowGroups → ColumnsFilled b n t → WordsFor n words
     → ColumnsCounted t (s .size) words u → Counted s (columnSets t n) u
 columns-counted {b} {t} {u} {n} {words} s z f w c =
     record {
@@ -57,7 +58,7 @@ columns-counted {b} {t} {u} {n} {words} s z f w c =
 
 -- a register of n rows that were read, and its columns
 module _ (s : Sheet) (z : s .size ≤ rowGroups) (groups : ℕ) (b t : List ℕ) (n : ℕ) (w : read (rowsBefore b n) ≡ readRegister edition1 groups b)
-    (f : Filled b n t) where
+    (f : ColumnsFilled b n t) where
   columns-agree : (rs : List Row) → rowsBefore b n ≡ rs → Distinct (listedSets rs) → Agree s (columnSets t n) (listedSets rs)
   unfolding inColumn
   columns-agree rs e d =
@@ -67,7 +68,7 @@ module _ (s : Sheet) (z : s .size ≤ rowGroups) (groups : ℕ) (b t : List ℕ)
             let i-in : i < length rs = omega (arith, length-rowsBefore b n, ap length e) in
             let here = rw (lt-ltb i n l) at (f .each g i (y .first) (omega (arith, y .last)) (omega (arith, rows-most groups b n w))) in
             ap (λ x. eqb x 1) here
-            ∙ sym (in-group-bit b (rowBytes edition1 * i) g (y .first) (omega (arith, y .last)))
+            ∙ sym (in-group-bit b (rowBytes edition1 * i) g (omega (arith, y .last)))
             ∙ (rw (← row-before b n i l, e) (sym (listed-at rs d g i i-in)));
       }
 
@@ -87,13 +88,14 @@ module _ (s : Sheet) (z : s .size ≤ rowGroups) (groups : ℕ) (b t : List ℕ)
       }
 
   -- and so are the counts
-  pub tallied-columns : (u : List ℕ) → Counted s (columnSets t n) u → Tallied s (readRegister edition1 groups b) u
-  tallied-columns u c =
+  pub tallied-columns : (v u : List ℕ) → Counted s (columnSets t n) u → Tallied s (readRegister edition1 groups b) v u
+  tallied-columns v u c =
       record {
         counts = λ rs e.
             let same : rowsBefore b n ≡ rs = (let x = w ∙ e in cc) in
             let d = distinct-of-readable edition1 groups b rs e in
             record { each = λ g k. c .each g k ∙ count-agree s (columnSets t n) (listedSets rs) g (columns-agree rs same d) k };
+        kept = λ m j e. absurd (let x = w ∙ e in let o : _≡_ {A = ℕ} 0 1 = cc in omega arith);
       }
 
 -- tables start as zeros

@@ -51,9 +51,9 @@ column-count t g n m l z =
 pub counts-none : (t : List ℕ) (words : ℕ) (u : List ℕ) → ColumnsCounted t 0 words u
 counts-none t words u = record { each = λ g a b. absurd (omega arith) }
 
-pub counts-more : {t : List ℕ} {words g n : ℕ} {u v : List ℕ} → ColumnsCounted t (g - 1) words u → 1 ≤ g → g < length u
+pub counts-more : {t : List ℕ} {words g n : ℕ} {u v : List ℕ} → ColumnsCounted t (g - 1) words u → g < length u
     → n ≡ sum (columnDigit t g) (wordBits * words) → v ≡ set u g n → ColumnsCounted t g words v
-counts-more {t} {words} {g} {n} {u} {v} k a l e s =
+counts-more {t} {words} {g} {n} {u} {v} k l e s =
     record {
       each = λ h x y.
           compare-eq h g

@@ -29,11 +29,11 @@ pub record WordsTo (f : ℕ → ℕ) (w : ℕ) (t u : List ℕ) : Type 0 where
   pub done : (v : ℕ) → v < w → getD u v 0 ≡ f v
   pub left : (v : ℕ) → w ≤ v → getD u v 0 ≡ getD t v 0
 
-pub words-none : (f : ℕ → ℕ) (t : List ℕ) → WordsTo f 0 t t
-words-none f t = record { done = λ v l. absurd (omega arith); left = λ v l. refl }
+pub words-to-none : (f : ℕ → ℕ) (t : List ℕ) → WordsTo f 0 t t
+words-to-none f t = record { done = λ v l. absurd (omega arith); left = λ v l. refl }
 
-pub words-more : {f : ℕ → ℕ} {w : ℕ} {t u : List ℕ} (x : ℕ) → WordsTo f w t u → w < length u → x ≡ f w → WordsTo f (w + 1) t (set u w x)
-words-more {f} {w} {t} {u} x c l e =
+pub words-to-more : {f : ℕ → ℕ} {w : ℕ} {t u : List ℕ} (x : ℕ) → WordsTo f w t u → w < length u → x ≡ f w → WordsTo f (w + 1) t (set u w x)
+words-to-more {f} {w} {t} {u} x c l e =
     record {
       done = λ v o.
           compare-eq v w

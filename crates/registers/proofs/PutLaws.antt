@@ -14,7 +14,7 @@ use Rattle.laws.specs.Sum.{bit}
 use Rattle.laws.specs.Cases.{compare-le, compare-eq, split}
 use Rattle.laws.specs.Digits.{digit, digit-le, digit-of-zero, digit-beyond, ones-of-zero, lowest}
 use Rattle.rows.specs.RowsRead.{wordBits, rowGroups, bitsPlace, bitAt, WordAt}
-use Rattle.registers.specs.Columns.{columnDigit, Filled}
+use Rattle.registers.specs.Columns.{columnDigit, ColumnsFilled}
 use Rattle.registers.specs.ColumnSteps.{LowestGroup, Put, GroupPut, wordBit, WordPut, RowPut, Empty}
 
 -- what is put depends on the groups' bits alone; what is put in two steps
@@ -52,12 +52,12 @@ word-bit-zero before g =
     (λ l. rw (lt-leb (before + 1) g l))
 
 -- of a word the groups that are not left are put
-pub record Taken (word before row : ℕ) (t : List ℕ) (left : ℕ) (u : List ℕ) : Type 0 where
+pub record GroupsTaken (word before row : ℕ) (t : List ℕ) (left : ℕ) (u : List ℕ) : Type 0 where
   pub within : (g : ℕ) → wordBit left before g ≤ wordBit word before g
   pub put : Put (λ g. wordBit word before g - wordBit left before g) row t u
 
-pub taken-none : (word before row : ℕ) (t : List ℕ) → Taken word before row t word t
-taken-none word before row t =
+pub groups-none-taken : (word before row : ℕ) (t : List ℕ) → GroupsTaken word before row t word t
+groups-none-taken word before row t =
     record { within = λ g. omega arith; put = put-none t (λ g. omega arith) }
 
 module _ {before left g : ℕ} (w : LowestGroup before left g) where
@@ -78,9 +78,9 @@ module _ {before left g : ℕ} (w : LowestGroup before left g) where
       (λ l. rw (lt-leb (before + 1) h l))
 
   -- the lowest group is put, and no longer left
-  pub taken-more : {word row : ℕ} {t u v : List ℕ} → Taken word before row t left u → GroupPut g row u v
-      → Taken word before row t (bitAnd left (left - 1)) v
-  taken-more {word} {row} {t} {u} {v} k p =
+  pub groups-more-taken : {word row : ℕ} {t u v : List ℕ} → GroupsTaken word before row t left u → GroupPut g row u v
+      → GroupsTaken word before row t (bitAnd left (left - 1)) v
+  groups-more-taken {word} {row} {t} {u} {v} k p =
       record {
         within = λ h.
             compare-eq h g
@@ -94,16 +94,16 @@ module _ {before left g : ℕ} (w : LowestGroup before left g) where
       }
 
 -- where nothing is left, the word is put
-pub taken-all : {word before row : ℕ} {t u : List ℕ} → Taken word before row t 0 u → WordPut word before row t u
-taken-all {word} {before} k = put-as (λ g a b. rw (word-bit-zero before g) (omega arith)) (k .put)
+pub groups-all-taken : {word before row : ℕ} {t u : List ℕ} → GroupsTaken word before row t 0 u → WordPut word before row t u
+groups-all-taken {word} {before} k = put-as (λ g a b. rw (word-bit-zero before g) (omega arith)) (k .put)
 
 -- a word with a one is not 0, and one without is 0
-pub some-left : (m : ℕ) → 0 < ones m → 0 < m
-some-left zero l = absurd (omega (arith, ones-of-zero))
-some-left (suc m) l = omega arith
+pub ones-left : (m : ℕ) → 0 < ones m → 0 < m
+ones-left zero l = absurd (omega (arith, ones-of-zero))
+ones-left (suc m) l = omega arith
 
-pub none-left : (m : ℕ) → m < 2 ^ 64 → ones m ≡ 0 → m ≡ 0
-none-left m l e = compare-eq m 0 (λ z. z) (λ z. absurd (omega (arith, lowest 64 m (omega arith) l .1 .fewer)))
+pub no-ones-left : (m : ℕ) → m < 2 ^ 64 → ones m ≡ 0 → m ≡ 0
+no-ones-left m l e = compare-eq m 0 (λ z. z) (λ z. absurd (omega (arith, lowest 64 m (omega arith) l .1 .fewer)))
 
 -- the first k words of a row are put
 abbrev pub firstBits : List ℕ → ℕ → ℕ → ℕ → ℕ
@@ -134,13 +134,13 @@ pub bits-all : (b : List ℕ) (place k row : ℕ) {t u : List ℕ} → Put (firs
 bits-all b place k row p l = put-as (λ g x y. rw (lt-ltb (g - 1) (wordBits * k) (omega arith))) p
 
 -- the columns of no row, and of one row more
-pub filled-none : (b t : List ℕ) → Empty t → Filled b 0 t
+pub columns-none : (b t : List ℕ) → Empty t → ColumnsFilled b 0 t
 unfolding columnDigit
-filled-none b t e =
+columns-none b t e =
     record { each = λ g i x y l. rw (le-ltb i 0 (omega arith), e .each _) (digit-of-zero _) }
 
-pub filled-more : {b t u : List ℕ} {row : ℕ} → Filled b row t → RowPut b (bitsPlace row) row t u → Filled b (row + 1) u
-filled-more {b} {t} {u} {row} f p =
+pub columns-more : {b t u : List ℕ} {row : ℕ} → ColumnsFilled b row t → RowPut b (bitsPlace row) row t u → ColumnsFilled b (row + 1) u
+columns-more {b} {t} {u} {row} f p =
     record {
       each = λ g i x y l.
           let d = f .each g i x y l in

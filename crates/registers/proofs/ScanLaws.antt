@@ -1,4 +1,4 @@
--- What the scan has passed: groups, rules and words of rows of which nothing is broken; and what its end says.
+-- What the scan has passed: groups, rules and rows of which nothing is broken; and what its end says.
 use Prim.Native.Nat.{ℕ, _+_, _-_, _*_, _≤_, _<_}
 use mathlib.Core.Path.{_≡_, refl, sym, _∙_}
 use mathlib.Core.Bool.{Bool, true, false}
@@ -19,7 +19,7 @@ use Rattle.registers.specs.SonLists.{keptSons}
 use Rattle.registers.specs.SonSteps.{severalSons}
 use Rattle.registers.specs.Joins.{Joined, JoinedFor}
 use Rattle.registers.specs.Tallies.{Checkable, Gathered}
-use Rattle.registers.specs.RuleTests.{parentIn, modeIn, mayBreak, rowBreaks, SomeBit, countBreaks}
+use Rattle.registers.specs.RuleTests.{parentIn, modeIn, mayBreak, rowBreaks, SomeRow, countBreaks}
 use Rattle.registers.specs.Checked.{AnswerTo}
 use Rattle.reading.specs.declared.tables.GroupNo.{GroupNo}
 use Rattle.registers.specs.declared.check.Check.the-variants as check
@@ -34,26 +34,20 @@ pub record ClearGroups {X : Type 0} (s : Sheet) (A : Sets X) (g : ℕ) : Type 0 
 pub record ClearRules {X : Type 0} (s : Sheet) (A : Sets X) (g k : ℕ) : Type 0 where
   pub clear : (q : Rule) → ruleNumber q < k → Broken s A g q → ⊥
 
--- no row of a word before w breaks rule k at group g
-pub record ClearRows (k : ℕ) (c some two : List ℕ) (w g p : ℕ) : Type 0 where
-  pub clear : (i : ℕ) → i < wordBits * w → rowBreaks k c some two g p i ≡ false
+-- no row before `to` breaks rule k at group g
+pub record ClearRows (k : ℕ) (c some two : List ℕ) (g p to : ℕ) : Type 0 where
+  pub clear : (i : ℕ) → i < to → rowBreaks k c some two g p i ≡ false
 
-pub rows-none : (k : ℕ) (c some two : List ℕ) (g p : ℕ) → ClearRows k c some two 0 g p
+pub rows-none : (k : ℕ) (c some two : List ℕ) (g p : ℕ) → ClearRows k c some two g p 0
 rows-none k c some two g p = record { clear = λ i l. absurd (omega arith) }
 
-pub rows-more : {k : ℕ} {c some two : List ℕ} {w g p : ℕ} {r : Bool} → ClearRows k c some two w g p
-    → SomeBit (λ j. rowBreaks k c some two g p (wordBits * w + j)) r → r ≡ false
-    → ClearRows k c some two (w + 1) g p
-rows-more {k} {c} {some} {two} {w} {g} {p} d b e =
-    record {
-      clear = λ i l.
-          compare-le (wordBits * w) i
-          (λ o. let z : wordBits * w + (i - wordBits * w) ≡ i = omega arith in rw z at (b .none e (i - wordBits * w) (omega arith)))
-          (λ o. d .clear i o);
-    }
+pub rows-more : {k : ℕ} {c some two : List ℕ} {g p from to : ℕ} {r : Bool} → ClearRows k c some two g p from
+    → SomeRow (rowBreaks k c some two g p) from to r → r ≡ false
+    → ClearRows k c some two g p to
+rows-more {from = from} d b e = record { clear = λ i l. compare-le from i (λ o. b .none e i o l) (λ o. d .clear i o) }
 
-rows-clash : {j k : ℕ} {c some two : List ℕ} {w g o p : ℕ} → j ≡ k → o ≡ p → ClearRows k c some two w g p
-    → (i : ℕ) → i < wordBits * w → rowBreaks j c some two g o i ≡ true → ⊥
+rows-clash : {j k : ℕ} {c some two : List ℕ} {g o p to : ℕ} → j ≡ k → o ≡ p → ClearRows k c some two g p to
+    → (i : ℕ) → i < to → rowBreaks j c some two g o i ≡ true → ⊥
 rows-clash d e f i l x = true-not-false _ (rw (d, e) at x) (f .clear i l)
 
 pub rules-none : {X : Type 0} (s : Sheet) (A : Sets X) (g : ℕ) → ClearRules s A g 1
@@ -101,9 +95,9 @@ module _ {t : List ℕ} {n : ℕ} {c : List ℕ} {rows : ℕ} {starts order coun
     joined q l m = rw (← G .sons .listed g group) (sons .joined (may-asked (T .tabled) _ g a b q l m))
 
     -- no row breaks the rule
-    pub rules-row : k < 5 → (w : ℕ) → words ≤ w → ClearRows k c some two w g (parentIn t g)
+    pub rules-row : k < 5 → (to : ℕ) → wordBits * words ≤ to → ClearRows k c some two g (parentIn t g) to
         → ClearRules (sheetIn t n) (columnSets c rows) g (k + 1)
-    rules-row l w m d =
+    rules-row l to m d =
         rules-more (sheetIn t n) (columnSets c rows) g k r
         (λ q e v.
         let x = row-of (sheetIn t n) (T .tabled .tree) c rows words some two g f (G .others) group (severalSons starts g) (two-sons (G .sons) group) joined q (omega arith) v .1 in
@@ -140,18 +134,18 @@ module _ {t : List ℕ} {n : ℕ} {c : List ℕ} {rows : ℕ} {starts order coun
             }));
           }
 
-      -- a row of a word breaks it
-      pub scan-row : k < 5 → (w : ℕ) → w < words → mayBreak t (severalSons starts g) g k ≡ true
-          → (x : Bool) → SomeBit (λ j. rowBreaks k c some two g (parentIn t g) (wordBits * w + j)) x → x ≡ true
+      -- some row breaks it
+      pub scan-row : k < 5 → (from to : ℕ) → to ≤ wordBits * words → mayBreak t (severalSons starts g) g k ≡ true
+          → (x : Bool) → SomeRow (rowBreaks k c some two g (parentIn t g)) from to x → x ≡ true
           → AnswerTo (sheetIn t n) (columnSets c rows) (check.Broken p k)
-      scan-row l w m y x z h =
+      scan-row l from to m y x z h =
           let q = rule-numbered k o (omega arith) in
-          let j = z .some h in
+          let i = z .some h in
           scan-broken (q .0) (q .1)
-          (by-row (sheetIn t n) (T .tabled .tree) c rows words some two g f (G .others) group (severalSons starts g) (two-sons (G .sons) group) joined (q .0) (wordBits * w + j .0)
-          (omega arith) (omega arith)
+          (by-row (sheetIn t n) (T .tabled .tree) c rows words some two g f (G .others) group (severalSons starts g) (two-sons (G .sons) group) joined
+          (q .0) (i .0) (omega arith) (omega arith)
           (sym (may-is (T .tabled) (severalSons starts g) g a b (q .0) (omega arith)) ∙ (rw (← q .1) y))
-          (rw (← q .1, parent-in t n g group) (j .2)))
+          (rw (← q .1, parent-in t n g group) (i .3)))
 
       -- the count breaks it
       pub scan-count : 5 ≤ k → k < 7 → countBreaks t (getD counts g 0) g k ≡ true

@@ -1,67 +1,82 @@
--- Whether some row of a word passes a test, told by the word as a number.
-use Prim.Native.Nat.{ℕ, _+_, _*_, _^_, _<_}
+-- The rows of a word that pass a test, as its digits; whether some row of several words does.
+use Prim.Native.Nat.{ℕ, _+_, _-_, _*_, _^_, _≤_, _<_}
 use mathlib.Core.Path.{_≡_, _∙_}
-use mathlib.Core.Bool.{Bool, not, _&&_}
+use mathlib.Core.Bool.{Bool, true, false, not, _&&_}
 use mathlib.Core.List.{List}
 use native.Mathlib.Omega.{arith}
 use native.Mathlib.Nat.{div-one}
 use borrow.Author.Tests.{eq-eqb, ne-eqb, eqb-true, eqb-false, not-true, not-false}
 use lib.ListN.{getD}
 use lib.Dec.{eqb}
-use lib.Bits.{bitAnd}
-use Rattle.laws.specs.Cases.{compare-eq}
-use Rattle.laws.specs.Digits.{digit, digit-le, digit-of-zero, digit-some, and-lacks, and-same}
+use lib.Bits.{bitAnd, bitOr, and-le-l, and-le-r, or-zero-l, or-add-and}
+use Rattle.laws.specs.Sum.{bit}
+use Rattle.laws.specs.Cases.{split, compare-le, compare-eq}
+use Rattle.laws.specs.SumLaws.{bit-true, false-bit}
+use Rattle.laws.specs.Digits.{digit, digit-of-zero, digit-some, digit-less}
 use Rattle.rows.specs.RowsRead.{wordBits}
-use Rattle.registers.specs.Columns.{columnWord, inColumn}
-use Rattle.registers.specs.RuleTests.{SomeBit}
-use Rattle.registers.proofs.ColumnLaws.{digit-at}
-
--- tests that agree on the rows of a word
-some-same : {f h : ℕ → Bool} {r : Bool} → ((j : ℕ) → j < wordBits → h j ≡ f j) → SomeBit f r → SomeBit h r
-some-same e b =
-    record {
-      some = λ x. let w = b .some x in (w .0, w .1, e (w .0) (w .1) ∙ w .2);
-      none = λ x j l. e j l ∙ b .none x j l;
-    }
-
-in-word : (t : List ℕ) (g w j : ℕ) → j < wordBits → inColumn t g (wordBits * w + j) ≡ eqb (digit (getD t (columnWord g w) 0) j) 1
-unfolding inColumn
-in-word t g w j l = rw (digit-at t g w j l)
+use Rattle.registers.specs.Columns.{columnWord, columnDigit, inColumn}
+use Rattle.registers.specs.RuleTests.{RowsPassing, SomeRow}
+use Rattle.registers.proofs.ColumnLaws.{digit-at, bit-column}
 
 -- a word of a table that has one column
 pub first-word : (t : List ℕ) (w : ℕ) → getD t w 0 ≡ getD t (columnWord 0 w) 0
 first-word t w = let e : columnWord 0 w ≡ w = omega arith in rw e
 
--- a word has a digit that another lacks
-pub word-lacks : (a b : ℕ) → a < 2 ^ 64 → SomeBit (λ j. eqb (digit a j) 1 && not (eqb (digit b j) 1)) (not (eqb (bitAnd a b) a))
-word-lacks a b l =
+-- the digits of one column's word, and those that another's lacks
+pub rows-in : (t : List ℕ) (g w : ℕ) {a : ℕ} → a ≡ getD t (columnWord g w) 0 → RowsPassing (inColumn t g) w a
+rows-in t g w x = record { each = λ j l. rw (x, bit-column t g (wordBits * w + j)) (let d = digit-at t g w j l in omega arith) }
+
+pub passing-as : {f h : ℕ → Bool} {w word : ℕ} → ((i : ℕ) → h i ≡ f i) → RowsPassing f w word → RowsPassing h w word
+passing-as e p = record { each = λ j l. p .each j l ∙ (rw (e _)) }
+
+pub rows-lack : (c d : List ℕ) (g p w : ℕ) {a b r : ℕ} → a ≡ getD c (columnWord g w) 0 → b ≡ getD d (columnWord p w) 0
+    → r ≡ a - bitAnd a b → RowsPassing (λ i. inColumn c g i && not (inColumn d p i)) w r
+rows-lack c d g p w {a} {b} x y z =
     record {
-      some = λ x.
-          let w = and-lacks 64 a b l (eqb-false (bitAnd a b) a (not-true _ x)) in
-          (w .0, w .1, rw (w .2, w .3));
-      none = λ x j o.
-          let e = and-same a b j (eqb-true (bitAnd a b) a (not-false _ x)) in
-          compare-eq (digit a j) 1
-          (λ y. rw (eq-eqb (digit a j) 1 y, eq-eqb (digit b j) 1 (omega (arith, digit-le b j))))
-          (λ y. rw (ne-eqb (digit a j) 1 y));
+      each = λ j l.
+          rw z
+          (digit-less a b j
+          ∙ both (inColumn c g (wordBits * w + j)) (inColumn d p (wordBits * w + j)) (rows-in c g w x .each j l) (rows-in d p w y .each j l));
     }
+  where
+    both : (m n : Bool) {h k : ℕ} → h ≡ bit m → k ≡ bit n → h - k ≡ bit (m && not n)
+    both true true u v = omega arith
+    both true false u v = omega arith
+    both false true u v = omega arith
+    both false false u v = omega arith
 
--- the same of the rows that the words have
-pub rows-lack : (c d : List ℕ) (g p w : ℕ) {a b : ℕ} {r : Bool} → a ≡ getD c (columnWord g w) 0 → b ≡ getD d (columnWord p w) 0
-    → SomeBit (λ j. eqb (digit a j) 1 && not (eqb (digit b j) 1)) r
-    → SomeBit (λ j. inColumn c g (wordBits * w + j) && not (inColumn d p (wordBits * w + j))) r
-rows-lack c d g p w x y = some-same (λ j l. rw (in-word c g w j l, in-word d p w j l, x, y))
+-- of the rows before `to`, and not before `from`, some passes a test exactly where a number is not 0
+pub record Seen (f : ℕ → Bool) (from to all : ℕ) : Type 0 where
+  pub some : (all ≡ 0 → ⊥) → (i : ℕ) × (from ≤ i) × (i < to) × (f i ≡ true)
+  pub none : all ≡ 0 → (i : ℕ) → from ≤ i → i < to → f i ≡ false
 
--- some row has a digit exactly where the word is not 0
-word-some : (a : ℕ) → a < 2 ^ 64 → SomeBit (λ j. eqb (digit a j) 1) (not (eqb a 0))
-word-some a l =
+pub seen-none : (f : ℕ → Bool) (from : ℕ) → Seen f from from 0
+seen-none f from = record { some = λ e. absurd (omega arith); none = λ e i a b. absurd (omega arith) }
+
+pub seen-more : {f : ℕ → Bool} {from w all word : ℕ} → Seen f from (wordBits * w) all → from ≤ wordBits * w → RowsPassing f w word
+    → word < 2 ^ 64 → Seen f from (wordBits * (w + 1)) (bitOr all word)
+seen-more {f} {from} {w} {all} {word} s o p l =
     record {
-      some = λ x.
-          let e = eqb-false a 0 (not-true _ x) in
-          let w = digit-some 64 a 0 l (rw (div-one a) (omega arith)) in
-          (w .0, w .2, rw (w .3));
-      none = λ x j o. rw (eqb-true a 0 (not-false _ x), digit-of-zero j);
+      some = λ e.
+          compare-eq all 0
+          (λ z. let d = digit-some 64 word 0 l (rw (div-one word) (positive z e)) in
+          (wordBits * w + d .0, omega arith, omega arith, bit-true _ (omega (arith, p .each (d .0) (d .2)))))
+          (λ z. let x = s .some z in (x .0, x .1, omega arith, x .3));
+      none = λ e i a b.
+          let z : (all ≡ 0) × (word ≡ 0) = omega (arith, or-add-and all word, and-le-l all word, and-le-r all word) in
+          compare-le (wordBits * w) i
+          (λ c. let j : wordBits * w + (i - wordBits * w) ≡ i = omega arith in
+          let d = rw (z .1, digit-of-zero, j) at (p .each (i - wordBits * w) (omega arith)) in
+          split (f i) (λ x. absurd (let y = rw x at d in omega arith)) (λ x. x))
+          (λ c. s .none (z .0) i a c);
     }
+  where
+    positive : all ≡ 0 → (bitOr all word ≡ 0 → ⊥) → 0 < word
+    positive z e = let x : word ≡ 0 → ⊥ = λ y. e (rw (z, y) (or-zero-l 0)) in omega arith
 
-pub rows-some : (t : List ℕ) (w : ℕ) → getD t w 0 < 2 ^ 64 → SomeBit (λ j. inColumn t 0 (wordBits * w + j)) (not (eqb (getD t w 0) 0))
-rows-some t w l = some-same (λ j o. rw (first-word t w) (in-word t 0 w j o)) (word-some (getD t w 0) l)
+pub seen-all : {f : ℕ → Bool} {from to all : ℕ} → Seen f from to all → SomeRow f from to (not (eqb all 0))
+seen-all {f} {from} {to} {all} s =
+    record {
+      some = λ x. s .some (eqb-false all 0 (not-true _ x));
+      none = λ x. s .none (eqb-true all 0 (not-false _ x));
+    }

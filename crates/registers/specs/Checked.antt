@@ -34,6 +34,7 @@ pub record Checked (s : Sheet) (d : Reading (List Row)) (r : Check) : Type 0 whe
   pub refusal : (n k : ℕ) → d ≡ refused n k → checkGives r ≡ refused n k
   pub answer : (rows : List Row) → d ≡ read rows → AnswerTo s (listedSets rows) r
 
--- the counts that the check of a register leaves: of the sets that its rows list, where it is read
-pub record Tallied (s : Sheet) (d : Reading (List Row)) (t : List ℕ) : Type 0 where
+-- the table t that the check of a register leaves of u: counts of the sets that its rows list, where it is read, and else u
+pub record Tallied (s : Sheet) (d : Reading (List Row)) (u t : List ℕ) : Type 0 where
   pub counts : (rows : List Row) → d ≡ read rows → Counted s (listedSets rows) t
+  pub kept : (n k : ℕ) → d ≡ refused n k → t ≡ u

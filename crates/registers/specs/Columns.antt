@@ -15,6 +15,13 @@ use Rattle.rows.specs.RowsRead.{wordBits, rowGroups, bitsPlace, bitAt}
 abbrev pub columnWords : ℕ
 columnWords = 32
 
+-- so many words are looked at together, and so many rows with them
+abbrev pub blockWords : ℕ
+blockWords = 8
+
+abbrev pub blockRows : ℕ
+blockRows = wordBits * blockWords
+
 -- places of a table by group: group numbers start at 1, and place 0 is for none
 abbrev pub groupPlaces : ℕ
 groupPlaces = rowGroups + 1
@@ -45,6 +52,10 @@ pub record WordsFor (n words : ℕ) : Type 0 where
   pub enough : n ≤ wordBits * words
   pub most : words ≤ columnWords
 
+-- and so many blocks of words
+abbrev pub BlocksFor : ℕ → ℕ → Type 0
+BlocksFor n blocks = WordsFor n (blockWords * blocks)
+
 -- the columns have the bits of the first n rows of a register, and no others
-pub record Filled (b : List ℕ) (n : ℕ) (t : List ℕ) : Type 0 where
+pub record ColumnsFilled (b : List ℕ) (n : ℕ) (t : List ℕ) : Type 0 where
   pub each : (g i : ℕ) → 1 ≤ g → g ≤ rowGroups → i < rowLimit → columnDigit t g i ≡ cond (ltb i n) (bitAt b (bitsPlace i) (g - 1)) 0

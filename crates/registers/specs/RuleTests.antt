@@ -1,11 +1,13 @@
 -- The tests that the scan makes: whether a rule of one member can be broken at a group, whether a row breaks it, whether some
--- row of a word does, whether a count does. Rules go by document 01's numbers.
-use Prim.Native.Nat.{ℕ, _+_, _-_, _*_, _<_}
+-- row of several words does, whether a count does. Rules go by document 01's numbers.
+use Prim.Native.Nat.{ℕ, _+_, _-_, _*_, _≤_, _<_}
 use mathlib.Core.Path.{_≡_}
 use mathlib.Core.Bool.{Bool, true, false, cond, not, _&&_}
 use mathlib.Core.List.{List}
 use lib.ListN.{getD}
 use lib.Dec.{ltb, eqb}
+use Rattle.laws.specs.Sum.{bit}
+use Rattle.laws.specs.Digits.{digit}
 use Rattle.wire.specs.Limits.{noEnd}
 use Rattle.reading.specs.Modes.{disjointMode, coverMode, sameMode}
 use Rattle.rows.specs.RowsRead.{wordBits}
@@ -49,10 +51,14 @@ rowBreaks k c some two g p i =
     (inColumn c g i && not (inColumn some 0 i))
     (inColumn two 0 i)
 
--- whether one of the 64 rows of a word passes a test
-pub record SomeBit (f : ℕ → Bool) (r : Bool) : Type 0 where
-  pub some : r ≡ true → (j : ℕ) × (j < wordBits) × (f j ≡ true)
-  pub none : r ≡ false → (j : ℕ) → j < wordBits → f j ≡ false
+-- the digits of a word tell which of its rows pass a test
+pub record RowsPassing (f : ℕ → Bool) (w word : ℕ) : Type 0 where
+  pub each : (j : ℕ) → j < wordBits → digit word j ≡ bit (f (wordBits * w + j))
+
+-- whether some row before `to`, and not before `from`, passes a test
+pub record SomeRow (f : ℕ → Bool) (from to : ℕ) (r : Bool) : Type 0 where
+  pub some : r ≡ true → (i : ℕ) × (from ≤ i) × (i < to) × (f i ≡ true)
+  pub none : r ≡ false → (i : ℕ) → from ≤ i → i < to → f i ≡ false
 
 -- whether a count c of group g breaks rule 5 or rule 6
 unfoldable pub countBreaks : List ℕ → ℕ → ℕ → ℕ → Bool

@@ -1,6 +1,6 @@
 -- What the check asks of a table of groups, and what it has gathered before it looks for broken rules: the columns, each
 -- group's sons, and each group's count.
-use Prim.Native.Nat.{ℕ, _+_, _≤_, _<_}
+use Prim.Native.Nat.{ℕ, _+_, _*_, _≤_, _<_}
 use mathlib.Core.Path.{_≡_}
 use mathlib.Core.List.{List}
 use lib.ListN.{length, getD}
@@ -9,7 +9,7 @@ use Rattle.meaning.specs.Sheet.{Sheet, Group}
 use Rattle.meaning.specs.Sets.{Sets, count}
 use Rattle.reading.specs.SheetIn.{sheetIn, Tabled}
 use Rattle.rows.specs.RowsRead.{rowGroups}
-use Rattle.registers.specs.Columns.{columnWords, groupPlaces, columnsLength, columnDigit, columnSets}
+use Rattle.registers.specs.Columns.{columnWords, blockWords, groupPlaces, columnsLength, columnDigit, columnSets}
 use Rattle.registers.specs.SonLists.{SonsListed}
 use Rattle.registers.specs.SonSteps.{SonsReadable}
 
@@ -44,6 +44,15 @@ pub record Joinable (c : List ℕ) (words : ℕ) (starts order : List ℕ) (g : 
   pub columns : columnsLength ≤ length c
   pub some-words : words ≤ length some
   pub two-words : words ≤ length two
+
+-- what the test of one block asks: block and groups are within the tables
+pub record BlockAsked (c some two : List ℕ) (b g p : ℕ) : Type 0 where
+  pub columns : columnsLength ≤ length c
+  pub block : blockWords * (b + 1) ≤ columnWords
+  pub last : g ≤ rowGroups
+  pub parent-last : p ≤ rowGroups
+  pub some-words : blockWords * (b + 1) ≤ length some
+  pub two-words : blockWords * (b + 1) ≤ length two
 
 -- what the test of one word asks: word and groups are within the tables
 pub record WordAsked (c some two : List ℕ) (w g p : ℕ) : Type 0 where

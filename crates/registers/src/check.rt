@@ -1,10 +1,11 @@
 // The check of a register: the lowest broken group with its first broken rule, once all rows are read.
+use crate::columns::blocks_for;
 use crate::columns::column_word;
 use crate::columns::fill_columns;
-use crate::columns::words_for;
 use crate::counts::count_groups;
 use crate::counts::count_of;
 use crate::joins::join_sons;
+use crate::limits::BLOCK_WORDS;
 use crate::limits::COLUMN_WORDS;
 use crate::limits::COLUMNS;
 use crate::limits::SON_STARTS;
@@ -20,21 +21,18 @@ use reading::tables::parent_of;
 use rows::read::Rows;
 use rows::read::read_rows;
 ghost use mathlib.Core.Path.{_≡_};
-ghost use mathlib.Core.Bool.{not, _&&_};
-ghost use Prim.Native.Nat.{_+_, _*_, _≤_, _<_};
+ghost use Prim.Native.Nat.{_+_, _-_, _*_, _≤_, _<_};
 ghost use lib.ListN.{length, getD};
-ghost use lib.Dec.{eqb};
-ghost use Rattle.laws.specs.Digits.{digit};
+ghost use lib.Bits.{bitAnd};
 ghost use Rattle.wire.specs.Edition.{edition1};
 ghost use Rattle.wire.specs.RegisterFormat.{readRegister};
 ghost use Rattle.reading.specs.SheetIn.{sheetIn};
-ghost use Rattle.rows.specs.RowsRead.{wordBits};
-ghost use Rattle.registers.specs.Columns.{groupPlaces, columnSets};
-ghost use Rattle.registers.specs.Tallies.{Checkable, Gathered, Joinable, WordAsked};
+ghost use Rattle.registers.specs.Columns.{blockRows, groupPlaces, columnSets};
+ghost use Rattle.registers.specs.Tallies.{Checkable, Gathered, Joinable, WordAsked, BlockAsked};
 ghost use Rattle.registers.specs.SonLists.{keptSons};
 ghost use Rattle.registers.specs.SonSteps.{severalSons};
 ghost use Rattle.registers.specs.Joins.{asksSons, JoinedFor};
-ghost use Rattle.registers.specs.RuleTests.{parentIn, modeIn, mayBreak, SomeBit, rowBreaks, countBreaks};
+ghost use Rattle.registers.specs.RuleTests.{parentIn, modeIn, mayBreak, RowsPassing, SomeRow, rowBreaks, countBreaks};
 ghost use Rattle.registers.specs.Checked.{AnswerTo, Checked, Tallied};
 
 // The listed sets fit; a group's number with the number of the rule that it breaks first; or a refusal's number with the row's.
@@ -67,15 +65,15 @@ fn may_break(groups: &[u16], starts: &[u32], g: GroupNo, p: GroupNo, rule: u16) 
     false
 }
 
-// whether a word has a bit that another lacks
-fn lacks(word: u64, other: u64) -> bool
-    ensures { λ r. ⌜ SomeBit (λ j. eqb (digit word j) 1 && not (eqb (digit other j) 1)) r ⌝ }
+// the bits of a word that another lacks
+fn beyond(word: u64, other: u64) -> u64
+    ensures { λ r. ⌜ r ≡ word - bitAnd word other ⌝ }
 {
-    (word & other) != word
+    word - (word & other)
 }
 
-// whether some row of a word breaks one of the rules 1 to 4 at a group, where the rule can be broken
-fn word_breaks(
+// the rows of a word that break one of the rules 1 to 4 at a group, where the rule can be broken
+fn breaking(
     rule: u16,
     columns: &[u64],
     some: &[u64],
@@ -83,20 +81,40 @@ fn word_breaks(
     w: usize,
     g: GroupNo,
     p: GroupNo,
-) -> bool
+) -> u64
     requires { ⌜ WordAsked (now columns) (now some) (now two) w (g .0) (p .0) ⌝ }
-    ensures { λ r. ⌜ SomeBit (λ j. rowBreaks rule (now (columns .entry)) (now (some .entry)) (now (two .entry)) (g .0) (p .0) (wordBits * w + j)) r ⌝ }
+    ensures { λ r. ⌜ RowsPassing (rowBreaks rule (now (columns .entry)) (now (some .entry)) (now (two .entry)) (g .0) (p .0)) w r ⌝ }
 {
     if rule == 1 {
-        return lacks(column_word(columns, g, w), column_word(columns, p, w));
+        return beyond(column_word(columns, g, w), column_word(columns, p, w));
     }
     if rule == 2 {
-        return lacks(column_word(columns, p, w), column_word(columns, g, w));
+        return beyond(column_word(columns, p, w), column_word(columns, g, w));
     }
     if rule == 3 {
-        return lacks(column_word(columns, g, w), some[w]);
+        return beyond(column_word(columns, g, w), some[w]);
     }
-    two[w] != 0
+    two[w]
+}
+
+// whether some row of a block does
+fn block_breaks(
+    rule: u16,
+    columns: &[u64],
+    some: &[u64],
+    two: &[u64],
+    b: usize,
+    g: GroupNo,
+    p: GroupNo,
+) -> bool
+    requires { ⌜ BlockAsked (now columns) (now some) (now two) b (g .0) (p .0) ⌝ }
+    ensures { λ r. ⌜ SomeRow (rowBreaks rule (now (columns .entry)) (now (some .entry)) (now (two .entry)) (g .0) (p .0)) (blockRows * b) (blockRows * (b + 1)) r ⌝ }
+{
+    let mut broken = 0u64;
+    for k in 0..BLOCK_WORDS {
+        broken = broken | breaking(rule, columns, some, two, BLOCK_WORDS * b + k, g, p);
+    }
+    broken != 0
 }
 
 // whether a group's count breaks rule 5 or rule 6
@@ -147,7 +165,7 @@ fn join_asked(
     }
 }
 
-// The scan over groups, rules and rows, 64 rows at a time, left at the first broken rule.
+// The scan over groups, rules and rows, a block of rows at a time, left at the first broken rule.
 fn scan(
     groups: &[u16],
     size: u16,
@@ -164,7 +182,8 @@ fn scan(
 {
     let mut answer = Check::Fits;
     let end = size + 1;
-    let words = words_for(n);
+    let blocks = blocks_for(n);
+    let words = BLOCK_WORDS * blocks;
     'scan: for g in 1..end {
         let group = GroupNo(g);
         let p = parent_of(groups, group);
@@ -172,8 +191,8 @@ fn scan(
         for rule in 1..7u16 {
             if rule < 5 {
                 if may_break(groups, starts, group, p, rule) {
-                    for w in 0..words {
-                        if word_breaks(rule, columns, some, two, w, group, p) {
+                    for b in 0..blocks {
+                        if block_breaks(rule, columns, some, two, b, group, p) {
                             answer = Check::Broken(group, rule);
                             break 'scan;
                         }
@@ -190,12 +209,12 @@ fn scan(
     answer
 }
 
-// The sons are gathered before the first row is read, and all rows are read before any rule is looked at. The count of each
-// group is left in the table.
+// The sons are gathered before the first row is read, and all rows are read before any rule is looked at. Of a register that is
+// read the count of each group is left in the table.
 pub fn check_register(groups: &[u16], size: u16, register: &[u8], counts: &mut [u32]) -> Check
     requires { ⌜ Checkable (now groups) size × (groupPlaces ≤ length (now counts)) ⌝ }
     ensures { λ r. ⌜ Checked (sheetIn (now (groups .entry)) size) (readRegister edition1 size (now (register .entry))) r
-        × Tallied (sheetIn (now (groups .entry)) size) (readRegister edition1 size (now (register .entry))) (now (counts .exit)) ⌝ }
+        × Tallied (sheetIn (now (groups .entry)) size) (readRegister edition1 size (now (register .entry))) (now (counts .entry)) (now (counts .exit)) ⌝ }
 {
     let mut starts = [0u32; SON_STARTS];
     let mut order = [0u16; SONS];
@@ -205,7 +224,7 @@ pub fn check_register(groups: &[u16], size: u16, register: &[u8], counts: &mut [
         Rows::Count(n) => {
             let mut columns = [0u64; COLUMNS];
             fill_columns(register, n, &mut columns);
-            count_groups(&columns, size, words_for(n), counts);
+            count_groups(&columns, size, BLOCK_WORDS * blocks_for(n), counts);
             let mut some = [0u64; COLUMN_WORDS];
             let mut two = [0u64; COLUMN_WORDS];
             scan(

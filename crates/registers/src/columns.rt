@@ -1,26 +1,36 @@
 // A column of bits for each group: bit i is set where the member of row i is in the group, 64 rows a word. The groups of a row
 // are taken lowest bit first; as many are left to take as there are ones left.
+use crate::limits::BLOCK_ROWS;
 use crate::limits::COLUMN_WORDS;
 use reading::tables::GroupNo;
-use rows::decode::bits_of;
+use rows::decode::RowAnswer;
 use rows::decode::word_at;
 use rows::limits::ROW_WORDS;
 use rows::limits::WORD_BITS;
+use rows::reader::row_of;
 ghost use mathlib.Core.Path.{_≡_};
 ghost use Prim.Native.Nat.{_+_, _-_, _*_, _≤_, _<_};
 ghost use lib.ListN.{length, getD};
 ghost use lib.Bits.{bitAnd};
+ghost use lib.Count.{ones};
 ghost use Rattle.laws.specs.Digits.{Lowest};
 ghost use Rattle.wire.specs.Limits.{rowLimit};
-ghost use Rattle.wire.specs.Edition.{edition1, membershipBytes, rowBytes};
-ghost use Rattle.rows.specs.RowsRead.{rowGroups};
-ghost use Rattle.registers.specs.Columns.{columnsLength, columnWord, WordsFor, Filled};
+ghost use Rattle.wire.specs.Edition.{edition1, membershipBytes};
+ghost use Rattle.rows.specs.RowsRead.{wordBits, rowGroups, RowsReadable};
+ghost use Rattle.registers.specs.Columns.{columnsLength, columnWord, BlocksFor, ColumnsFilled};
 ghost use Rattle.registers.specs.ColumnSteps.{LowestGroup, GroupPut, WordPut, RowPut, Empty};
+
+// how many groups a word has: its number of ones
+fn groups_in(word: u64) -> u32
+    ensures { λ r. ⌜ r ≡ ones word ⌝ }
+{
+    u64::count_ones(word)
+}
 
 // the lowest bit of a word
 fn lowest_of(word: u64) -> u32
     requires { ⌜ 0 < word ⌝ }
-    ensures { λ r. ⌜ (r < 64) × Lowest word r (bitAnd word (word - 1)) ⌝ }
+    ensures { λ r. ⌜ (r < wordBits) × Lowest word r (bitAnd word (word - 1)) ⌝ }
 {
     u64::trailing_zeros(word)
 }
@@ -49,12 +59,12 @@ pub fn column_word(columns: &[u64], g: GroupNo, w: usize) -> u64
     columns[COLUMN_WORDS * (g.0 as usize) + w]
 }
 
-// the words that have a bit for each of n rows
-pub fn words_for(n: usize) -> usize
+// the blocks of words that have a bit for each of n rows
+pub fn blocks_for(n: usize) -> usize
     requires { ⌜ n ≤ rowLimit ⌝ }
-    ensures { λ r. ⌜ WordsFor n r ⌝ }
+    ensures { λ r. ⌜ BlocksFor n r ⌝ }
 {
-    (n + WORD_BITS as usize - 1) / WORD_BITS as usize
+    (n + BLOCK_ROWS - 1) / BLOCK_ROWS
 }
 
 // a row's bit in a group's column
@@ -68,13 +78,15 @@ fn put_group(columns: &mut [u64], g: GroupNo, row: usize)
 
 // a row's bit in the columns of the groups of one word
 fn put_word(word: u64, before: u16, row: usize, columns: &mut [u64])
-    requires { ⌜ (before + 64 ≤ rowGroups) × ((row < rowLimit) × (columnsLength ≤ length (now columns))) ⌝ }
+    requires { ⌜ (before + wordBits ≤ rowGroups) × ((row < rowLimit) × (columnsLength ≤ length (now columns))) ⌝ }
     ensures { λ _. ⌜ WordPut word before row (now (columns .entry)) (now (columns .exit)) ⌝ }
 {
     let mut left = word;
-    while u64::count_ones(left) != 0 {
+    let mut number = groups_in(left);
+    while number != 0 {
         put_group(columns, lowest_group(left, before), row);
         left = rest_of(left);
+        number = groups_in(left);
     }
 }
 
@@ -88,12 +100,24 @@ fn put_row(register: &[u8], place: usize, row: usize, columns: &mut [u64])
     }
 }
 
-// The columns of the first n rows, which are known to be readable.
+// The columns of the first n rows of a register that was read: the reader walks them again, and finds each at its place.
 pub fn fill_columns(register: &[u8], n: usize, columns: &mut [u64])
-    requires { ⌜ (n ≤ rowLimit) × ((rowBytes edition1 * n ≤ length (now register)) × ((columnsLength ≤ length (now columns)) × Empty (now columns))) ⌝ }
-    ensures { λ _. ⌜ Filled (now (register .entry)) n (now (columns .exit)) ⌝ }
+    requires { ⌜ (n ≤ rowLimit) × (RowsReadable (now register) n × ((columnsLength ≤ length (now columns)) × Empty (now columns))) ⌝ }
+    ensures { λ _. ⌜ ColumnsFilled (now (register .entry)) n (now (columns .exit)) ⌝ }
 {
+    let mut at = 0;
     for row in 0..n {
-        put_row(register, bits_of(row), row, columns);
+        match row_of(register, at) {
+            RowAnswer::Row(r) => {
+                put_row(register, r.bits, row, columns);
+                at = r.next;
+            }
+            RowAnswer::End => {
+                return;
+            }
+            RowAnswer::Refused(_) => {
+                return;
+            }
+        }
     }
 }

@@ -14,7 +14,7 @@ use Rattle.laws.specs.Cases.{split, and-true, compare-eq, below-suc}
 use Rattle.wire.specs.Limits.{rowLimit}
 use Rattle.wire.specs.Edition.{edition1, groupLimit, membershipBytes, rowBytes, rowKind}
 use Rattle.wire.specs.Bytes.{u16At, u32At}
-use Rattle.wire.specs.Fields.{u16-drop}
+use Rattle.wire.specs.Fields.{u16-drop, u32-drop, u32-halves}
 use Rattle.wire.specs.Encoding.{Bytes}
 use Rattle.wire.specs.Facts.{u16-most}
 use Rattle.wire.specs.Record.{after, Reading, read, refused, onward, refusal}
@@ -25,13 +25,13 @@ use Rattle.wire.specs.RoundTripRegister.{register-read}
 use Rattle.meaning.specs.ReadableRows.{noRow}
 use Rattle.rows.specs.declared.decode.RowFound.{RowFound}
 use Rattle.rows.specs.declared.decode.RowAnswer.the-variants as answer
-use Rattle.rows.specs.RowsRead.{rowGroups, Front, ended, held, turned, rowGives, frontAt, fromRow, rowsBefore, bitAt, Above}
+use Rattle.rows.specs.RowsRead.{rowGroups, Front, ended, held, turned, rowGives, frontAt, rowHead, fromRow, rowsBefore, bitsPlace, bitAt, Above, RowsReadable}
 
 -- group g of the row at a place is bit g - 1 of its membership bytes
-pub in-group-bit : (b : List ℕ) (at g : ℕ) → 1 ≤ g → g ≤ rowGroups
-    → inGroup (rowOf edition1 (drop at b)) g ≡ eqb (bitAt b (at + 8) (g - 1)) 1
+pub in-group-bit : (b : List ℕ) (at g : ℕ) → g ≤ rowGroups
+    → inGroup (rowOf edition1 (drop at b)) g ≡ eqb (bitAt b (at + rowHead) (g - 1)) 1
 unfolding inGroup rowOf bitAt membershipBytes
-in-group-bit b at g l m =
+in-group-bit b at g m =
     let q : at + (8 + (g - 1) / 8) ≡ at + 8 + (g - 1) / 8 = omega arith in
     rw (
       getD-take 16 (drop 8 (drop at b)) ((g - 1) / 8) 0 (omega arith),
@@ -54,7 +54,7 @@ clear-none r groups zero h = refl
 clear-none r groups (suc n) h = rw (h n (le-refl (suc n))) (clear-none r groups n (λ k l. h k (omega arith)))
 
 -- the test of the bits is the test of the row
-clear-bits : (b : List ℕ) (at groups : ℕ) (r : Bool) → Above groups 0 rowGroups (bitAt b (at + 8)) r
+clear-bits : (b : List ℕ) (at groups : ℕ) (r : Bool) → Above groups 0 rowGroups (bitAt b (at + rowHead)) r
     → clearAbove (rowOf edition1 (drop at b)) groups (groupLimit edition1 - groups) ≡ not r
 unfolding membershipBytes
 clear-bits b at groups true a =
@@ -62,22 +62,12 @@ clear-bits b at groups true a =
     clear-some (rowOf edition1 (drop at b)) groups _ (j .0 - groups) (omega arith)
     (let e : groups + suc (j .0 - groups) ≡ suc (j .0) = omega arith in
     let f : suc (j .0) - 1 ≡ j .0 = omega arith in
-    rw (e, in-group-bit b at (suc (j .0)) (omega arith) (omega arith), f, j .3) (eq-eqb 1 1 refl))
+    rw (e, in-group-bit b at (suc (j .0)) (omega arith), f, j .3) (eq-eqb 1 1 refl))
 clear-bits b at groups false a =
     clear-none (rowOf edition1 (drop at b)) groups _ (λ k l.
     let f : groups + suc k - 1 ≡ groups + k = omega arith in
-    rw (in-group-bit b at (groups + suc k) (omega arith) (omega arith), f, a .none refl (groups + k) (omega arith) (omega arith))
+    rw (in-group-bit b at (groups + suc k) (omega arith), f, a .none refl (groups + k) (omega arith) (omega arith))
     (ne-eqb 0 1 (λ e. omega arith)))
-
--- a field of what is left after n bytes
-u32-drop : (n : ℕ) (b : List ℕ) (i : ℕ) → u32At (drop n b) i ≡ u32At b (n + i)
-unfolding u32At
-u32-drop n b i = simp (getD-drop, add-assoc)
-
--- a field of four bytes is two of two
-u32-halves : (b : List ℕ) (i : ℕ) → u32At b i ≡ u16At b i + 65536 * u16At b (i + 2)
-unfolding u16At u32At
-u32-halves b i = let e : i + 2 + 1 ≡ i + 3 = omega arith in rw e (omega arith)
 
 -- what bytes begin with
 abbrev rowFramed : List ℕ → Bool
@@ -92,7 +82,7 @@ frame-of b x =
 -- what stands at a place
 module _ (b : List ℕ) (at : ℕ) where
   abbrev rowHeld : Front
-  rowHeld = held (rowOf edition1 (drop at b) .member) (at + 8) (at + rowBytes edition1)
+  rowHeld = held (rowOf edition1 (drop at b) .member) (at + rowHead) (at + rowBytes edition1)
 
   front-some : eqb (length (drop at b)) 0 ≡ false → frontAt b at ≡ cond (rowFramed (drop at b)) rowHeld (turned 11)
   unfolding frontAt rowTests refusal
@@ -139,7 +129,7 @@ module _ (b : List ℕ) (at : ℕ) where
         (λ y. rw (eq-eqb (u16At b at) (rowBytes edition1 - 2) x, ne-eqb (u16At b (at + 2)) (rowKind edition1) y)))
         (λ x. rw (ne-eqb (u16At b at) (rowBytes edition1 - 2) x))
 
-    pub front-row : Bytes b → u32At b at ≡ frame → {m : ℕ} → m ≡ u32At b (at + 4) → held m (at + 8) (at + rowBytes edition1) ≡ frontAt b at
+    pub front-row : Bytes b → u32At b at ≡ frame → {m : ℕ} → m ≡ u32At b (at + 4) → held m (at + rowHead) (at + rowBytes edition1) ≡ frontAt b at
     unfolding rowOf
     front-row k e x =
         let w = framed-by k e in
@@ -172,7 +162,7 @@ module _ (b : List ℕ) (at : ℕ) where
     pub some : eqb (length (drop at b)) 0 ≡ false
     pub framed : rowFramed (drop at b) ≡ true
     pub member : v .member ≡ rowOf edition1 (drop at b) .member
-    pub bits : v .bits ≡ at + 8
+    pub bits : v .bits ≡ at + rowHead
     pub next : v .next ≡ at + rowBytes edition1
 
   pub held-frame : (v : RowFound) → rowGives (answer.Row v) ≡ frontAt b at → Held v
@@ -324,18 +314,45 @@ going-over groups b l =
     (λ e. let z = rw (length-drop (rowBytes edition1 * rowLimit) b) at e in omega arith)
     ∙ (rw (length-rowsBefore b rowLimit))
 
--- rows that were read are within the bytes, and no more than the most
-reads-long : (groups : ℕ) {rs ys : List Row} {b c : List ℕ} → Reads (rowTests edition1 groups) (rowOf edition1) rs b ys c
-    → rowBytes edition1 * length ys ≤ length b
+-- each row that was read has its frame, and there are no more than the most
+reads-framed : (groups : ℕ) {rs ys : List Row} {b c : List ℕ} → Reads (rowTests edition1 groups) (rowOf edition1) rs b ys c
+    → (i : ℕ) → i < length ys → rowFramed (fromRow b i) ≡ true
 unfolding rowTests after
-reads-long groups stop = omega arith
-reads-long groups (go {xs} {b} p rest) =
-    omega (arith, frame-of b (p .0), reads-long groups rest, length-drop (u16At b 0 + 2) b)
+reads-framed groups stop i l = absurd (omega arith)
+reads-framed groups (go {xs} {b} p rest) zero l = let e : rowBytes edition1 * 0 ≡ 0 = omega arith in rw e (p .0)
+reads-framed groups (go {xs} {b} p rest) (suc i) l =
+    let e : rowBytes edition1 * suc i ≡ rowBytes edition1 + rowBytes edition1 * i = omega arith in
+    let f : u16At b 0 + 2 ≡ rowBytes edition1 = omega (arith, frame-of b (p .0) .1) in
+    rw (e, ← drop-drop (rowBytes edition1 * i) (rowBytes edition1) b) (rw f at (reads-framed groups rest i (omega arith)))
 
 module _ (groups : ℕ) (b : List ℕ) (n : ℕ) (h : read (rowsBefore b n) ≡ readRegister edition1 groups b) where
-  pub rows-long : rowBytes edition1 * n ≤ length b
-  rows-long =
-      rw (length-rowsBefore b n) at (reads-long groups (register-read edition1 groups b (rowsBefore b n) (sym h) .rows))
-
   pub rows-most : n ≤ rowLimit
   rows-most = rw (length-rowsBefore b n) at (register-read edition1 groups b (rowsBefore b n) (sym h) .rowCount)
+
+  -- each row stands at its place
+  pub rows-readable : RowsReadable b n
+  rows-readable =
+      record {
+        each = λ i l.
+            let x = reads-framed groups (register-read edition1 groups b (rowsBefore b n) (sym h) .rows) i (rw (length-rowsBefore b n) l) in
+            let e : rowBytes edition1 * (i + 1) ≡ rowBytes edition1 * i + rowBytes edition1 = omega arith in
+            rw e
+            (front-some b (rowBytes edition1 * i)
+            (ne-eqb (length (fromRow b i)) 0 (λ z. omega (arith, frame-of (fromRow b i) x .0)))
+            ∙ (rw x));
+      }
+
+-- what the reader hands up at the place of a row that is known to be readable: that row, and no end or refusal
+module _ {b : List ℕ} {n i at : ℕ} (r : RowsReadable b n) (l : i < n) (e : at ≡ rowBytes edition1 * i) where
+  stands : frontAt b at ≡ held (rowOf edition1 (fromRow b i) .member) (bitsPlace i) (rowBytes edition1 * (i + 1))
+  stands = rw e (r .each i l)
+
+  pub row-stands : (v : RowFound) → rowGives (answer.Row v) ≡ frontAt b at
+      → (v .member ≡ rowOf edition1 (fromRow b i) .member) × (v .bits ≡ bitsPlace i) × (v .next ≡ rowBytes edition1 * (i + 1))
+  row-stands v f = let z = f ∙ stands in (cc, cc, cc)
+
+  pub not-ended : rowGives answer.End ≡ frontAt b at → ⊥
+  not-ended f = let z = f ∙ stands in let o : _≡_ {A = ℕ} 0 1 = cc in omega arith
+
+  pub not-refused : (k : ℕ) → rowGives (answer.Refused k) ≡ frontAt b at → ⊥
+  not-refused k f = let z = f ∙ stands in let o : _≡_ {A = ℕ} 0 1 = cc in omega arith

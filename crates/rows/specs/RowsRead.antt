@@ -41,12 +41,15 @@ rowGives (answer.Refused n) = turned n
 abbrev pub frameTests : List ℕ → List Test
 frameTests b = take 1 (rowTests edition1 0 [] b)
 
--- a row's membership bytes are the last ones of it
+-- the bytes of a row before its membership bytes: length, kind and member
+abbrev pub rowHead : ℕ
+rowHead = 8
+
 unfoldable pub frontAt : List ℕ → ℕ → Front
 frontAt b at =
     cond (eqb (length (drop at b)) 0) ended
     (cond (eqb (refusal (frameTests (drop at b))) 0)
-    (held (rowOf edition1 (drop at b) .member) (at + 8) (at + rowBytes edition1))
+    (held (rowOf edition1 (drop at b) .member) (at + rowHead) (at + rowBytes edition1))
     (turned (refusal (frameTests (drop at b)))))
 
 -- the bytes from row i on, and the first n rows of a register
@@ -59,7 +62,7 @@ rowsBefore b (suc n) = rowsBefore b n ++ (rowOf edition1 (fromRow b n) ∷ [])
 
 -- the place of the membership bytes of row i
 abbrev pub bitsPlace : ℕ → ℕ
-bitsPlace i = rowBytes edition1 * i + 8
+bitsPlace i = rowBytes edition1 * i + rowHead
 
 -- bit j of the bytes from a place on, the lowest bit of each byte first
 unfoldable pub bitAt : List ℕ → ℕ → ℕ → ℕ
@@ -69,7 +72,7 @@ bitAt b place j = digit (getD b (place + j / 8) 0) (j % 8)
 pub record WordAt (b : List ℕ) (place k word : ℕ) : Type 0 where
   pub each : (j : ℕ) → j < wordBits → digit word j ≡ bitAt b place (wordBits * k + j)
 
--- whether one of the n bits f is set of which group `groups` and those below have none; `before` groups come before bit 0
+-- whether one of the n bits f is set that belong to groups above `groups`; bit j is that of group before + j + 1
 pub record Above (groups before n : ℕ) (f : ℕ → ℕ) (r : Bool) : Type 0 where
   pub some : r ≡ true → (j : ℕ) × (groups ≤ before + j) × (j < n) × (f j ≡ 1)
   pub none : r ≡ false → (j : ℕ) → groups ≤ before + j → j < n → f j ≡ 0
@@ -78,3 +81,8 @@ pub record Above (groups before n : ℕ) (f : ℕ → ℕ) (r : Bool) : Type 0 w
 abbrev pub rowsGive : List ℕ → Rows → Reading (List Row)
 rowsGive b (rows.Count n) = read (rowsBefore b n)
 rowsGive b (rows.Refused n r) = refused n r
+
+-- each of the first n rows stands at its place: what is known of a register that was read
+pub record RowsReadable (b : List ℕ) (n : ℕ) : Type 0 where
+  pub each : (i : ℕ) → i < n
+      → frontAt b (rowBytes edition1 * i) ≡ held (rowOf edition1 (fromRow b i) .member) (bitsPlace i) (rowBytes edition1 * (i + 1))

@@ -12,8 +12,7 @@ ghost use Prim.Native.Nat.{_+_, _≤_, _<_};
 ghost use lib.ListN.{length};
 ghost use Rattle.laws.specs.Digits.{digit};
 ghost use Rattle.wire.specs.Edition.{edition1, membershipBytes, rowBytes};
-ghost use Rattle.wire.specs.Limits.{rowLimit};
-ghost use Rattle.rows.specs.RowsRead.{rowGives, frontAt, bitsPlace, bitAt, wordBits, rowWords, rowGroups, WordAt, Above};
+ghost use Rattle.rows.specs.RowsRead.{rowGives, frontAt, bitAt, wordBits, rowWords, rowGroups, WordAt, Above};
 
 // A row's member, the place of its membership bytes, and the place after the row.
 pub struct RowFound {
@@ -58,14 +57,6 @@ pub fn row_at(register: &[u8], at: usize) -> RowAnswer
         bits: at + ROW_BITS,
         next: at + ROW_BYTES,
     })
-}
-
-// The place of the membership bytes of the row after `row` rows.
-pub fn bits_of(row: usize) -> usize
-    requires { ⌜ row ≤ rowLimit ⌝ }
-    ensures { λ r. ⌜ r ≡ bitsPlace row ⌝ }
-{
-    ROW_BYTES * row + ROW_BITS
 }
 
 // Word k of the membership bytes at a place.

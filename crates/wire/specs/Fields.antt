@@ -5,7 +5,7 @@ use mathlib.Core.Bool.{true}
 use mathlib.Core.List.{List, [], _∷_, _++_, append-assoc, flatMap}
 use native.Mathlib.Omega.{arith}
 use native.Mathlib.Numerals.{add-one, add-two, add-three, add-four}
-use native.Mathlib.Nat.{add-zero, div-div-eq-div-mul}
+use native.Mathlib.Nat.{add-zero, add-assoc, div-div-eq-div-mul}
 use lib.ListN.{length, drop, getD, length-append}
 use lib.Seq.{getD-drop, drop-cons, drop-drop, drop-append-seam}
 use Rattle.wire.specs.Limits.{noEnd}
@@ -22,12 +22,21 @@ u16-drop k b i =
     let same : k + (i + 1) ≡ k + i + 1 = omega arith in
     rw (getD-drop k b i 0, getD-drop k b (i + 1) 0, same)
 
+pub u32-drop : (k : ℕ) (b : List ℕ) (i : ℕ) → u32At (drop k b) i ≡ u32At b (k + i)
+unfolding u32At
+u32-drop k b i = simp (getD-drop, add-assoc)
+
 pub u16s-drop : (k : ℕ) (b : List ℕ) (i n : ℕ) → u16s (drop k b) i n ≡ u16s b (k + i) n
 unfolding u16s
 u16s-drop k b i zero = refl
 u16s-drop k b i (suc n) =
     let same : k + (i + 2) ≡ k + i + 2 = omega arith in
     rw (u16-drop k b i, u16s-drop k b (i + 2) n, same)
+
+-- a field of four bytes is two of two
+pub u32-halves : (b : List ℕ) (i : ℕ) → u32At b i ≡ u16At b i + 65536 * u16At b (i + 2)
+unfolding u16At u32At
+u32-halves b i = let e : i + 2 + 1 ≡ i + 3 = omega arith in rw e (omega arith)
 
 -- reading what was written
 pub u16-le16 : (x : ℕ) (c : List ℕ) → x ≤ noEnd → u16At (le16 x ++ c) 0 ≡ x

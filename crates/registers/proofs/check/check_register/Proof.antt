@@ -9,7 +9,7 @@ use Rattle.wire.specs.Record.{read}
 use Rattle.wire.specs.RegisterFormat.{readRegister}
 use Rattle.reading.specs.SheetIn.{sheetIn, size-in}
 use Rattle.rows.specs.RowsRead.{rowGroups, rowsBefore}
-use Rattle.rows.proofs.RowLaws.{rows-long, rows-most}
+use Rattle.rows.proofs.RowLaws.{rows-most, rows-readable}
 use Rattle.registers.specs.Columns.{columnWords, columnsLength, columnSets}
 use Rattle.registers.specs.Tallies.{sonStarts, Counted}
 use Rattle.registers.proofs.CheckLaws.{checked-refused, tallied-refused, others-none, columns-counted, checked-columns, tallied-columns, zeros}
@@ -32,7 +32,7 @@ counted c =
     let f = w .before .before .before in
     let start = f .before .before .before .before .before .before .before .before .before .before .before .before .before .before in
     let z = size-in (start .args .groups .now) (start .args .size) in
-    columns-counted _ (omega (arith, z, start .pre .0 .most)) (f .fill-columns .ensures) (w .words-for .ensures) (rw z (c .count-groups .ensures))
+    columns-counted _ (omega (arith, z, start .pre .0 .most)) (f .fill-columns .ensures) (w .blocks-for .ensures) (rw z (c .count-groups .ensures))
 
 slice-aggregate-gather-sons : tie.Need-slice-aggregate-gather-sons
 slice-aggregate-gather-sons c = search needs
@@ -59,13 +59,16 @@ slice-aggregate-fill-columns c = search needs
 fill-columns-requires : tie.Need-fill-columns-requires
 fill-columns-requires c κs =
     let r = rows-read (c .before .before) in
-    (rows-most _ _ _ r, (rows-long _ _ _ r, (le-refl columnsLength, record { each = zeros columnsLength })))
+    (rows-most _ _ _ r, (rows-readable _ _ _ r, (le-refl columnsLength, record { each = zeros columnsLength })))
 
 slice-aggregate-count-groups : tie.Need-slice-aggregate-count-groups
 slice-aggregate-count-groups c = search needs
 
-words-for-requires : tie.Need-words-for-requires
-words-for-requires c κs = rows-most _ _ _ (rows-read (c .before .before .before .before .before))
+blocks-for-requires : tie.Need-blocks-for-requires
+blocks-for-requires c κs = rows-most _ _ _ (rows-read (c .before .before .before .before .before))
+
+mul-count-groups : tie.Need-mul-count-groups
+mul-count-groups c = search needs
 
 count-groups-requires : tie.Need-count-groups-requires
 count-groups-requires c κs = search needs
@@ -124,7 +127,7 @@ returns-2 c =
     let z : sheetIn (start .args .groups .now) (start .args .size) .size ≤ rowGroups
     = omega (arith, size-in (start .args .groups .now) (start .args .size), start .pre .0 .most) in (
       checked-columns _ z _ _ _ _ (rows-read n) (f .fill-columns .ensures) _ (start .pre .0 .tabled .tree) (c .before .before .scan .ensures),
-      tallied-columns _ z _ _ _ _ (rows-read n) (f .fill-columns .ensures) _ (counted k),
+      tallied-columns _ z _ _ _ _ (rows-read n) (f .fill-columns .ensures) _ _ (counted k),
     )
 
 pub check-register-spec : {M : Type 1} → statement M
@@ -140,7 +143,8 @@ check-register-spec =
     slice-aggregate-fill-columns
     fill-columns-requires
     slice-aggregate-count-groups
-    words-for-requires
+    blocks-for-requires
+    mul-count-groups
     count-groups-requires
     slice-aggregate-scan
     slice-aggregate-scan-2

@@ -1,13 +1,13 @@
 -- `registers::check::scan` meets its contract. Invariants: nothing is broken at the groups before g, by the rules before `rule`,
--- by the rows of the words before w.
+-- by the rows of the blocks before b.
 use borrow.Author.Needs.{needs}
-use Prim.Native.Nat.{_-_, _≤_, _<_}
+use Prim.Native.Nat.{_+_, _-_, _*_, _≤_, _<_}
 use mathlib.Core.Path.{_≡_, refl, sym, _∙_}
 use mathlib.Core.Logic.{⊎-elim}
 use native.Mathlib.Omega.{arith}
 use lib.ListN.{length}
 use Rattle.reading.specs.SheetIn.{sheetIn, size-in, group-in, parent-below}
-use Rattle.registers.specs.Columns.{columnSets}
+use Rattle.registers.specs.Columns.{blockRows, columnSets}
 use Rattle.registers.specs.RuleTests.{parentIn}
 use Rattle.registers.specs.declared.check.Check.the-variants as check
 use Rattle.registers.proofs.JoinLaws.{sons-readable}
@@ -17,26 +17,26 @@ use Rattle.registers.proofs.check.scan.Statement.{statement}
 use Rattle.registers.proofs.check.scan.Tie as tie
 
 abbrev Inv-loop2 : tie.InvT-loop2
-Inv-loop2 groups size columns n starts order counts some two answer₀ end words g group p rule w₀ answer w =
-    (w ≤ words) × ((answer ≡ check.Fits) × ClearRows rule columns some two w (group .0) (p .0))
+Inv-loop2 groups size columns n starts order counts some two answer₀ end blocks words g group p rule b₀ answer b =
+    (b ≤ blocks) × ((answer ≡ check.Fits) × ClearRows rule columns some two (group .0) (p .0) (blockRows * b))
 
 abbrev μ-loop2 : tie.MeasureT-loop2
-μ-loop2 groups size columns n starts order counts some two answer₀ end words g group p rule w₀ answer w = words - w
+μ-loop2 groups size columns n starts order counts some two answer₀ end blocks words g group p rule b₀ answer b = blocks - b
 
 abbrev Inv-loop : tie.InvT-loop
-Inv-loop groups size columns n starts order counts some two answer₀ end words g group p rule₀ answer rule =
+Inv-loop groups size columns n starts order counts some two answer₀ end blocks words g group p rule₀ answer rule =
     (1 ≤ rule) × ((rule ≤ 7) × ((answer ≡ check.Fits) × ClearRules (sheetIn groups size) (columnSets columns n) g rule))
 
 abbrev μ-loop : tie.MeasureT-loop
-μ-loop groups size columns n starts order counts some two answer₀ end words g group p rule₀ answer rule = 7 - rule
+μ-loop groups size columns n starts order counts some two answer₀ end blocks words g group p rule₀ answer rule = 7 - rule
 
 abbrev Inv-scan : tie.InvT-scan
-Inv-scan groups size columns n starts order counts some₀ two₀ answer₀ end words g₀ some two answer g =
+Inv-scan groups size columns n starts order counts some₀ two₀ answer₀ end blocks words g₀ some two answer g =
     (1 ≤ g) × ((g ≤ end) × ((length some ≡ length some₀) × ((length two ≡ length two₀)
     × ((answer ≡ check.Fits) × ClearGroups (sheetIn groups size) (columnSets columns n) g))))
 
 abbrev μ-scan : tie.MeasureT-scan
-μ-scan groups size columns n starts order counts some₀ two₀ answer₀ end words g₀ some two answer g = end - g
+μ-scan groups size columns n starts order counts some₀ two₀ answer₀ end blocks words g₀ some two answer g = end - g
 
 -- what is behind a turn for a group, the start; and behind the loop over rules, the joining of the sons and the parent
 abbrev start : tie.In-scan Inv-loop2 μ-loop2 Inv-loop μ-loop Inv-scan μ-scan
@@ -59,8 +59,11 @@ below s = parent-below (start s .pre .0 .tabled) _ _ (omega arith) refl (s .befo
 add-end : tie.Need-add-end Inv-loop2 μ-loop2 Inv-loop μ-loop Inv-scan μ-scan
 add-end c = search needs
 
-words-for-requires : tie.Need-words-for-requires Inv-loop2 μ-loop2 Inv-loop μ-loop Inv-scan μ-scan
-words-for-requires c κs = search needs
+blocks-for-requires : tie.Need-blocks-for-requires Inv-loop2 μ-loop2 Inv-loop μ-loop Inv-scan μ-scan
+blocks-for-requires c κs = search needs
+
+mul-words : tie.Need-mul-words Inv-loop2 μ-loop2 Inv-loop μ-loop Inv-scan μ-scan
+mul-words c = search needs
 
 scan-holds : tie.Need-scan-holds Inv-loop2 μ-loop2 Inv-loop μ-loop Inv-scan μ-scan
 scan-holds c = (search needs, (search needs, (refl, (refl, (refl, groups-none _ _)))))
@@ -74,7 +77,7 @@ join-asked-requires c κs =
     let s = c .before .before .before in
     let a = start s .args in
     let p = start s .pre in
-    let m = s .before .before .words-for .ensures .most in (
+    let m = s .before .before .blocks-for .ensures .most in (
       search needs,
       (
         search needs,
@@ -107,25 +110,25 @@ may-break-requires c κs =
 loop2-holds : tie.Need-loop2-holds Inv-loop2 μ-loop2 Inv-loop μ-loop Inv-scan μ-scan
 loop2-holds c = (search needs, (c .before .before .before .before .loop .inv .1 .1 .0, rows-none _ _ _ _ _ _))
 
-word-breaks-requires :
-    tie.Need-word-breaks-requires Inv-loop2 μ-loop2 Inv-loop μ-loop Inv-scan μ-scan
-word-breaks-requires c κs =
+block-breaks-requires :
+    tie.Need-block-breaks-requires Inv-loop2 μ-loop2 Inv-loop μ-loop Inv-scan μ-scan
+block-breaks-requires c κs =
     let l = c .before .before .before .before .before .before .before .before in
     let q = parent l in
     let p = start (q .before) .pre in
     let b = below (q .before) in
-    let m = q .before .before .before .words-for .ensures .most in
+    let m = q .before .before .before .blocks-for .ensures .most in
     record {
       columns = p .1 .columns;
-      word = omega arith;
+      block = omega arith;
       last = omega (arith, p .0 .most);
       parent-last = omega (arith, p .0 .most, q .parent-of .ensures);
       some-words = omega (arith, p .1 .some-words);
       two-words = omega (arith, p .1 .two-words);
     }
 
-add-w : tie.Need-add-w Inv-loop2 μ-loop2 Inv-loop μ-loop Inv-scan μ-scan
-add-w c = search needs
+add-b : tie.Need-add-b Inv-loop2 μ-loop2 Inv-loop μ-loop Inv-scan μ-scan
+add-b c = search needs
 
 loop2-less : tie.Need-loop2-less Inv-loop2 μ-loop2 Inv-loop μ-loop Inv-scan μ-scan
 loop2-less c = search needs
@@ -133,7 +136,7 @@ loop2-less c = search needs
 loop2-again : tie.Need-loop2-again Inv-loop2 μ-loop2 Inv-loop μ-loop Inv-scan μ-scan
 loop2-again c =
     let i = c .before .before .before .before .before .loop2 .inv in
-    (search needs, (i .1 .0, rows-more (i .1 .1) (c .before .word-breaks .ensures) (c .if3 .left)))
+    (search needs, (i .1 .0, rows-more (i .1 .1) (c .before .block-breaks .ensures) (c .if3 .left)))
 
 count-breaks-requires :
     tie.Need-count-breaks-requires Inv-loop2 μ-loop2 Inv-loop μ-loop Inv-scan μ-scan
@@ -151,7 +154,7 @@ loop-again c =
     let q = parent l in
     let s = q .before in
     let p = start s .pre in
-    let f = s .before .before .words-for .ensures in
+    let f = s .before .before .blocks-for .ensures in
     ⊎-elim
     (λ w. (
       search needs,
@@ -160,7 +163,7 @@ loop-again c =
         (
           w .5 ∙ w .3 .inv .1 .0,
           rules-row (p .0) (p .1) _ _ (s .before .scan .inv .0) (omega arith) f (joining l .join-asked .ensures)
-              (l .loop .inv .1 .1 .1) (w .0 .taken) _ (w .4 .left) (rw (q .parent-of .ensures) at (w .3 .inv .1 .1)),
+              (l .loop .inv .1 .1 .1) (w .0 .taken) _ (omega (arith, w .4 .left)) (rw (q .parent-of .ensures) at (w .3 .inv .1 .1)),
         ),
       ),
     ))
@@ -237,10 +240,10 @@ returns-2 c =
     let q = parent l in
     let s = q .before in
     let p = start s .pre in
-    scan-row (p .0) (p .1) _ _ (s .before .scan .inv .0) (omega arith) (s .before .before .words-for .ensures)
+    scan-row (p .0) (p .1) _ _ (s .before .scan .inv .0) (omega arith) (s .before .before .blocks-for .ensures)
     (joining l .join-asked .ensures) (l .loop .inv .1 .1 .1) (s .before .scan .inv .1 .1 .1 .1 .1) (l .loop .inv .0) _ refl
-    (m .before .if1 .taken) _ (r .loop2-test .taken) (sym (m .may-break .ensures) ∙ r .before .before .if2 .taken) _
-    (rw (← q .parent-of .ensures) (c .before .word-breaks .ensures)) (c .if3 .taken)
+    (m .before .if1 .taken) (blockRows * r .before .loop2 .b) (blockRows * (r .before .loop2 .b + 1)) (omega (arith, r .loop2-test .taken)) (sym (m .may-break .ensures) ∙ r .before .before .if2 .taken) _
+    (rw (← q .parent-of .ensures) (c .before .block-breaks .ensures)) (c .if3 .taken)
 
 same-length-5 : tie.Need-same-length-5 Inv-loop2 μ-loop2 Inv-loop μ-loop Inv-scan μ-scan
 same-length-5 c = search needs
@@ -253,7 +256,7 @@ returns-3 c =
     let l = c .before .before .before .before in
     let s = parent l .before in
     let p = start s .pre in
-    scan-count (p .0) (p .1) _ _ (s .before .scan .inv .0) (omega arith) (s .before .before .words-for .ensures)
+    scan-count (p .0) (p .1) _ _ (s .before .scan .inv .0) (omega arith) (s .before .before .blocks-for .ensures)
     (joining l .join-asked .ensures) (l .loop .inv .1 .1 .1) (s .before .scan .inv .1 .1 .1 .1 .1) (l .loop .inv .0) _ refl
     (c .before .before .if1 .left) (omega arith) (rw (← c .before .count-breaks .ensures) (c .if4 .taken))
 
@@ -268,15 +271,16 @@ scan-spec =
     Inv-scan
     μ-scan
     add-end
-    words-for-requires
+    blocks-for-requires
+    mul-words
     scan-holds
     parent-of-requires
     join-asked-requires
     loop-holds
     may-break-requires
     loop2-holds
-    word-breaks-requires
-    add-w
+    block-breaks-requires
+    add-b
     loop2-less
     loop2-again
     count-breaks-requires

@@ -1,5 +1,5 @@
--- `registers::columns::put_word` meets its contract. Invariant: the groups that are not left are put; the ones that are left
--- become fewer.
+-- `registers::columns::put_word` meets its contract. Invariant: the groups that are not left are put; as many are left as there
+-- are ones left.
 use borrow.Author.Needs.{needs}
 use native.Mathlib.Omega.{arith}
 use native.Mathlib.Nat.{lt-of-le-of-lt}
@@ -8,41 +8,56 @@ use mathlib.Core.Path.{_≡_, refl}
 use lib.ListN.{length}
 use lib.Bits.{and-le-l}
 use lib.Count.{ones}
-use Rattle.registers.proofs.PutLaws.{Taken, taken-none, taken-more, taken-all, some-left, none-left}
+use Rattle.registers.proofs.PutLaws.{GroupsTaken, groups-none-taken, groups-more-taken, groups-all-taken, ones-left, no-ones-left}
 use Rattle.registers.proofs.columns.put_word.Statement.{statement}
 use Rattle.registers.proofs.columns.put_word.Tie as tie
 
 abbrev Inv-loop : tie.InvT-loop
-Inv-loop word before row columns₀ left₀ columns left =
-    (length columns ≡ length columns₀) × ((left < 2 ^ 64) × Taken word before row columns₀ left columns)
+Inv-loop word before row columns₀ left₀ number₀ columns left number =
+    (length columns ≡ length columns₀)
+    × ((left < 2 ^ 64) × ((number ≡ ones left) × GroupsTaken word before row columns₀ left columns))
 
 abbrev μ-loop : tie.MeasureT-loop
-μ-loop word before row columns₀ left₀ columns left = ones left
+μ-loop word before row columns₀ left₀ number₀ columns left number = number
+
+groups-in-requires : tie.Need-groups-in-requires Inv-loop μ-loop
+groups-in-requires c κs = search needs
 
 loop-holds : tie.Need-loop-holds Inv-loop μ-loop
-loop-holds c = (refl, (c .before .fits .word .fits, taken-none _ _ _ _))
+loop-holds c = (refl, (c .before .before .fits .word .fits, (c .groups-in .ensures, groups-none-taken _ _ _ _)))
 
 lowest-group-requires : tie.Need-lowest-group-requires Inv-loop μ-loop
-lowest-group-requires c κs = (some-left _ (omega arith), search needs)
+lowest-group-requires c κs = (ones-left _ (omega arith), search needs)
 
 put-group-requires : tie.Need-put-group-requires Inv-loop μ-loop
 put-group-requires c κs =
     let w = c .lowest-group .ensures in (omega (arith, w .numbered, w .within), (search needs, search needs))
 
 rest-of-requires : tie.Need-rest-of-requires Inv-loop μ-loop
-rest-of-requires c κs = some-left _ (omega arith)
+rest-of-requires c κs = ones-left _ (omega arith)
+
+groups-in-requires-2 : tie.Need-groups-in-requires-2 Inv-loop μ-loop
+groups-in-requires-2 c κs = search needs
 
 loop-less : tie.Need-loop-less Inv-loop μ-loop
 loop-less c =
-    let w = c .before .before .before .before .lowest-group .ensures in rw (c .rest-of .ensures) (omega (arith, w .lowest .fewer))
+    let r = c .before in
+    let w = r .before .before .before .before .lowest-group .ensures in
+    let e = rw (r .rest-of .ensures) at (c .groups-in2 .ensures) in
+    omega (arith, w .lowest .fewer)
 
 loop-again : tie.Need-loop-again Inv-loop μ-loop
 loop-again c =
-    let p = c .before .before .before in
+    let r = c .before in
+    let p = r .before .before .before in
     let w = p .before .lowest-group .ensures in
-    let l = p .before .before .before .before .loop in
-    rw (c .rest-of .ensures)
-    (search needs, (lt-of-le-of-lt (and-le-l _ _) (l .inv .1 .0), taken-more w (l .inv .1 .1) (p .put-group .ensures)))
+    let l = p .before .before .before .before .loop in (
+      search needs,
+      (
+        rw (r .rest-of .ensures) (lt-of-le-of-lt (and-le-l _ _) (l .inv .1 .0)),
+        (c .groups-in2 .ensures, rw (r .rest-of .ensures) (groups-more-taken w (l .inv .1 .1 .1) (p .put-group .ensures))),
+      ),
+    )
 
 same-length : tie.Need-same-length Inv-loop μ-loop
 same-length c = search needs
@@ -50,7 +65,7 @@ same-length c = search needs
 returns : tie.Need-returns Inv-loop μ-loop
 returns c =
     let l = c .before .loop in
-    taken-all (rw (none-left (l .left) (l .inv .1 .0) (omega arith)) at (l .inv .1 .1))
+    groups-all-taken (rw (no-ones-left (l .left) (l .inv .1 .0) (omega arith)) at (l .inv .1 .1 .1))
 
 pub put-word-spec : {M : Type 1} → statement M
 put-word-spec =
@@ -58,10 +73,12 @@ put-word-spec =
     (tie.spec
     Inv-loop
     μ-loop
+    groups-in-requires
     loop-holds
     lowest-group-requires
     put-group-requires
     rest-of-requires
+    groups-in-requires-2
     loop-less
     loop-again
     same-length

@@ -45,7 +45,7 @@ loop-again c =
         search needs,
         (
           search needs,
-          rw e (counts-more (l .inv .1 .1 .1) (l .inv .0) (omega arith) (k .count-column .ensures) (p .put-count .ensures)),
+          rw e (counts-more (l .inv .1 .1 .1) (omega arith) (k .count-column .ensures) (p .put-count .ensures)),
         ),
       ),
     )

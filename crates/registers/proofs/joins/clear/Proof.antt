@@ -4,7 +4,7 @@ use native.Mathlib.Omega.{arith}
 use Prim.Native.Nat.{_-_}
 use mathlib.Core.Path.{_≡_, refl}
 use lib.ListN.{length}
-use Rattle.registers.proofs.JoinLaws.{WordsTo, words-none, words-more}
+use Rattle.registers.proofs.JoinLaws.{WordsTo, words-to-none, words-to-more}
 use Rattle.registers.proofs.joins.clear.Statement.{statement}
 use Rattle.registers.proofs.joins.clear.Tie as tie
 
@@ -17,7 +17,7 @@ abbrev μ-loop : tie.MeasureT-loop
 μ-loop words some₀ two₀ w₀ some two w = words - w
 
 loop-holds : tie.Need-loop-holds Inv-loop μ-loop
-loop-holds c = (refl, (refl, (words-none _ _, words-none _ _)))
+loop-holds c = (refl, (refl, (words-to-none _ _, words-to-none _ _)))
 
 mul-some : tie.Need-mul-some Inv-loop μ-loop
 mul-some c = search needs
@@ -40,7 +40,7 @@ loop-less c = search needs
 loop-again : tie.Need-loop-again Inv-loop μ-loop
 loop-again c =
     let v = c .before .loop .inv .1 .1 in
-    (search needs, (search needs, (words-more _ (v .0) (search needs) refl, words-more _ (v .1) (search needs) refl)))
+    (search needs, (search needs, (words-to-more _ (v .0) (search needs) refl, words-to-more _ (v .1) (search needs) refl)))
 
 same-length : tie.Need-same-length Inv-loop μ-loop
 same-length c = search needs

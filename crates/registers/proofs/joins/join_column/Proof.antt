@@ -7,7 +7,7 @@ use mathlib.Core.Path.{_≡_, refl}
 use lib.ListN.{length, getD}
 use lib.Bits.{bitAnd, bitOr}
 use Rattle.registers.specs.Columns.{columnWord}
-use Rattle.registers.proofs.JoinLaws.{WordsTo, words-none, words-more}
+use Rattle.registers.proofs.JoinLaws.{WordsTo, words-to-none, words-to-more}
 use Rattle.registers.proofs.joins.join_column.Statement.{statement}
 use Rattle.registers.proofs.joins.join_column.Tie as tie
 
@@ -22,7 +22,7 @@ abbrev μ-loop : tie.MeasureT-loop
 μ-loop columns son words some₀ two₀ w₀ some two w = words - w
 
 loop-holds : tie.Need-loop-holds Inv-loop μ-loop
-loop-holds c = (refl, (refl, (words-none _ _, words-none _ _)))
+loop-holds c = (refl, (refl, (words-to-none _ _, words-to-none _ _)))
 
 column-word-requires : tie.Need-column-word-requires Inv-loop μ-loop
 column-word-requires c κs = search needs
@@ -69,7 +69,7 @@ loop-again c =
     let v = c .before .before .before .before .before .loop .inv .1 .1 in
     let a = v .0 .left _ (le-refl _) in (
       search needs,
-      (search needs, (words-more _ (v .0) (search needs) (rw (a, x)), words-more _ (v .1) (search needs) (rw (v .1 .left _ (le-refl _), a, x)))),
+      (search needs, (words-to-more _ (v .0) (search needs) (rw (a, x)), words-to-more _ (v .1) (search needs) (rw (v .1 .left _ (le-refl _), a, x)))),
     )
 
 same-length : tie.Need-same-length Inv-loop μ-loop

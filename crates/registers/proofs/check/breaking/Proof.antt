@@ -1,10 +1,10 @@
--- `registers::check::word_breaks` meets its contract.
+-- `registers::check::breaking` meets its contract.
 use borrow.Author.Needs.{needs}
 use borrow.Author.Tests.{ne-eqb}
 use Rattle.registers.specs.RuleTests.{rowBreaks}
-use Rattle.registers.proofs.WordLaws.{first-word, rows-lack, rows-some}
-use Rattle.registers.proofs.check.word_breaks.Statement.{statement}
-use Rattle.registers.proofs.check.word_breaks.Tie as tie
+use Rattle.registers.proofs.WordLaws.{first-word, rows-in, passing-as, rows-lack}
+use Rattle.registers.proofs.check.breaking.Statement.{statement}
+use Rattle.registers.proofs.check.breaking.Tie as tie
 
 column-word-requires : tie.Need-column-word-requires
 column-word-requires c κs = search needs
@@ -12,14 +12,14 @@ column-word-requires c κs = search needs
 column-word-requires-2 : tie.Need-column-word-requires-2
 column-word-requires-2 c κs = search needs
 
-lacks-requires : tie.Need-lacks-requires
-lacks-requires c κs = search needs
+beyond-requires : tie.Need-beyond-requires
+beyond-requires c κs = search needs
 
 returns : tie.Need-returns
 unfolding rowBreaks
 returns c =
     let a = c .before .before in
-    rw (a .before .if1 .taken) (rows-lack _ _ _ _ _ (a .column-word .ensures) (c .before .column-word2 .ensures) (c .lacks .ensures))
+    rw (a .before .if1 .taken) (rows-lack _ _ _ _ _ (a .column-word .ensures) (c .before .column-word2 .ensures) (c .beyond .ensures))
 
 column-word-requires-3 : tie.Need-column-word-requires-3
 column-word-requires-3 c κs = search needs
@@ -27,26 +27,26 @@ column-word-requires-3 c κs = search needs
 column-word-requires-4 : tie.Need-column-word-requires-4
 column-word-requires-4 c κs = search needs
 
-lacks-requires-2 : tie.Need-lacks-requires-2
-lacks-requires-2 c κs = search needs
+beyond-requires-2 : tie.Need-beyond-requires-2
+beyond-requires-2 c κs = search needs
 
 returns-2 : tie.Need-returns-2
 unfolding rowBreaks
 returns-2 c =
     let a = c .before .before in
-    rw (a .before .if2 .taken) (rows-lack _ _ _ _ _ (a .column-word3 .ensures) (c .before .column-word4 .ensures) (c .lacks2 .ensures))
+    rw (a .before .if2 .taken) (rows-lack _ _ _ _ _ (a .column-word3 .ensures) (c .before .column-word4 .ensures) (c .beyond2 .ensures))
 
 column-word-requires-5 : tie.Need-column-word-requires-5
 column-word-requires-5 c κs = search needs
 
-mul-lacks : tie.Need-mul-lacks
-mul-lacks c = search needs
+mul-beyond : tie.Need-mul-beyond
+mul-beyond c = search needs
 
-shared-slice-read-lacks : tie.Need-shared-slice-read-lacks
-shared-slice-read-lacks c = search needs
+shared-slice-read-beyond : tie.Need-shared-slice-read-beyond
+shared-slice-read-beyond c = search needs
 
-lacks-requires-3 : tie.Need-lacks-requires-3
-lacks-requires-3 c κs = search needs
+beyond-requires-3 : tie.Need-beyond-requires-3
+beyond-requires-3 c κs = search needs
 
 returns-3 : tie.Need-returns-3
 unfolding rowBreaks
@@ -54,7 +54,7 @@ returns-3 c =
     let a = c .before .before in
     let q = a .before .before .before .before .before .before .before .args in
     rw (a .before .if3 .taken)
-    (rows-lack _ _ _ _ _ (a .column-word5 .ensures) (first-word (q .some .now) (q .w)) (c .lacks3 .ensures))
+    (rows-lack _ _ _ _ _ (a .column-word5 .ensures) (first-word (q .some .now) (q .w)) (c .beyond3 .ensures))
 
 mul-result : tie.Need-mul-result
 mul-result c = search needs
@@ -66,25 +66,27 @@ returns-4 : tie.Need-returns-4
 unfolding rowBreaks
 returns-4 c =
     let e = c .before in
-    rw (ne-eqb _ _ (e .before .before .if1 .left), ne-eqb _ _ (e .before .if2 .left), ne-eqb _ _ (e .if3 .left))
-    (rows-some _ _ (c .shared-slice-known5 .given _ .fits))
+    let q = e .before .before .before .before .before .before .args in
+    passing-as
+    (λ i. rw (ne-eqb _ _ (e .before .before .if1 .left), ne-eqb _ _ (e .before .if2 .left), ne-eqb _ _ (e .if3 .left)))
+    (rows-in (q .two .now) 0 (q .w) (first-word (q .two .now) (q .w)))
 
-pub word-breaks-spec : {M : Type 1} → statement M
-word-breaks-spec =
+pub breaking-spec : {M : Type 1} → statement M
+breaking-spec =
     tie.close
     (tie.spec
     column-word-requires
     column-word-requires-2
-    lacks-requires
+    beyond-requires
     returns
     column-word-requires-3
     column-word-requires-4
-    lacks-requires-2
+    beyond-requires-2
     returns-2
     column-word-requires-5
-    mul-lacks
-    shared-slice-read-lacks
-    lacks-requires-3
+    mul-beyond
+    shared-slice-read-beyond
+    beyond-requires-3
     returns-3
     mul-result
     shared-slice-read-result
