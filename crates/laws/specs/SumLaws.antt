@@ -117,10 +117,6 @@ locate f (suc n) x l =
 pub sum-some : (f : ℕ → ℕ) (n : ℕ) → 1 ≤ sum f n → (g : ℕ) × (g < n) × (1 ≤ f g)
 sum-some f n l = let w = locate f n 0 l in (w .0, w .1, omega arith)
 
--- two different terms are at most the sum
-pub sum-two : (f : ℕ → ℕ) (n g h : ℕ) → g < h → h < n → f g + f h ≤ sum f n
-sum-two f n g h l k = omega (arith, sum-prefix f n h k, sum-term f h g l)
-
 -- terms at most c of which no two are positive
 pub sum-one : (f : ℕ → ℕ) (c n : ℕ) → ((m : ℕ) → m < n → f m ≤ c)
     → ((g h : ℕ) → g < h → h < n → 1 ≤ f g → 1 ≤ f h → ⊥) → sum f n ≤ c
@@ -162,13 +158,3 @@ pub sum-parts : (f : ℕ → ℕ) (k n : ℕ) → sum f (k + n) ≡ sum f k + su
 unfolding sum
 sum-parts f k zero = rw (add-zero k) (omega arith)
 sum-parts f k (suc n) = rw (add-suc k n) (omega (arith, sum-parts f k n))
-
--- terms at most 1 with a sum above 1: two of them are not 0
-pub sum-pair : (f : ℕ → ℕ) (n : ℕ) → ((m : ℕ) → m < n → f m ≤ 1) → 1 < sum f n
-    → (g h : ℕ) × (g < h) × (h < n) × (1 ≤ f g) × (1 ≤ f h)
-unfolding sum
-sum-pair f zero p l = absurd (omega arith)
-sum-pair f (suc n) p l =
-    compare-le 1 (f n)
-    (λ h. let w = sum-some f n (omega (arith, p n (le-refl (suc n)))) in (w .0, n, w .1, le-refl (suc n), w .2, h))
-    (λ h. let w = sum-pair f n (λ m k. p m (omega arith)) (omega arith) in (w .0, w .1, w .2, omega arith, w .4, w .5))

@@ -11,7 +11,7 @@ use Rattle.wire.specs.Edition.{edition1, rowBytes}
 use Rattle.wire.specs.Limits.{rowLimit}
 use Rattle.wire.specs.Record.{Reading, read, refused}
 use Rattle.wire.specs.RegisterFormat.{Row, readRegister}
-use Rattle.meaning.specs.Sheet.{Sheet, Group}
+use Rattle.meaning.specs.Sheet.{Sheet}
 use Rattle.meaning.specs.Tree.{Tree}
 use Rattle.meaning.specs.Sets.{Distinct}
 use Rattle.meaning.specs.OfRecords.{listedSets}

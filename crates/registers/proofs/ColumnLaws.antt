@@ -1,7 +1,7 @@
 -- Laws of columns of digits, word by word.
-use Prim.Native.Nat.{ℕ, _+_, _-_, _*_, _/_, _%_, _^_, _≤_, _<_, max}
-use mathlib.Core.Path.{_≡_, refl, sym, ap, _∙_}
-use mathlib.Core.Bool.{Bool, true, false, cond}
+use Prim.Native.Nat.{ℕ, _+_, _*_, _/_, _%_, _^_, _≤_, _<_, max}
+use mathlib.Core.Path.{_≡_, sym, ap, _∙_}
+use mathlib.Core.Bool.{true, cond}
 use mathlib.Core.List.{List}
 use native.Mathlib.Omega.{arith}
 use borrow.Author.Tests.{eq-eqb, ne-eqb, eqb-true}
@@ -14,7 +14,7 @@ use Rattle.laws.specs.Cases.{compare-eq}
 use Rattle.laws.specs.Digits.{digit, digit-le, digit-or, digit-pow}
 use Rattle.wire.specs.Limits.{rowLimit}
 use Rattle.rows.specs.RowsRead.{wordBits, rowGroups}
-use Rattle.registers.specs.Columns.{columnWords, columnsLength, columnWord, columnDigit, inColumn}
+use Rattle.registers.specs.Columns.{columnsLength, columnWord, columnDigit, inColumn}
 use Rattle.registers.specs.ColumnSteps.{GroupPut}
 
 -- digit j of word w

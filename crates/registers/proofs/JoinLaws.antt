@@ -135,7 +135,7 @@ sons-readable {s} {starts} {order} {g} w z k =
     record {
       long = omega (arith, w .long, k .last);
       within = w .within g k;
-      groups = λ h m. let c = listed-son s g h (rw (w .listed g k) at m) in (c .group .first, omega (arith, c .group .last));
+      groups = λ h m. let c = listed-son s g h (rw (w .listed g k) at m) in omega (arith, c .group .last);
     }
 
 -- a total and its terms: one, some, two of them

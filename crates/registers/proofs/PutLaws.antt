@@ -1,18 +1,15 @@
 -- The rows' digits are set in the columns: group by group, word by word, row by row.
 use Prim.Native.Nat.{ℕ, zero, suc, _+_, _-_, _*_, _^_, _≤_, _<_, max}
-use mathlib.Core.Path.{_≡_, refl, sym, _∙_}
+use mathlib.Core.Path.{_≡_, refl, _∙_}
 use mathlib.Core.Bool.{cond}
 use mathlib.Core.List.{List}
 use native.Mathlib.Omega.{arith}
-use native.Mathlib.Nat.{add-zero}
 use borrow.Author.Tests.{lt-ltb, le-ltb, le-leb, lt-leb, eq-eqb, ne-eqb}
-use lib.ListN.{getD}
 use lib.Dec.{ltb, eqb}
 use lib.Bits.{bitAnd}
 use lib.Count.{ones}
-use Rattle.laws.specs.Sum.{bit}
 use Rattle.laws.specs.Cases.{compare-le, compare-eq, split}
-use Rattle.laws.specs.Digits.{digit, digit-le, digit-of-zero, digit-beyond, ones-of-zero, lowest}
+use Rattle.laws.specs.Digits.{digit-le, digit-of-zero, digit-beyond, ones-of-zero, lowest}
 use Rattle.rows.specs.RowsRead.{wordBits, rowGroups, bitsPlace, bitAt, WordAt}
 use Rattle.registers.specs.Columns.{columnDigit, ColumnsFilled}
 use Rattle.registers.specs.ColumnSteps.{LowestGroup, Put, GroupPut, wordBit, WordPut, RowPut, Empty}

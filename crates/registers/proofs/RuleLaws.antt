@@ -1,10 +1,10 @@
 -- The tests of the scan say when a rule is broken at a group.
-use Prim.Native.Nat.{ℕ, zero, suc, _*_, _/_, _%_, _≤_, _<_}
+use Prim.Native.Nat.{ℕ, zero, suc, _*_, _≤_, _<_}
 use mathlib.Core.Path.{_≡_, refl, sym, _∙_}
 use mathlib.Core.Bool.{Bool, true, false, not, _&&_, false≢true}
 use mathlib.Core.List.{List}
 use native.Mathlib.Omega.{arith}
-use borrow.Author.Tests.{lt-ltb, le-ltb, ne-eqb, eqb-true, ltb-true, ltb-false, not-true}
+use borrow.Author.Tests.{lt-ltb, le-ltb, ne-eqb, ltb-true, ltb-false, not-true}
 use lib.Dec.{ltb, eqb}
 use Rattle.wire.specs.Limits.{noEnd, rowLimit}
 use Rattle.rows.specs.RowsRead.{wordBits}
@@ -137,7 +137,7 @@ rule-numbered (suc (suc (suc (suc (suc (suc zero)))))) a b = (above, refl)
 rule-numbered (suc (suc (suc (suc (suc (suc (suc k))))))) a b = absurd (omega arith)
 
 -- the tests of a table of groups
-module _ {t : List ℕ} {n : ℕ} (k : Tabled t n) (several : Bool) (g : ℕ) (a : 1 ≤ g) (b : g ≤ n) where
+module _ {t : List ℕ} {n : ℕ} (k : Tabled t n) (g : ℕ) (a : 1 ≤ g) (b : g ≤ n) where
   group : Group (sheetIn t n) g
   group = group-in t n a b
 
@@ -148,24 +148,25 @@ module _ {t : List ℕ} {n : ℕ} (k : Tabled t n) (several : Bool) (g : ℕ) (a
       (λ o. rw (same-in t n (parentIn t g) (group-in t n o (omega (arith, parent-below k g (parentIn t g) b refl a)))))
       (λ o. rw (le-ltb 0 (parentIn t g) (omega arith)))
 
-  pub may-is : (q : Rule) → ruleNumber q < 5 → mayBreak t several g (ruleNumber q) ≡ may (sheetIn t n) several g q
-  unfolding mayBreak
-  may-is outside l = rw (parent-in t n g group)
-  may-is lacking l = rw (parent-in t n g group) same-parent
-  may-is uncovered l = rw (cover-in t n g group)
-  may-is shared l = rw (disjoint-in t n g group)
-  may-is below l = absurd (omega arith)
-  may-is above l = absurd (omega arith)
+  module _ (several : Bool) where
+    pub may-is : (q : Rule) → ruleNumber q < 5 → mayBreak t several g (ruleNumber q) ≡ may (sheetIn t n) several g q
+    unfolding mayBreak
+    may-is outside l = rw (parent-in t n g group)
+    may-is lacking l = rw (parent-in t n g group) same-parent
+    may-is uncovered l = rw (cover-in t n g group)
+    may-is shared l = rw (disjoint-in t n g group)
+    may-is below l = absurd (omega arith)
+    may-is above l = absurd (omega arith)
 
-  -- where rule 3 or rule 4 can be broken, the sons are asked for
-  pub may-asked : (q : Rule) → 3 ≤ ruleNumber q → may (sheetIn t n) several g q ≡ true → asksSons (modeIn t g) several ≡ true
-  may-asked outside l m = absurd (omega arith)
-  may-asked lacking l m = absurd (omega arith)
-  may-asked uncovered l m = or-left (coverMode (modeIn t g)) _ (sym (cover-in t n g group) ∙ m)
-  may-asked shared l m =
-      or-right (coverMode (modeIn t g)) (disjointMode (modeIn t g) && several) (rw (← disjoint-in t n g group) m)
-  may-asked below l m = absurd (false≢true m)
-  may-asked above l m = absurd (false≢true m)
+    -- where rule 3 or rule 4 can be broken, the sons are asked for
+    pub may-asked : (q : Rule) → 3 ≤ ruleNumber q → may (sheetIn t n) several g q ≡ true → asksSons (modeIn t g) several ≡ true
+    may-asked outside l m = absurd (omega arith)
+    may-asked lacking l m = absurd (omega arith)
+    may-asked uncovered l m = or-left (coverMode (modeIn t g)) _ (sym (cover-in t n g group) ∙ m)
+    may-asked shared l m =
+        or-right (coverMode (modeIn t g)) (disjointMode (modeIn t g) && several) (rw (← disjoint-in t n g group) m)
+    may-asked below l m = absurd (false≢true m)
+    may-asked above l m = absurd (false≢true m)
 
   -- a count that breaks a rule, and a rule that a count breaks
   over : (c h : ℕ) → (not (eqb h noEnd) && ltb h c) ≡ true → AtMost c (endOf noEnd h) → ⊥

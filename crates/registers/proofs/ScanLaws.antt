@@ -92,7 +92,7 @@ module _ {t : List ℕ} {n : ℕ} {c : List ℕ} {rows : ℕ} {starts order coun
     group = group-in t n a b
 
     joined : (q : Rule) → 3 ≤ ruleNumber q → may (sheetIn t n) (severalSons starts g) g q ≡ true → Joined (sonList (sheetIn t n) g) c words some two
-    joined q l m = rw (← G .sons .listed g group) (sons .joined (may-asked (T .tabled) _ g a b q l m))
+    joined q l m = rw (← G .sons .listed g group) (sons .joined (may-asked (T .tabled) g a b _ q l m))
 
     -- no row breaks the rule
     pub rules-row : k < 5 → (to : ℕ) → wordBits * words ≤ to → ClearRows k c some two g (parentIn t g) to
@@ -109,14 +109,14 @@ module _ {t : List ℕ} {n : ℕ} {c : List ℕ} {rows : ℕ} {starts order coun
         rules-more (sheetIn t n) (columnSets c rows) g k r
         (λ q e v.
         let x = row-of (sheetIn t n) (T .tabled .tree) c rows words some two g f (G .others) group (severalSons starts g) (two-sons (G .sons) group) joined q (omega arith) v .0 in
-        true-not-false _ x (sym (may-is (T .tabled) (severalSons starts g) g a b q (omega arith)) ∙ (rw e d)))
+        true-not-false _ x (sym (may-is (T .tabled) g a b (severalSons starts g) q (omega arith)) ∙ (rw e d)))
 
     -- the count does not break the rule
     pub rules-count : 5 ≤ k → countBreaks t (getD counts g 0) g k ≡ false
         → ClearRules (sheetIn t n) (columnSets c rows) g (k + 1)
     rules-count l d =
         rules-more (sheetIn t n) (columnSets c rows) g k r
-        (λ q e v. count-of (T .tabled) (severalSons starts g) g a b (columnSets c rows) q (getD counts g 0) (omega arith) (G .counts .each g group) (rw e d) v)
+        (λ q e v. count-of (T .tabled) g a b (columnSets c rows) q (getD counts g 0) (omega arith) (G .counts .each g group) (rw e d) v)
 
     module _ (d : ClearGroups (sheetIn t n) (columnSets c rows) g) (o : 1 ≤ k) (p : GroupNo) (e : p .0 ≡ g) where
       -- the rule is broken
@@ -144,7 +144,7 @@ module _ {t : List ℕ} {n : ℕ} {c : List ℕ} {rows : ℕ} {starts order coun
           scan-broken (q .0) (q .1)
           (by-row (sheetIn t n) (T .tabled .tree) c rows words some two g f (G .others) group (severalSons starts g) (two-sons (G .sons) group) joined
           (q .0) (i .0) (omega arith) (omega arith)
-          (sym (may-is (T .tabled) (severalSons starts g) g a b (q .0) (omega arith)) ∙ (rw (← q .1) y))
+          (sym (may-is (T .tabled) g a b (severalSons starts g) (q .0) (omega arith)) ∙ (rw (← q .1) y))
           (rw (← q .1, parent-in t n g group) (i .3)))
 
       -- the count breaks it
@@ -153,4 +153,4 @@ module _ {t : List ℕ} {n : ℕ} {c : List ℕ} {rows : ℕ} {starts order coun
       scan-count l m x =
           let q = rule-numbered k o m in
           scan-broken (q .0) (q .1)
-          (by-count (T .tabled) (severalSons starts g) g a b (columnSets c rows) (q .0) (getD counts g 0) (omega arith) (G .counts .each g group) (rw (← q .1) x))
+          (by-count (T .tabled) g a b (columnSets c rows) (q .0) (getD counts g 0) (omega arith) (G .counts .each g group) (rw (← q .1) x))

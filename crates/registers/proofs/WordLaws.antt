@@ -5,16 +5,16 @@ use mathlib.Core.Bool.{Bool, true, false, not, _&&_}
 use mathlib.Core.List.{List}
 use native.Mathlib.Omega.{arith}
 use native.Mathlib.Nat.{div-one}
-use borrow.Author.Tests.{eq-eqb, ne-eqb, eqb-true, eqb-false, not-true, not-false}
+use borrow.Author.Tests.{eqb-true, eqb-false, not-true, not-false}
 use lib.ListN.{getD}
 use lib.Dec.{eqb}
 use lib.Bits.{bitAnd, bitOr, and-le-l, and-le-r, or-zero-l, or-add-and}
 use Rattle.laws.specs.Sum.{bit}
 use Rattle.laws.specs.Cases.{split, compare-le, compare-eq}
-use Rattle.laws.specs.SumLaws.{bit-true, false-bit}
-use Rattle.laws.specs.Digits.{digit, digit-of-zero, digit-some, digit-less}
+use Rattle.laws.specs.SumLaws.{bit-true}
+use Rattle.laws.specs.Digits.{digit-of-zero, digit-some, digit-less}
 use Rattle.rows.specs.RowsRead.{wordBits}
-use Rattle.registers.specs.Columns.{columnWord, columnDigit, inColumn}
+use Rattle.registers.specs.Columns.{columnWord, inColumn}
 use Rattle.registers.specs.RuleTests.{RowsPassing, SomeRow}
 use Rattle.registers.proofs.ColumnLaws.{digit-at, bit-column}
 

@@ -47,7 +47,7 @@ columnSets t n = numbered n (inColumn t)
 pub columns-distinct : (t : List ℕ) (n : ℕ) → Distinct (columnSets t n)
 columns-distinct t n = record { once = λ i j k l e. e }
 
--- so many words have a digit for each of n rows
+-- so many words have a digit for each of n rows, and a column has as many
 pub record WordsFor (n words : ℕ) : Type 0 where
   pub enough : n ≤ wordBits * words
   pub most : words ≤ columnWords

@@ -36,6 +36,6 @@ pub record Joined (l t : List ℕ) (words : ℕ) (some two : List ℕ) : Type 0 
 abbrev pub asksSons : ℕ → Bool → Bool
 asksSons mode several = coverMode mode || disjointMode mode && several
 
--- the same where the sons are asked for
+-- the columns of a group's sons are joined where they are asked for
 pub record JoinedFor (mode : ℕ) (several : Bool) (l t : List ℕ) (words : ℕ) (some two : List ℕ) : Type 0 where
   pub joined : asksSons mode several ≡ true → Joined l t words some two

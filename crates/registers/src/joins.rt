@@ -2,8 +2,7 @@
 use crate::columns::column_word;
 use crate::sons::start_at;
 use reading::tables::GroupNo;
-ghost use mathlib.Core.Path.{_≡_};
-ghost use Prim.Native.Nat.{_*_, _≤_, _<_};
+ghost use Prim.Native.Nat.{_≤_};
 ghost use lib.ListN.{length};
 ghost use Rattle.rows.specs.RowsRead.{rowGroups};
 ghost use Rattle.registers.specs.Columns.{columnWords, columnsLength};

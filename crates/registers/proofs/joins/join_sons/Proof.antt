@@ -33,7 +33,7 @@ group c =
     let u = c .before .before in
     u .before .before .before .before .before .before .before .before .before .before .before .before .before .before .before .pre .0 .groups _
     (rw (u .before .start-at .ensures, u .start-at2 .ensures, add-one) at
-    (left-listed _ _ _ (c .before .loop .inv .1 .1) (c .loop-test .taken) (within u))) .1
+    (left-listed _ _ _ (c .before .loop .inv .1 .1) (c .loop-test .taken) (within u)))
 
 clear-requires : tie.Need-clear-requires Inv-loop μ-loop
 clear-requires c κs = search needs
