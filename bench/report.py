@@ -39,31 +39,33 @@ def longest(sheet, label):
 def register(shape):
     """A register of 2,048 rows and two sheets of 128 groups: one that it fits, one that it breaks at group 128 alone.
 
-    A row goes from a leaf up to the root, the leaves in turn; under 'same' it is in all sons, else in one, so that
-    'cover' and 'disjoint' hold too. On a chain it is in all groups. Modes and bounds are on most groups."""
+    A row goes from a group up to the root, and down again where that has to be: under 'same' into all sons, under 'cover'
+    into one, and without 'disjoint' often into a second. Modes and bounds are on most groups."""
+    rng = random.Random(shape)
     groups = range(1, 129)
     parent = {g: {'star': 1, 'bushy': (g + 2) // 4, 'caterpillar': g - 1 if g % 2 == 0 else g - 2,
                   'chain': g - 1}[shape] for g in groups}
     parent[1] = 0
     sons = {g: [s for s in groups if parent[s] == g] for g in groups}
-    leaves = [g for g in groups if not sons[g]]
     mode = {}
     for g in groups:
         if not sons[g]:
             mode[g] = 0 if g % 8 == 0 else DISJOINT
         elif len(sons[g]) == 1:
-            mode[g] = [3, 7, 3, 7, 3, 1, 7, 2][g % 8]
+            mode[g] = [1, 3, 1, 7, 2, 1, 4, 3][g % 8]
         else:
-            mode[g] = {5: COVER, 7: COVER + SAME, 13: DISJOINT, 15: COVER + SAME}.get(g % 16, 3)
+            mode[g] = {3: DISJOINT, 5: COVER, 7: COVER + SAME, 9: DISJOINT, 13: 0, 15: COVER}.get(g % 16, 3)
     rows, size = b'', dict.fromkeys(groups, 0)
     for member in range(1, 2049):
-        held = set(way_up([parent[g] for g in groups], leaves[member % len(leaves)]))
+        held = set(way_up([parent[g] for g in groups], member if member <= 128 else rng.randint(1, 128)))
         for g in groups:
             if g in held and sons[g]:
                 if mode[g] & SAME:
                     held.update(sons[g])
-                elif not held & set(sons[g]):
-                    held.add(sons[g][member % len(sons[g])])
+                elif mode[g] & COVER and not held & set(sons[g]):
+                    held.add(rng.choice(sons[g]))
+                if not mode[g] & DISJOINT and rng.random() < 0.5:
+                    held.add(rng.choice(sons[g]))
         for g in held:
             size[g] += 1
         rows += struct.pack('<HHI', 22, 32, member) + sum(1 << g - 1 for g in held).to_bytes(16, 'little')
@@ -176,8 +178,8 @@ def main():
         goal = 'none' if parts[-1] == 'columns' else 'at most ' + goal
         print('| %s | %s | %s | %.2f | %s |' % (label, show(a), show(b), a / b, goal))
     print('\n`walk` takes all rules in one walk over the rows; `columns` makes a column of bits for each group and takes '
-          'the rules by columns. The registers: %s; modes and bounds on most groups, no row and no group empty, on the '
-          'chain every row in all groups. Reading is a call with an empty register.\n' % ', '.join(REGISTERS))
+          'the rules by columns. The registers: %s; modes and bounds on most groups, no row and no group empty. '
+          'Reading is a call with an empty register.\n' % ', '.join(REGISTERS))
 
     print('## Growth\n')
     print('| operation | tree | %s |\n|---|---|%s' % (' | '.join('%d groups' % n for n in SIZES), '---|' * len(SIZES)))
