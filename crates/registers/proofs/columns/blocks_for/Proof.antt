@@ -10,11 +10,8 @@ add-result c = search needs
 sub-result : tie.Need-sub-result
 sub-result c = search needs
 
-div-result : tie.Need-div-result
-div-result c = search needs
-
 returns : tie.Need-returns
 returns c = record { enough = omega arith; most = omega arith }
 
 pub blocks-for-spec : {M : Type 1} → statement M
-blocks-for-spec = tie.close (tie.spec add-result sub-result div-result returns)
+blocks-for-spec = tie.close (tie.spec add-result sub-result returns)
