@@ -46,16 +46,16 @@ rows-lack c d g p w {a} {b} x y z =
     both false false u v = omega arith
 
 -- of the rows before `to`, and not before `from`, some passes a test exactly where a number is not 0
-pub record Seen (f : ℕ → Bool) (from to all : ℕ) : Type 0 where
+pub record RowsSeen (f : ℕ → Bool) (from to all : ℕ) : Type 0 where
   pub some : (all ≡ 0 → ⊥) → (i : ℕ) × (from ≤ i) × (i < to) × (f i ≡ true)
   pub none : all ≡ 0 → (i : ℕ) → from ≤ i → i < to → f i ≡ false
 
-pub seen-none : (f : ℕ → Bool) (from : ℕ) → Seen f from from 0
-seen-none f from = record { some = λ e. absurd (omega arith); none = λ e i a b. absurd (omega arith) }
+pub rows-seen-none : (f : ℕ → Bool) (from : ℕ) → RowsSeen f from from 0
+rows-seen-none f from = record { some = λ e. absurd (omega arith); none = λ e i a b. absurd (omega arith) }
 
-pub seen-more : {f : ℕ → Bool} {from w all word : ℕ} → Seen f from (wordBits * w) all → from ≤ wordBits * w → RowsPassing f w word
-    → word < 2 ^ 64 → Seen f from (wordBits * (w + 1)) (bitOr all word)
-seen-more {f} {from} {w} {all} {word} s o p l =
+pub rows-seen-more : {f : ℕ → Bool} {from w all word : ℕ} → RowsSeen f from (wordBits * w) all → from ≤ wordBits * w → RowsPassing f w word
+    → word < 2 ^ 64 → RowsSeen f from (wordBits * (w + 1)) (bitOr all word)
+rows-seen-more {f} {from} {w} {all} {word} s o p l =
     record {
       some = λ e.
           compare-eq all 0
@@ -74,8 +74,8 @@ seen-more {f} {from} {w} {all} {word} s o p l =
     positive : all ≡ 0 → (bitOr all word ≡ 0 → ⊥) → 0 < word
     positive z e = let x : word ≡ 0 → ⊥ = λ y. e (rw (z, y) (or-zero-l 0)) in omega arith
 
-pub seen-all : {f : ℕ → Bool} {from to all : ℕ} → Seen f from to all → SomeRow f from to (not (eqb all 0))
-seen-all {f} {from} {to} {all} s =
+pub rows-seen-all : {f : ℕ → Bool} {from to all : ℕ} → RowsSeen f from to all → SomeRow f from to (not (eqb all 0))
+rows-seen-all {f} {from} {to} {all} s =
     record {
       some = λ x. s .some (eqb-false all 0 (not-true _ x));
       none = λ x. s .none (eqb-true all 0 (not-false _ x));
