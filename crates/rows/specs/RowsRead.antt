@@ -45,6 +45,7 @@ frameTests b = take 1 (rowTests edition1 0 [] b)
 abbrev pub rowHead : ℕ
 rowHead = 8
 
+-- what stands at a place of a register's bytes
 unfoldable pub frontAt : List ℕ → ℕ → Front
 frontAt b at =
     cond (eqb (length (drop at b)) 0) ended
