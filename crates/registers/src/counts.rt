@@ -26,7 +26,7 @@ fn put_count(counts: &mut [u32], g: GroupNo, n: u32)
     counts[i] = n;
 }
 
-// the ones of the first words of a group's column, added up in 64 bits: so the compiler takes two words at once
+// the ones of the first words of a group's column, added up in 64 bits, which is a little quicker than in 32
 fn count_column(columns: &[u64], g: GroupNo, words: usize) -> u32
     requires { ⌜ (g .0 ≤ rowGroups) × ((words ≤ columnWords) × (columnsLength ≤ length (now columns))) ⌝ }
     ensures { λ r. ⌜ r ≡ sum (columnDigit (now (columns .entry)) (g .0)) (wordBits * words) ⌝ }
