@@ -613,19 +613,26 @@ pub fn claim(sheet: &[u8], claim: u32, reply: &mut [u8]) -> u64 {
 }
 
 const ROW: usize = 24;
-const WORDS: usize = MAX_ROWS.div_ceil(64); // of a column: 64 rows each
+const WORDS: usize = MAX_ROWS.div_ceil(64); // of a column: 64 members each
 
 fn get64(row: &[u8; ROW], at: usize) -> u64 {
     u64::from_le_bytes(row[at..at + 8].try_into().unwrap())
 }
 
-// Reads the rows in order and gives each, with its groups from 1 to 64 and from 65, to 'take'; how many there are.
+fn member_of(row: &[u8; ROW]) -> u32 {
+    u32::from_le_bytes(row[4..8].try_into().unwrap())
+}
+
+// Reads the rows in order and gives each member, with its groups from 1 to 64 and from 65 of all its rows, to 'take'; how
+// many members there are. A row is its member's last where the next one has another.
 #[inline(always)]
-fn each_row(reg: &[u8], groups: usize, mut take: impl FnMut(usize, u64, u64)) -> Result<usize, Refusal> {
+fn each_member(reg: &[u8], groups: usize, mut take: impl FnMut(usize, u64, u64)) -> Result<usize, Refusal> {
     let (rows, cut) = reg.as_chunks::<ROW>();
     let too_high = u128::MAX.checked_shl(groups as u32).unwrap_or(0);
     let (too_high_low, too_high_high) = (too_high as u64, (too_high >> 64) as u64);
     let mut last = 0u32;
+    let mut members = 0;
+    let (mut low, mut high) = (0, 0); // groups of the member so far
     for (r, row) in rows.iter().enumerate() {
         let no = r as u32 + 1;
         if r == MAX_ROWS {
@@ -636,20 +643,24 @@ fn each_row(reg: &[u8], groups: usize, mut take: impl FnMut(usize, u64, u64)) ->
             return Err((11, no));
         }
         let member = (start >> 32) as u32;
-        if member <= last {
+        if member == 0 || member < last {
             return Err((12, no));
         }
-        let (low, high) = (get64(row, 8), get64(row, 16));
-        if low & too_high_low | high & too_high_high != 0 {
+        let here = (get64(row, 8), get64(row, 16));
+        if here.0 & too_high_low | here.1 & too_high_high != 0 {
             return Err((13, no));
         }
+        (low, high) = if member == last { (low | here.0, high | here.1) } else { here };
         last = member;
-        take(r, low, high);
+        if rows.get(r + 1).is_none_or(|next| member_of(next) != member) {
+            take(members, low, high);
+            members += 1;
+        }
     }
     if !cut.is_empty() {
         return Err((if rows.len() < MAX_ROWS { 11 } else { 10 }, rows.len() as u32 + 1));
     }
-    Ok(rows.len())
+    Ok(members)
 }
 
 // The bits of the groups that 'of' is true of, as two words.
@@ -661,8 +672,8 @@ fn bits_of(t: &Tables, of: impl Fn(usize) -> bool) -> [u64; 2] {
     out
 }
 
-// One walk over the rows, which are read on the way: each broken rule 1, 3 or 4 leaves a bit in that rule's words. Where
-// a group is part of its parent, the parent has a member that the group lacks when their counts differ.
+// One walk over the members, whose rows are read on the way: each broken rule 1, 3 or 4 leaves a bit in that rule's
+// words. Where a group is part of its parent, the parent has a member that the group lacks when their counts differ.
 fn walk(t: &Tables, reg: &[u8]) -> Result<(u16, u16), Refusal> {
     // The bit of the parent, for groups from 1 to 64 and from 65; 0 for the root.
     let mut above = [0u64; 64];
@@ -679,8 +690,8 @@ fn walk(t: &Tables, reg: &[u8]) -> Result<(u16, u16), Refusal> {
     let cover = bits_of(t, |g| t.mode[g] & COVER != 0);
     let mut counts = [[0u32; 64]; 2];
     let (mut outside, mut bare, mut shared) = ([0u64; 2], [0u64; 2], [0u64; 2]);
-    each_row(reg, t.groups, |_, low, high| {
-        let row = [low, high];
+    each_member(reg, t.groups, |_, low, high| {
+        let held = [low, high];
         let (mut seen, mut twice) = ([0u64; 2], [0u64; 2]);
         let mut b = low;
         while b != 0 {
@@ -703,7 +714,7 @@ fn walk(t: &Tables, reg: &[u8]) -> Result<(u16, u16), Refusal> {
         if seen[0] & !low | seen[1] & !high != 0 {
             let lacks = |g: usize| {
                 let p = t.parent[g] as usize;
-                p > 0 && row[(g - 1) / 64] >> ((g - 1) % 64) & 1 == 1 && row[(p - 1) / 64] >> ((p - 1) % 64) & 1 == 0
+                p > 0 && held[(g - 1) / 64] >> ((g - 1) % 64) & 1 == 1 && held[(p - 1) / 64] >> ((p - 1) % 64) & 1 == 0
             };
             let found = bits_of(t, lacks);
             for k in 0..2 {
@@ -711,7 +722,7 @@ fn walk(t: &Tables, reg: &[u8]) -> Result<(u16, u16), Refusal> {
             }
         }
         for k in 0..2 {
-            bare[k] |= row[k] & cover[k] & !seen[k];
+            bare[k] |= held[k] & cover[k] & !seen[k];
             shared[k] |= twice[k] & disjoint[k];
         }
     })?;
@@ -748,11 +759,11 @@ fn count_rule(t: &Tables, g: usize, count: u32) -> u16 {
     }
 }
 
-// A column of bits for each group, a bit for each row; then the rules by whole columns.
+// A column of bits for each group, a bit for each member; then the rules by whole columns.
 fn columns(t: &Tables, reg: &[u8]) -> Result<(u16, u16), Refusal> {
     let mut of = [[0u64; WORDS]; MAX_G];
-    let rows = each_row(reg, t.groups, |r, low, high| {
-        let (word, bit) = (r / 64, 1 << (r % 64));
+    let members = each_member(reg, t.groups, |k, low, high| {
+        let (word, bit) = (k / 64, 1 << (k % 64));
         let mut b = low;
         while b != 0 {
             of[b.trailing_zeros() as usize][word] |= bit;
@@ -764,7 +775,7 @@ fn columns(t: &Tables, reg: &[u8]) -> Result<(u16, u16), Refusal> {
             b &= b - 1;
         }
     })?;
-    let words = rows.div_ceil(64);
+    let words = members.div_ceil(64);
     let column = |g: usize| &of[g - 1][..words];
     // Whether some member of a is not in b.
     let beyond = |a: &[u64], b: &[u64]| a.iter().zip(b).fold(0, |all, (a, b)| all | a & !b) != 0;

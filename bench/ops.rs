@@ -136,8 +136,9 @@ fn main() {
     }
 
     // Registers: a sheet that the rows fit, and one that they break at its last group alone.
-    for shape in ["star", "bushy", "caterpillar", "chain"] {
-        let reg = fs::read(format!("{folder}/register-{shape}.rows")).expect(shape);
+    let trees = ["star", "bushy", "caterpillar", "chain"];
+    for shape in ["", "-two-rows"].iter().flat_map(|rows| trees.map(|tree| format!("{tree}{rows}"))) {
+        let reg = fs::read(format!("{folder}/register-{shape}.rows")).expect(&shape);
         for (which, what, last) in [("fits", "fits", 0), ("broken", "broken at the last group", 128)] {
             let s = sheet(&format!("register-{shape}-{which}"));
             for (how, rust) in [

@@ -17,6 +17,7 @@ from sheets import (COVER, DISJOINT, NO_END, SAME, Library, largest, largest_pla
 folder, ops, stack, driver, flags = sys.argv[1:]
 SHAPES, SIZES = ['chain', 'star', 'bushy'], [16, 32, 64, 128]
 REGISTERS = ['star', 'bushy', 'caterpillar', 'chain']
+ROWS_EACH = {'': 1, '-two-rows': 2}  # of a member, by what follows the name of a register
 LABELS = {'first': b'%03dSIXTEEN-BYTES', 'last': b'SIXTEEN-BYTES%03d'}  # of a largest sheet, by the bytes that differ
 RUNS = 3
 OPERATIONS = {'ranges': 'all ranges', 'claims': '64 claims of kinds 4 to 6', 'places': '64 claims of kind 7',
@@ -36,12 +37,13 @@ def longest(sheet, label):
     return out
 
 
-def register(shape):
+def register(shape, rows_each):
     """A register of 2,048 rows and two sheets of 128 groups: one that it fits, one that it breaks at group 128 alone.
 
-    A row goes from a group up to the root, and down again where that has to be: under 'same' into all sons, under 'cover'
-    into one, and without 'disjoint' often into a second. Modes and bounds are on most groups."""
-    rng = random.Random(shape)
+    A member goes from a group up to the root, and down again where that has to be: under 'same' into all sons, under 'cover'
+    into one, and without 'disjoint' often into a second. Modes and bounds are on most groups. A member has one row, or two:
+    then the root is in both, and any other of its groups in the first, in the second or in both."""
+    rng, parts = random.Random(shape), random.Random('parts')
     groups = range(1, 129)
     parent = {g: {'star': 1, 'bushy': (g + 2) // 4, 'caterpillar': g - 1 if g % 2 == 0 else g - 2,
                   'chain': g - 1}[shape] for g in groups}
@@ -56,7 +58,7 @@ def register(shape):
         else:
             mode[g] = {3: DISJOINT, 5: COVER, 7: COVER + SAME, 9: DISJOINT, 13: 0, 15: COVER}.get(g % 16, 3)
     rows, size = b'', dict.fromkeys(groups, 0)
-    for member in range(1, 2049):
+    for member in range(1, 2048 // rows_each + 1):
         held = set(way_up([parent[g] for g in groups], member if member <= 128 else rng.randint(1, 128)))
         for g in groups:
             if g in held and sons[g]:
@@ -68,7 +70,11 @@ def register(shape):
                     held.add(rng.choice(sons[g]))
         for g in held:
             size[g] += 1
-        rows += struct.pack('<HHI', 22, 32, member) + sum(1 << g - 1 for g in held).to_bytes(16, 'little')
+        on = {g: 3 if g == 1 or rows_each == 1 else parts.randint(1, 3) for g in sorted(held)}
+        for row in range(rows_each):
+            bits = sum(1 << g - 1 for g in held if on[g] >> row & 1)
+            rows += struct.pack('<HHI', 22, 32, member) + bits.to_bytes(16, 'little')
+    assert len(rows) == 2048 * 24
     assert min(size.values()) > 0
     sheets = []
     for last in [size[128], size[128] + 1]:
@@ -149,10 +155,10 @@ def main():
     for where, label in LABELS.items():
         with open('%s/largest-%s.sheet' % (folder, where), 'wb') as f:
             f.write(longest(sheets['bushy', 128], label))
-    for shape in REGISTERS:
-        rows, (fits, broken) = register(shape)
+    for shape, after in [(shape, after) for shape in REGISTERS for after in ROWS_EACH]:
+        rows, (fits, broken) = register(shape, ROWS_EACH[after])
         for name, content in [('.rows', rows), ('-fits.sheet', fits), ('-broken.sheet', broken)]:
-            with open('%s/register-%s%s' % (folder, shape, name), 'wb') as f:
+            with open('%s/register-%s%s' % (folder, shape + after, name), 'wb') as f:
                 f.write(content)
     library = Library(driver)
 
@@ -175,11 +181,12 @@ def main():
             continue
         label = ', '.join([OPERATIONS[parts[0]], ' '.join(parts[1:])]) if parts[0] in OPERATIONS else what
         goal = {'reading': '1.2', 'ranges': '1.5', 'register': '1.1'}.get(parts[0], '2')
-        goal = 'none' if parts[-1] == 'columns' else 'at most ' + goal
+        goal = 'none' if parts[-1] == 'columns' or 'two-rows' in label else 'at most ' + goal
         print('| %s | %s | %s | %.2f | %s |' % (label, show(a), show(b), a / b, goal))
     print('\n`walk` takes all rules in one walk over the rows; `columns` makes a column of bits for each group and takes '
           'the rules by columns. The registers: %s; modes and bounds on most groups, no row and no group empty. '
-          'Reading is a call with an empty register.\n' % ', '.join(REGISTERS))
+          '`two-rows`: 1,024 members, each on two rows, the root in both, any other group in one or both; else a member '
+          'has one row. Reading is a call with an empty register.\n' % ', '.join(REGISTERS))
 
     print('## Growth\n')
     print('| operation | tree | %s |\n|---|---|%s' % (' | '.join('%d groups' % n for n in SIZES), '---|' * len(SIZES)))

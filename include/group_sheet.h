@@ -84,7 +84,7 @@ enum sheet_refusal {
     SHEET_NO_SUCH_CLAIM = 9,     /* the claim number is 0 or above Q [0]; claim only */
     SHEET_TOO_MANY_ROWS = 10,    /* bytes follow the 2,048th row [2049]; 10 to 13 register only */
     SHEET_BAD_ROW = 11,          /* a row is cut, or its kind or length is wrong [the row] */
-    SHEET_MEMBER_ORDER = 12,     /* a member is 0 or not above the row before [the row] */
+    SHEET_MEMBER_ORDER = 12,     /* a member is 0 or below the row before [the row] */
     SHEET_BIT_ABOVE = 13,        /* a bit above G is set [the row] */
     SHEET_REPLY_SHORT = 14       /* the reply buffer is shorter than this reply [0] */
 };
@@ -167,6 +167,9 @@ uint64_t sheet_claim(const uint8_t *sheet, size_t sheet_len, uint32_t claim,
                      uint8_t *reply, size_t reply_len);
 
 /* Whether the sets that a register lists fit the sheet.
+   The members of its rows, 1 upward, rise or stay the same from row to row. Equal members in
+   neighbouring rows are one member, in the groups of either row; SHEET_MAX_ROWS and the row number
+   of a refusal count rows.
    Refusals 1 to 7 and 10 to 14; a sheet that no sets fit is not refused here. Reply: one record of
    kind 20 (8 bytes): at 4 the lowest group with a broken rule, at 6 its first broken rule
    (enum sheet_rule); 0 and 0 when all fits. */

@@ -255,10 +255,15 @@ int main(void)
         row(&reg, m, m <= 3 ? 1 + 2 + 8 : m <= 4 ? 1 + 2 : 1 + 4);
     show_register("register", &sheet, &reg, reply, sizeof reply);
     show_register("register, buffer of 7", &sheet, &reg, reply, SHEET_REGISTER_REPLY - 1);
-    row(&reg, 11, 1 + 2 + 4);
-    show_register("register with somebody in both", &sheet, &reg, reply, sizeof reply);
+    /* Recipient 11 on two rows: rehabilitation knows NEW, surgery LEFT, of which NEW is a part. */
+    row(&reg, 11, 8);
+    show_register("register with rehabilitation's row of 11", &sheet, &reg, reply, sizeof reply);
     row(&reg, 11, 1 + 2);
-    show_register("register with member 11 again", &sheet, &reg, reply, sizeof reply);
+    show_register("register with surgery's row of 11 too", &sheet, &reg, reply, sizeof reply);
+    row(&reg, 11, 1 + 4);
+    show_register("register with 11 on a third row, in RIGHT", &sheet, &reg, reply, sizeof reply);
+    row(&reg, 10, 1 + 4);
+    show_register("register with 10 after 11", &sheet, &reg, reply, sizeof reply);
     reg.len = 0;
     show_register("empty register", &sheet, &reg, reply, sizeof reply);
 

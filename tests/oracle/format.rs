@@ -1,5 +1,7 @@
 // Sheets and registers as document 01 writes them, read in the plainest way.
 
+use std::collections::BTreeMap;
+
 #[derive(Clone, Debug)]
 pub struct Group {
     pub parent: Option<usize>, // index, from 0
@@ -257,7 +259,7 @@ pub fn read_sheet(bytes: &[u8]) -> Result<Sheet, Refusal> {
     Ok(Sheet { groups, sons, names, claims })
 }
 
-// The rows of a register: member and membership.
+// The rows of a register as they stand: member and membership.
 pub fn read_register(bytes: &[u8], groups: usize) -> Result<Vec<(u32, u128)>, Refusal> {
     let mut rows: Vec<(u32, u128)> = Vec::new();
     let mut rest = bytes;
@@ -271,7 +273,7 @@ pub fn read_register(bytes: &[u8], groups: usize) -> Result<Vec<(u32, u128)>, Re
         }
         let member = dword(rest, 4);
         let before = rows.last().map_or(0, |r| r.0);
-        if member == 0 || member <= before {
+        if member == 0 || member < before {
             return Err((12, no));
         }
         let mut bits = 0u128;
@@ -287,6 +289,15 @@ pub fn read_register(bytes: &[u8], groups: usize) -> Result<Vec<(u32, u128)>, Re
         rest = &rest[24..];
     }
     Ok(rows)
+}
+
+// The members that rows name, each with weight 1: one is in a group where any of its rows is (document 02, card 2).
+pub fn members(rows: &[(u32, u128)]) -> Vec<(u128, u64)> {
+    let mut groups_of = BTreeMap::new();
+    for &(member, groups) in rows {
+        *groups_of.entry(member).or_insert(0) |= groups;
+    }
+    groups_of.into_values().map(|groups| (groups, 1)).collect()
 }
 
 // Lowest broken group, from 1, and its first broken rule; 0 and 0 where all fits. Members come

@@ -549,48 +549,97 @@ pub fn damage(rng: &mut Rng, d: &Draft) -> Vec<u8> {
     bytes
 }
 
+// A row: whether it goes on with the member of the row before, and its groups.
+type Row = (bool, u128);
+
+// One member on so many rows: its groups on the first or the last of them, on all, in turns, the higher ones on the last
+// alone (so that the others break no rule 1), or each on any row and at times on more.
+fn spread(rng: &mut Rng, set: u128, rows: usize) -> Vec<Row> {
+    let mut parts = vec![0u128; rows];
+    let way = rng.below(9);
+    let more = rng.pick(&[0, 20, 60]);
+    let high = rng.index(129 - set.leading_zeros() as usize);
+    for g in (0..128).filter(|g| set >> g & 1 == 1) {
+        let bit = 1 << g;
+        match way {
+            0 => parts[0] |= bit,
+            1 => parts[rows - 1] |= bit,
+            2 => parts.iter_mut().for_each(|p| *p |= bit),
+            3 => parts[g % rows] |= bit,
+            4 | 5 if g >= high => parts[rows - 1] |= bit,
+            4 | 5 => parts.iter_mut().for_each(|p| *p |= bit),
+            _ => {
+                parts[rng.index(rows)] |= bit;
+                while rng.chance(more) {
+                    parts[rng.index(rows)] |= bit;
+                }
+            }
+        }
+    }
+    parts.iter().enumerate().map(|(r, &part)| (r > 0, part)).collect()
+}
+
+// Members' sets as rows: a row for each; or several rows for some members, with its groups spread over them; or some sets
+// joined with the one before, as rows of one member.
+fn as_rows(rng: &mut Rng, sets: &[u128]) -> Vec<Row> {
+    let often = rng.pick(&[10, 50, 100]);
+    match rng.below(4) {
+        0 | 1 => sets.iter().map(|&set| (false, set)).collect(),
+        2 => {
+            let mut rows = Vec::new();
+            for &set in sets {
+                let many = if rng.chance(often) { rng.pick(&[2, 2, 2, 3, 3, 9]) } else { 1 };
+                rows.extend(spread(rng, set, many));
+            }
+            rows
+        }
+        _ => sets.iter().enumerate().map(|(r, &set)| (r > 0 && rng.chance(often), set)).collect(),
+    }
+}
+
 pub fn register(rng: &mut Rng, d: &Draft) -> Vec<u8> {
     let n = d.groups;
     let all = if n == 128 { u128::MAX } else { (1u128 << n) - 1 };
-    let mut rows: Vec<u128> = Vec::new();
+    let mut sets: Vec<u128> = Vec::new();
     match rng.below(8) {
         0 => {}
         // Nearly what the bounds were drawn around.
         1..=5 => {
             for &(set, weight) in &d.members {
                 for _ in 0..weight.min(40) {
-                    rows.push(set);
+                    sets.push(set);
                 }
             }
             for _ in 0..rng.below(3) {
-                rows.push(0);
+                sets.push(0);
             }
         }
         6 => {
             for _ in 0..rng.below(12) {
-                rows.push((rng.next() as u128 | (rng.next() as u128) << 64) & all);
+                sets.push((rng.next() as u128 | (rng.next() as u128) << 64) & all);
             }
         }
         _ => {
             let many = if rng.chance(4) { rng.pick(&[2047, 2048, 2048, 2049, 500]) } else { rng.index(30) };
             for _ in 0..many {
-                rows.push(d.tree.member(rng));
+                sets.push(d.tree.member(rng));
             }
         }
     }
-    if rng.chance(50) && !rows.is_empty() {
+    if rng.chance(50) && !sets.is_empty() {
         for _ in 0..1 + rng.below(2) {
-            let r = rng.index(rows.len());
+            let k = rng.index(sets.len());
             match rng.below(4) {
-                0 => rows[r] = d.tree.member(rng),
-                1 => rows.push(d.tree.member(rng)),
-                2 if rows.len() > 1 => {
-                    rows.remove(r);
+                0 => sets[k] = d.tree.member(rng),
+                1 => sets.push(d.tree.member(rng)),
+                2 if sets.len() > 1 => {
+                    sets.remove(k);
                 }
-                _ => rows[r] ^= 1 << rng.index(n),
+                _ => sets[k] ^= 1 << rng.index(n),
             }
         }
     }
+    let rows = as_rows(rng, &sets);
     let mut bytes = written(rng, &rows);
     if rng.chance(30) {
         damage_rows(rng, &mut bytes, n);
@@ -598,25 +647,93 @@ pub fn register(rng: &mut Rng, d: &Draft) -> Vec<u8> {
     bytes
 }
 
-// A sheet of groups alone and registers of many rows: one that fits it, some with rows spoilt, some damaged.
-pub fn full(rng: &mut Rng) -> (Vec<u8>, Vec<Vec<u8>>) {
+// How members take up the rows of a register.
+#[derive(Clone, Copy, PartialEq)]
+enum Taken {
+    OneEach,
+    TwoEach,
+    AllByOne,
+    TwoAtEdges,
+    Mixed,
+}
+
+// How many rows each member has, one after another, for so many rows.
+fn runs(rng: &mut Rng, taken: Taken, many: usize) -> Vec<usize> {
+    let mut runs = Vec::new();
+    let late = rng.pick(&[127, 1983, 2015, 2046]);
+    let mut at = 0;
+    while at < many {
+        let run = match taken {
+            Taken::OneEach => 1,
+            // At times but the first.
+            Taken::TwoEach => if at == 0 { 1 + rng.index(2) } else { 2 },
+            Taken::AllByOne => many,
+            // Rows 64 and 65, two others, and 2,047 and 2,048.
+            Taken::TwoAtEdges => if at == 63 || at == late || at == 2046 { 2 } else { 1 },
+            Taken::Mixed => rng.pick(&[1, 1, 1, 2, 2, 3, 7, 63, 64, 65, 200]),
+        };
+        runs.push(run.min(many - at));
+        at += run;
+    }
+    runs
+}
+
+// A sheet and registers of many rows; the turn decides how members take them up.
+pub fn full(rng: &mut Rng, turn: u64) -> (Vec<u8>, Vec<Vec<u8>>) {
     let n = match rng.below(4) {
         0 => 128,
         1 => 65 + rng.index(64),
         2 => 2 + rng.index(127),
         _ => rng.pick(&[1, 7, 63, 64, 65, 127]),
     };
-    let tree = Tree::new(rng, n);
-    let many = if rng.chance(75) {
+    use Taken::*;
+    let taken = [OneEach, TwoEach, OneEach, AllByOne, TwoAtEdges, Mixed][turn as usize % 6];
+    let many = if matches!(taken, AllByOne | TwoAtEdges) && rng.chance(80) {
+        2048
+    } else if rng.chance(75) {
         2040 + rng.index(10)
     } else {
         rng.pick(&[63, 64, 65, 127, 128, 129, 1984, 1985, 2016, 2017])
     };
-    let rows: Vec<u128> = (0..many).map(|_| if rng.chance(3) { 0 } else { tree.member(rng) }).collect();
-    let mut sheet = record(1, &words(&[1, n as u16, 0, 0]));
     let tight = rng.below(3);
+    around(rng, n, taken, many, tight)
+}
+
+// A small sheet, mostly with few bounds, and registers of few rows, most of them of members on several rows.
+pub fn joined(rng: &mut Rng) -> (Vec<u8>, Vec<Vec<u8>>) {
+    let (n, many) = (2 + rng.index(9), 2 + rng.index(11));
+    let taken = rng.pick(&[Taken::TwoEach, Taken::TwoEach, Taken::AllByOne, Taken::Mixed]);
+    let tight = rng.pick(&[0, 1, 3, 9, 9]);
+    around(rng, n, taken, many, tight)
+}
+
+// A sheet of groups alone and registers of so many rows: one that mostly fits it, some with rows spoilt, some damaged. A
+// group has bounds around what the first one has: all groups where tight is 0, the fewer the greater it is.
+fn around(rng: &mut Rng, n: usize, taken: Taken, many: usize, tight: u64) -> (Vec<u8>, Vec<Vec<u8>>) {
+    let tree = Tree::new(rng, n);
+    // A member's groups are spread over its rows, or each row could be a member; then bounds are at times drawn around rows.
+    let spread_out = rng.chance(60);
+    let around_rows = !spread_out && rng.chance(40);
+    let mut rows: Vec<Row> = Vec::new();
+    for run in runs(rng, taken, many) {
+        let set = |rng: &mut Rng| if rng.chance(3) { 0 } else { tree.member(rng) };
+        if spread_out {
+            let set = set(rng);
+            rows.extend(spread(rng, set, run));
+        } else {
+            rows.extend((0..run).map(|r| (r > 0, set(rng))));
+        }
+    }
+    let mut held: Vec<u128> = Vec::new();
+    for &(again, set) in &rows {
+        match held.last_mut() {
+            Some(last) if again && !around_rows => *last |= set,
+            _ => held.push(set),
+        }
+    }
+    let mut sheet = record(1, &words(&[1, n as u16, 0, 0]));
     for g in 0..n {
-        let size = rows.iter().filter(|&&set| set >> g & 1 == 1).count() as u16;
+        let size = held.iter().filter(|&&set| set >> g & 1 == 1).count() as u16;
         let (lo, hi) = match if tight == 0 { 0 } else { rng.below(3 * tight + 2) } {
             0 => (size, size),
             1 => (size.saturating_sub(1), size + 1),
@@ -632,7 +749,16 @@ pub fn full(rng: &mut Rng) -> (Vec<u8>, Vec<Vec<u8>>) {
         for _ in 0..[0, 1, 1, 1, 2][k] {
             let edge = rng.pick(&[0, 62, 63, 64, 126, 127, 128, 1983, 1984, 2016, 2046, 2047, many - 1, many - 1]);
             let r = if edge < many && rng.chance(80) { edge } else { rng.index(many) };
-            spoil(rng, &tree, &mut now[r]);
+            if rng.chance(30) {
+                spoil(rng, &tree, &mut now[r].1);
+                continue;
+            }
+            // The member, on all its rows.
+            let first = (0..=r).rev().find(|&r| !now[r].0).unwrap_or(0);
+            let end = (r + 1..many).find(|&r| !now[r].0).unwrap_or(many);
+            let mut set = now[first..end].iter().fold(0, |all, row| all | row.1);
+            spoil(rng, &tree, &mut set);
+            now.splice(first..end, spread(rng, set, end - first));
         }
         let mut bytes = written(rng, &now);
         if k == 4 && rng.chance(50) {
@@ -651,7 +777,7 @@ fn spoil(rng: &mut Rng, tree: &Tree, set: &mut u128) {
     let g = if held.is_empty() { rng.index(n) } else { rng.pick(&held) };
     let sons = &tree.sons[g];
     let equal: Vec<usize> = held.iter().copied().filter(|&s| s > 0 && tree.mode[tree.parent[s]] & 4 != 0).collect();
-    match rng.below(7) {
+    match rng.below(8) {
         0 => *set &= !(1 << tree.parent[g]),
         1 => sons.iter().for_each(|&s| *set &= !(1 << s)),
         2 if !sons.is_empty() => *set |= 1 << rng.pick(sons),
@@ -660,17 +786,20 @@ fn spoil(rng: &mut Rng, tree: &Tree, set: &mut u128) {
             *set &= !((rng.below(2) as u128) << g);
         }
         4 => *set = tree.member(rng),
-        5 if !equal.is_empty() => *set &= !(1 << rng.pick(&equal)),
+        5 | 6 if !equal.is_empty() => *set &= !(1 << rng.pick(&equal)),
         _ => *set ^= 1 << rng.index(n),
     }
 }
 
-fn written(rng: &mut Rng, rows: &[u128]) -> Vec<u8> {
+fn written(rng: &mut Rng, rows: &[Row]) -> Vec<u8> {
     let mut member = 0u32;
     let mut bytes: Vec<u8> = Vec::new();
     let step = rng.pick(&[1u64, 2, 1000, 1_000_000]);
-    for set in rows {
-        member += 1 + rng.below(step) as u32;
+    for (again, set) in rows {
+        // At times with the same low bytes.
+        if !again {
+            member += if rng.chance(2) { rng.pick(&[256, 65536, 1 << 24]) } else { 1 + rng.below(step) as u32 };
+        }
         let mut body = member.to_le_bytes().to_vec();
         body.extend(set.to_le_bytes());
         bytes.extend(record(32, &body));
@@ -686,16 +815,18 @@ fn damage_rows(rng: &mut Rng, bytes: &mut Vec<u8>, n: usize) {
         1 => count / 2,
         _ => count.saturating_sub(1),
     } * 24;
-    match rng.below(10) {
+    match rng.below(11) {
         0 => bytes.truncate(rng.index(bytes.len() + 1)),
         1 => bytes.push(rng.next() as u8),
         2 => bytes.extend([22, 0, 32]),
         3 if count > 0 => set_word(bytes, r, rng.pick(&[0, 1, 21, 23, 278, 65535])),
         4 if count > 0 => set_word(bytes, r + 2, rng.pick(&[0, 31, 33, 288, 2])),
         5 if count > 0 => bytes[r + 4..r + 8].fill(0),
-        6 if count > 1 && r > 0 => {
-            let before = bytes[r - 20..r - 16].to_vec();
-            bytes[r + 4..r + 8].copy_from_slice(&before);
+        // The member of the row before, or a lower one.
+        k @ (6 | 10) if count > 1 && r > 0 => {
+            let before = u32::from_le_bytes(bytes[r - 20..r - 16].try_into().unwrap());
+            let member = if k == 6 { before } else { before - 1 - rng.below(before as u64) as u32 };
+            bytes[r + 4..r + 8].copy_from_slice(&member.to_le_bytes());
         }
         7 if count > 0 && n < 128 => {
             let g = n + rng.index(128 - n);

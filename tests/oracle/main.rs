@@ -254,8 +254,9 @@ impl Run {
         self.number = number;
         let mut rng = Rng::new(self.seed.wrapping_mul(1_000_003).wrapping_add(number));
         let rng = &mut rng;
-        if HAS_REGISTER && number % FULL == 7 {
-            let (bytes, registers) = gen::full(rng);
+        if HAS_REGISTER && (number % FULL == 7 || number % JOINED == 5) {
+            let full = number % FULL == 7;
+            let (bytes, registers) = if full { gen::full(rng, number / FULL) } else { gen::joined(rng) };
             let sheet = read_sheet(&bytes).expect("a readable sheet");
             for reg in &registers {
                 self.register(rng, &bytes, &sheet, reg);
@@ -302,14 +303,44 @@ impl Run {
                 if r >= 2040 {
                     self.met(&format!("register: refusal {n} at row 2,040 or later"));
                 }
+                // The members of the rows before, and of the row itself where there is one.
+                let named: Vec<u32> = reg.chunks_exact(24).take(r as usize).map(|row| dword(row, 4)).collect();
+                let (before, own) = named.split_at(named.len().min(r as usize - 1));
+                if before.windows(2).any(|m| m[0] == m[1]) {
+                    self.met(&format!("register: refusal {n} after joined rows"));
+                }
+                if n == 12 {
+                    self.met(if own == [0] { ZERO } else { FALLS });
+                }
+                if n == 13 && before.last() == own.first() {
+                    self.met(BIT_IN_JOINED);
+                }
                 Want::Refused(n, r)
             }
             Ok(rows) => {
-                let members: Vec<(u128, u64)> = rows.iter().map(|r| (r.1, 1)).collect();
+                let members = members(&rows);
                 let (g, rule) = broken_rule(sheet, &members);
                 self.met(&format!("register: rule {rule}"));
                 if rows.len() >= 2040 {
                     self.met(&format!("register: rule {rule}, 2,040 rows or more"));
+                }
+                if members.len() < rows.len() {
+                    self.met(&format!("register: joined rows, rule {rule}"));
+                    let apart: Vec<(u128, u64)> = rows.iter().map(|r| (r.1, 1)).collect();
+                    let by_rows = broken_rule(sheet, &apart).1;
+                    if (rule == 0) != (by_rows == 0) {
+                        self.met(&by_rows_other(rule, by_rows));
+                    }
+                    for (what, met) in [
+                        (THREE_ROWS, rows.windows(3).any(|r| r[0].0 == r[2].0)),
+                        (AT_WORD, rows.len() > 64 && rows[63].0 == rows[64].0),
+                        (AT_END, rows.len() == 2048 && rows[2046].0 == rows[2047].0),
+                        (ALL_ROWS, rows.len() == 2048 && members.len() == 1),
+                    ] {
+                        if met {
+                            self.met(what);
+                        }
+                    }
                 }
                 let mut b = vec![6, 0, 20, 0];
                 b.extend(g.to_le_bytes());
@@ -461,6 +492,20 @@ fn wanted() -> Vec<String> {
             all.push(format!("register: rule {rule}, 2,040 rows or more"));
         }
         all.push("register: refusal 10 at row 2,040 or later".to_string());
+        for rule in 0..7 {
+            all.push(format!("register: joined rows, rule {rule}"));
+        }
+        for n in 10..14 {
+            all.push(format!("register: refusal {n} after joined rows"));
+        }
+        // A member on several rows can break 4 and 5 where none of its rows does, and they 1, 2, 3 and 6 where it doesn't.
+        for rule in [4, 5] {
+            all.push(by_rows_other(rule, 0));
+        }
+        for by_rows in [1, 2, 3, 6] {
+            all.push(by_rows_other(0, by_rows));
+        }
+        all.extend([THREE_ROWS, AT_WORD, AT_END, ALL_ROWS, ZERO, FALLS, BIT_IN_JOINED].map(str::to_string));
     }
     if HAS_CLAIM {
         for kind in ["count"].into_iter().chain(LIST_KINDS.map(ListKind::word)) {
@@ -489,11 +534,24 @@ fn wanted() -> Vec<String> {
     all
 }
 
+// Document 02, card 2: where rows of one member decide.
+fn by_rows_other(rule: u16, by_rows: u16) -> String {
+    format!("register: rule {rule}, but {by_rows} row by row")
+}
+const THREE_ROWS: &str = "register: a member on three rows";
+const AT_WORD: &str = "register: a member on rows 64 and 65";
+const AT_END: &str = "register: a member on rows 2,047 and 2,048, the last";
+const ALL_ROWS: &str = "register: one member on 2,048 rows";
+const ZERO: &str = "register: refusal 12, member 0";
+const FALLS: &str = "register: refusal 12, a member falls";
+const BIT_IN_JOINED: &str = "register: refusal 13 in a row that goes on with its member";
+
 // A place is one member's, not a pair of sets at a time.
 const PAIRS_ONLY: &str = "claim: place denied, where any two left sets have it";
 
 const WORKERS: u64 = 2;
-const FULL: u64 = 151; // one sheet in so many is drawn around a register of many rows
+const FULL: u64 = 113; // one sheet in so many is drawn around a register of many rows
+const JOINED: u64 = 13; // and one around a small register of members on several rows
 
 fn main() {
     let (mut seed, mut cases, mut only, mut own) = (20_240_229u64, 1_000_000u64, None, false);

@@ -1,5 +1,5 @@
 // The oracle held to document 01's meaning in its plainest form: families of sets, one set of
-// members for each group, all of them gone through.
+// members for each group, all of them gone through; and registers by the sets that they list.
 
 use crate::format::*;
 use crate::gen::Rng;
@@ -125,6 +125,87 @@ impl Verdicts {
         let kinds = self.0.iter().map(|(kind, [denied, holds])| format!("{kind} {holds} hold and {denied} denied"));
         kinds.collect::<Vec<_>>().join(", ")
     }
+}
+
+// The rules of a register, in their order, over the sets that it lists: the lowest broken group and its first rule.
+fn broken(sheet: &Sheet, family: &[u32]) -> (u16, u16) {
+    for (g, group) in sheet.groups.iter().enumerate() {
+        let sons: Vec<u32> = sheet.sons[g].iter().map(|&s| family[s]).collect();
+        let union = sons.iter().fold(0, |a, b| a | b);
+        let count = family[g].count_ones() as u64;
+        let rules = [
+            group.parent.is_some_and(|p| family[g] & !family[p] != 0),
+            group.parent.is_some_and(|p| sheet.groups[p].same() && family[p] != family[g]),
+            group.cover() && family[g] & !union != 0,
+            group.disjoint() && sons.iter().map(|s| s.count_ones()).sum::<u32>() > union.count_ones(),
+            count < group.lo,
+            group.hi.is_some_and(|hi| count > hi),
+        ];
+        if let Some(rule) = rules.iter().position(|&broken| broken) {
+            return (g as u16 + 1, rule as u16 + 1);
+        }
+    }
+    (0, 0)
+}
+
+// All registers of up to three rows under three groups, with members 0 to 3: 12 is met where one is 0 or falls, and all
+// others are judged by the sets that they list.
+fn registers() {
+    let (mut refused, mut kept) = (0u64, Vec::new());
+    for many in 0..4u32 {
+        for code in 0..32u32.pow(many) {
+            let rows: Vec<(u32, u128)> = (0..many).map(|r| code >> (5 * r) & 31).map(|c| (c / 8, (c % 8) as u128)).collect();
+            let mut bytes = Vec::new();
+            for (member, set) in &rows {
+                bytes.extend([22, 0, 32, 0]);
+                bytes.extend(member.to_le_bytes());
+                bytes.extend(set.to_le_bytes());
+            }
+            let bad = (0..rows.len()).find(|&r| rows[r].0 == 0 || (0..r).any(|q| rows[q].0 > rows[r].0));
+            match bad {
+                Some(r) => {
+                    refused += 1;
+                    assert_eq!(Err((12, r as u32 + 1)), read_register(&bytes, 3), "{rows:?}");
+                }
+                None => {
+                    assert_eq!(Ok(rows.clone()), read_register(&bytes, 3), "{rows:?}");
+                    let mut family = vec![0u32; 3];
+                    for (member, set) in &rows {
+                        (0..3).filter(|g| set >> g & 1 == 1).for_each(|g| family[g] |= 1 << member);
+                    }
+                    kept.push((rows, family));
+                }
+            }
+        }
+    }
+    let (mut sheets, mut answers) = (0u64, [[0u64; 2]; 7]);
+    for (parents, last) in [([None, Some(0), Some(0)], 2), ([None, Some(0), Some(1)], 8)] {
+        // Of a group without sons 'cover' alone matters.
+        for code in 0..8 * last * 2 * 10u16 {
+            let modes = [code % 8, code / 8 % last * if last == 2 { 2 } else { 1 }, code / (8 * last) % 2 * 2];
+            // One group with bounds, or none.
+            let at = code / (16 * last);
+            let bounds = |g: u16| if at / 3 == g { [(1, Some(1)), (2, None), (0, Some(0))][at as usize % 3] } else { (0, None) };
+            let group = |g: usize| Group { parent: parents[g], lo: bounds(g as u16).0, hi: bounds(g as u16).1, mode: modes[g] };
+            let groups: Vec<Group> = (0..3).map(group).collect();
+            let sheet = Sheet { sons: make_sons(&groups), groups, names: Vec::new(), claims: Vec::new() };
+            sheets += 1;
+            for (rows, family) in &kept {
+                let members = members(rows);
+                let want = broken(&sheet, family);
+                assert_eq!(want == (0, 0), fits(&sheet, family), "{rows:?}\n{}", show(&sheet));
+                assert_eq!(want, broken_rule(&sheet, &members), "{rows:?}\n{}", show(&sheet));
+                answers[want.1 as usize][(members.len() < rows.len()) as usize] += 1;
+            }
+        }
+    }
+    assert!(answers.iter().flatten().all(|&n| n > 0), "some answer was never met");
+    println!(
+        "self-test, registers: {refused} refused, {} read under {sheets} sheets, {} fit ({} with joined rows)",
+        kept.len(),
+        answers[0][0] + answers[0][1],
+        answers[0][1]
+    );
 }
 
 pub fn run(seed: u64) {
@@ -291,5 +372,6 @@ pub fn run(seed: u64) {
         "self-test, enumeration and closed forms: {sheets} sheets ({possible} possible); claims: {}",
         verdicts.say()
     );
-    println!("self-test: 4 passed, 0 failed");
+    registers();
+    println!("self-test: 5 passed, 0 failed");
 }

@@ -1,5 +1,5 @@
--- The worked sheets that are shown by proof, those of document 01 and some for document 02, cards 1 and 3, in one list:
--- `worked`. They speak of the meaning alone.
+-- The worked sheets that are shown by proof, those of document 01 and some for document 02, cards 1 and 3, and two worked registers
+-- for card 2, in one list: `worked`. They speak of the meaning alone.
 use Prim.Native.Nat.{ℕ, zero, suc, _+_, _-_, _≤_, _<_, zero-le}
 use mathlib.Core.Path.{_≡_, refl, sym, ap, _∙_, subst}
 use mathlib.Core.Bool.{Bool, true, false, cond, _&&_, _||_, false≢true}
@@ -7,6 +7,8 @@ use mathlib.Core.List.{List, [], _∷_}
 use mathlib.Core.Logic.{_↔_}
 use native.Mathlib.Omega.{arith}
 use lib.Dec.{leb, ltb, eqb}
+use Rattle.wire.specs.Member.{Member, memberKey}
+use Rattle.wire.specs.RegisterFormat.{Row, inGroup}
 use Rattle.wire.specs.SheetFormat.{GroupRecord, NameRecord, count, lists, inside, apart, place}
 use Rattle.laws.specs.Sum.{sum, bit}
 use native.Mathlib.Nat.{le-of-eq}
@@ -22,7 +24,9 @@ use Rattle.meaning.specs.Sets as sets
 use Rattle.meaning.specs.Fits.{Meets, Fits, Possible, Attains, groupsOf}
 use Rattle.meaning.specs.Claim.{Breakable, countNamed}
 use Rattle.meaning.specs.Place.{every, Fillable, Question, allSay, somePlace}
-use Rattle.meaning.specs.OfRecords.{sheetOf, claimed}
+use Rattle.meaning.specs.Rule.{Broken}
+use Rattle.meaning.specs.Rule as rule
+use Rattle.meaning.specs.OfRecords.{sheetOf, claimed, members, listed, listedSets}
 use Rattle.meaning.proofs.SonLaws.{sons-locate, sons-one, sons-sum, cover-bits}
 
 -- a group record: parent, lo, hi, mode
@@ -86,6 +90,28 @@ Denied s (somePlace l r) = Possible s × (Fillable s l r → ⊥)
 abbrev together : List ℕ → Question
 together l = claimed names (lists place l (5 ∷ []))
 
+-- a row that names a member, with its first membership byte
+abbrev named : ℕ → Member
+named n = record { number = n }
+
+abbrev row : ℕ → ℕ → Row
+row n b = record { member = named n; bits = b ∷ [] }
+
+-- Surgery and rehabilitation each have a row for member 7, in the root and one of its sons; member 9 has one row, in the root.
+abbrev pub visits : List Row
+visits = row 7 3 ∷ row 7 5 ∷ row 9 1 ∷ []
+
+-- Disjoint root, two sons.
+abbrev pub wards : Sheet
+wards = sheetOf (group 0 0 65535 1 ∷ group 1 0 65535 0 ∷ group 1 0 65535 0 ∷ [])
+
+-- One row for the son, one for the root; and a root and its son with one member each.
+abbrev pub spread : List Row
+spread = row 7 2 ∷ row 7 1 ∷ []
+
+abbrev pub alike : Sheet
+alike = sheetOf (group 0 1 1 0 ∷ group 1 1 1 0 ∷ [])
+
 -- the worked sheets: each as document 01 has it, `trio` for document 02, card 1, and `family` for card 3
 pub record Worked : Type 0 where
   pub pair-three : Possible (pair 3) → ⊥
@@ -108,6 +134,12 @@ pub record Worked : Type 0 where
   pub trio-both : Denied trio (claimed names (lists place (2 ∷ []) (2 ∷ [])))
   -- exactly the sons, in number order, also where another group's number lies between
   pub family-sons : (sonList family 1 ≡ 2 ∷ 3 ∷ 5 ∷ []) × (sonList family 2 ≡ 4 ∷ []) × (sonList family 3 ≡ [])
+  -- two rows of one member: two members in all, a group in both rows counts one, and the sons share the member
+  pub visits-members : members visits ≡ named 7 ∷ named 9 ∷ []
+  pub visits-counts : (sets.count (listedSets visits) 1 ≡ 2) × (sets.count (listedSets visits) 2 ≡ 1) × (sets.count (listedSets visits) 3 ≡ 1)
+  pub visits-shared : Broken wards (listedSets visits) 1 rule.shared
+  -- the son's bit in one row, its parent's in the other: nothing is broken
+  pub spread-fits : Fits alike (listedSets spread)
 
 -- P of each of the n numbers from k on
 abbrev From : (ℕ → Type 0) → ℕ → ℕ → Type 0
@@ -357,8 +389,35 @@ trio-possible = (overlap 4 2 1 1, fits-by (omega arith))
 alone : (b : Bool) → (b || false) ≡ true → b ≡ true
 alone b e = or-true b false e (λ x. x) (λ x. absurd (false≢true x))
 
+-- the one member of `spread` is in both groups
+spread-alike : Fits alike (listedSets spread)
+unfolding endOf digit members listed inGroup memberKey sum sets.count
+spread-alike = record {
+  distinct = record { once = λ i j k l e. omega arith };
+  rules = λ i l. let first : i ≡ 0 = omega arith in rw first meets;
+  least = each (λ g. alike .lo g ≤ sets.count (listedSets spread) g) alike (omega arith, (omega arith, tt));
+  most = each (λ g. AtMost (sets.count (listedSets spread) g) (alike .hi g)) alike (omega arith, (omega arith, tt));
+}
+  where
+    both : (g : ℕ) → Group alike g → groupsOf (listedSets spread) 0 g ≡ true
+    both = each (λ g. groupsOf (listedSets spread) 0 g ≡ true) alike (refl, (refl, tt))
+
+    no-mode : (f : ℕ → Bool) → f 1 ≡ false → f 2 ≡ false → (g : ℕ) → Group alike g → f g ≡ true → ⊥
+    no-mode f a b = each (λ g. f g ≡ true → ⊥) alike ((λ e. true-not-false (f 1) e a), ((λ e. true-not-false (f 2) e b), tt))
+
+    only-son : (p g : ℕ) → Son alike p g → g ≡ 2
+    only-son = each-son (λ p g. g ≡ 2) alike refl (refl, tt)
+
+    meets : Meets alike (groupsOf (listedSets spread) 0)
+    meets = record {
+      inside = each-son (λ p g. groupsOf (listedSets spread) 0 g ≡ true → groupsOf (listedSets spread) 0 p ≡ true) alike refl ((λ e. refl), tt);
+      equal = λ p g k e m. both g (k .group);
+      covered = λ p k e m. absurd (no-mode (alike .cover) refl refl p k e);
+      apart = λ p g h k o e x y. only-son p g k ∙ sym (only-son p h o);
+    }
+
 pub worked : Worked
-unfolding claimed overlap everybody endOf digit sons isSon passing sum sets.count
+unfolding claimed overlap everybody endOf digit sons isSon passing members listed inGroup memberKey sum sets.count
 worked = record {
   pair-three = no-pair;
   pair-four = (overlap 3 4 2 2, fits-by (omega arith));
@@ -401,4 +460,8 @@ worked = record {
         true-not-false b (and-true b true (w .2 .1 .left) .0) (or-false b false (w .2 .1 .right) .0),
   );
   family-sons = (refl, refl, refl);
+  visits-members = refl;
+  visits-counts = (refl, refl, refl);
+  visits-shared = (2, 3, 0, refl, omega arith, omega arith, omega arith, omega arith, refl, refl);
+  spread-fits = spread-alike;
 }

@@ -1,13 +1,14 @@
 -- What records mean: the sheet of its group records, the question of a claim record, the sets that a register lists.
--- Document 01, "Records of a sheet", "Meaning" and "Registers"; document 02, card 1.
+-- Document 01, "Records of a sheet", "Meaning" and "Registers"; document 02, cards 1 and 2.
 use Prim.Native.Nat.{ℕ, _-_}
-use mathlib.Core.Bool.{Bool, false, _&&_, _||_}
+use mathlib.Core.Bool.{Bool, false, cond, _&&_, _||_}
 use mathlib.Core.List.{List, [], _∷_, map}
 use lib.ListN.{length, getD}
 use lib.Dec.{eqb}
 use Rattle.laws.specs.Digit.{digit}
 use Rattle.wire.specs.Limits.{noEnd}
 use Rattle.wire.specs.SheetFormat.{GroupRecord, NameRecord, ClaimRecord, count, lists, Records}
+use Rattle.wire.specs.Member.{Member, oneMember, noMember}
 use Rattle.wire.specs.RegisterFormat.{Row, inGroup}
 use Rattle.meaning.specs.Sheet.{Sheet, endOf}
 use Rattle.meaning.specs.Sets.{Sets}
@@ -43,15 +44,17 @@ claimed ns (lists k l r) = listsAsk k (map (nameGroup ns) l) (map (nameGroup ns)
 abbrev pub claimAt : Records → ℕ → Question
 claimAt d k = claimed (d .names) (getD (d .claims) (k - 1) (count 0 0 0))
 
--- some row of the member has the group's bit
-unfoldable pub listed : List Row → ℕ → ℕ → Bool
-listed [] g x = false
-listed (r ∷ rs) g x = eqb (r .member) x && inGroup r g || listed rs g x
+-- "Equal member numbers in neighbouring rows are now one member": so a row is passed over where the next one names its member
+unfoldable pub members : List Row → List Member
+members [] = []
+members (r ∷ []) = r .member ∷ []
+members (r ∷ (q ∷ rs)) = cond (oneMember (r .member) (q .member)) (members (q ∷ rs)) (r .member ∷ members (q ∷ rs))
 
--- the sets that a register lists: one member for each row
-abbrev pub listedSets : List Row → Sets ℕ
-listedSets rs = record {
-  bound = length rs;
-  who = λ i. getD rs i (record { member = 0; bits = [] }) .member;
-  has = listed rs;
-}
+-- some row of the member has the group's bit
+unfoldable pub listed : List Row → ℕ → Member → Bool
+listed [] g x = false
+listed (r ∷ rs) g x = oneMember (r .member) x && inGroup r g || listed rs g x
+
+-- the sets that a register lists: each member once, "in the groups of either row"
+abbrev pub listedSets : List Row → Sets Member
+listedSets rs = record { bound = length (members rs); who = λ i. getD (members rs) i noMember; has = listed rs }

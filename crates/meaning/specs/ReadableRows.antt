@@ -1,62 +1,222 @@
--- The sets that a readable register lists: each member is listed once, and a row's bits say which groups its member is in.
-use Prim.Native.Nat.{ℕ, zero, suc, _<_}
-use mathlib.Core.Path.{_≡_, refl}
-use mathlib.Core.Bool.{Bool, true, false, _||_}
-use mathlib.Core.List.{List, [], _∷_}
-use mathlib.Core.Logic.{by-cases}
+-- The sets that a readable register lists, row by row: rows do not fall, so each member is listed once, and a row more adds its
+-- groups to the member that it names.
+use Prim.Native.Nat.{ℕ, _+_, _-_, _≤_, _<_, max}
+use mathlib.Core.Path.{_≡_, refl, sym, ap, _∙_}
+use mathlib.Core.Bool.{Bool, true, false, cond, _&&_, _||_}
+use mathlib.Core.List.{List, [], _∷_, _++_, append-nil, append-assoc}
 use native.Mathlib.Omega.{arith}
-use native.Mathlib.Decide.{decLe}
-use lib.ListN.{length, getD}
-use borrow.Author.Tests.{eq-eqb, ne-eqb}
+use lib.ListN.{length, getD, length-append, List·getD-append}
+use lib.Seq.{getD-at}
+use lib.Dec.{ltb, eqb}
+use borrow.Author.Tests.{lt-ltb, le-ltb, eq-eqb, ne-eqb}
+use Rattle.laws.specs.Sum.{bit}
+use Rattle.laws.specs.Cases.{split, compare-le, compare-eq}
 use Rattle.wire.specs.Edition.{Edition}
 use Rattle.wire.specs.Record.{read}
-use Rattle.wire.specs.RegisterFormat.{Row, inGroup, readRegister}
-use Rattle.wire.specs.Encoding.{Each, RowRight}
-use Rattle.wire.specs.RowFacts.{members-rise}
+use Rattle.wire.specs.Member.{Member, memberKey, oneMember, noMember}
+use Rattle.wire.specs.RegisterFormat.{Row, inGroup, lastKey, readRegister}
+use Rattle.wire.specs.Encoding.{Each, none, more, RowRight}
+use Rattle.wire.specs.MemberFacts.{key-once}
+use Rattle.wire.specs.RowFacts.{last-key-behind}
 use Rattle.wire.specs.RoundTripRegister.{register-read}
 use Rattle.meaning.specs.Sets.{Distinct}
-use Rattle.meaning.specs.OfRecords.{listed, listedSets}
+use Rattle.meaning.specs.OfRecords.{members, listed, listedSets}
 
--- what stands past the last row
-abbrev pub noRow : Row
-noRow = record { member = 0; bits = [] }
+-- the key of member i
+abbrev keyAt : List Row → ℕ → ℕ
+keyAt rs i = memberKey (getD (members rs) i noMember)
+
+-- there are no more members than rows
+pub members-few : (rs : List Row) → length (members rs) ≤ length rs
+unfolding members
+members-few [] = omega arith
+members-few (r ∷ []) = omega arith
+members-few (r ∷ (q ∷ rs)) =
+    split (oneMember (r .member) (q .member)) (λ e. rw e (omega (arith, members-few (q ∷ rs)))) (λ e. rw e (omega (arith, members-few (q ∷ rs))))
+
+-- of rows that do not fall the members rise; the last one is the last row's, and who is above it has no row
+pub record Ordered (rs : List Row) : Type 0 where
+  pub some : 1 ≤ lastKey rs → 1 ≤ length (members rs)
+  pub rise : (i j : ℕ) → i < j → j < length (members rs) → keyAt rs i < keyAt rs j
+  pub last : 1 ≤ length (members rs) → keyAt rs (length (members rs) - 1) ≡ lastKey rs
+  pub above : (g : ℕ) (x : Member) → lastKey rs < memberKey x → listed rs g x ≡ false
+
+pub ordered-none : Ordered []
+unfolding members listed lastKey
+ordered-none =
+    record {
+      some = λ l. absurd (omega arith);
+      rise = λ i j l m. absurd (omega arith);
+      last = λ l. absurd (omega arith);
+      above = λ g x l. refl;
+    }
+
+zero-bit : (a : Bool) → bit a ≡ 0 → a ≡ false
+zero-bit true e = absurd (omega arith)
+zero-bit false e = refl
+
+-- a row more: its groups are added to its member's
+listed-behind : (rs : List Row) (r : Row) (g : ℕ) (x : Member)
+    → bit (listed (rs ++ (r ∷ [])) g x) ≡ max (bit (listed rs g x)) (cond (oneMember (r .member) x) (bit (inGroup r g)) 0)
+unfolding listed
+listed-behind [] r g x = one (oneMember (r .member) x) (inGroup r g)
+  where
+    one : (a b : Bool) → bit (a && b || false) ≡ max 0 (cond a (bit b) 0)
+    one true true = omega arith
+    one true false = omega arith
+    one false b = omega arith
+listed-behind (q ∷ rs) r g x =
+    either (oneMember (q .member) x && inGroup q g) (listed (rs ++ (r ∷ [])) g x) (listed rs g x) _ (listed-behind rs r g x)
+  where
+    either : (a b c : Bool) (n : ℕ) → bit b ≡ max (bit c) n → bit (a || b) ≡ max (bit (a || c)) n
+    either true true c n e = omega arith
+    either true false c n e = omega arith
+    either false b c n e = e
+
+-- it goes on with the last member, or names one more
+pub members-joined : (rs : List Row) (r : Row) → lastKey rs ≡ memberKey (r .member) → 1 ≤ lastKey rs → members (rs ++ (r ∷ [])) ≡ members rs
+unfolding members lastKey
+members-joined [] r e l = absurd (omega arith)
+members-joined (q ∷ []) r e l =
+    rw (eq-eqb (memberKey (q .member)) (memberKey (r .member)) e) (ap (λ m. m ∷ []) (key-once (r .member) (q .member) (omega arith) (sym e)))
+members-joined (q ∷ (p ∷ rs)) r e l = rw (members-joined (p ∷ rs) r e l)
+
+pub members-new : (rs : List Row) (r : Row) → lastKey rs < memberKey (r .member) → members (rs ++ (r ∷ [])) ≡ members rs ++ (r .member ∷ [])
+unfolding members lastKey
+members-new [] r l = refl
+members-new (q ∷ []) r l = rw (ne-eqb (memberKey (q .member)) (memberKey (r .member)) (λ e. omega arith))
+members-new (q ∷ (p ∷ rs)) r l =
+    rw (members-new (p ∷ rs) r l) (split (oneMember (q .member) (p .member)) (λ e. rw e) (λ e. rw e))
+
+-- the groups of member i, none past the last member
+abbrev pub memberIn : List Row → ℕ → ℕ → Bool
+memberIn rs i g = cond (ltb i (length (members rs))) (listed rs g (getD (members rs) i noMember)) false
+
+-- rows rs that do not fall, and a row r behind them
+module _ (rs : List Row) (r : Row) (o : Ordered rs) where
+  -- who is above both has no row
+  none-above : (g : ℕ) (x : Member) → lastKey rs < memberKey x → memberKey (r .member) < memberKey x
+      → listed (rs ++ (r ∷ [])) g x ≡ false
+  none-above g x l h =
+      let y = rw (o .above g x l, ne-eqb (memberKey (r .member)) (memberKey x) (λ z. omega arith)) at (listed-behind rs r g x) in
+      zero-bit (listed (rs ++ (r ∷ [])) g x) (omega arith)
+
+  -- the row goes on with the last member
+  module _ (e : lastKey rs ≡ memberKey (r .member)) (l : 1 ≤ lastKey rs) where
+    same : members (rs ++ (r ∷ [])) ≡ members rs
+    same = members-joined rs r e l
+
+    joined-ordered : Ordered (rs ++ (r ∷ []))
+    joined-ordered =
+        record {
+          some = λ h. rw same (o .some l);
+          rise = rw same (o .rise);
+          last = λ h. rw (same, last-key-behind rs r) (o .last (o .some l) ∙ e);
+          above = λ g x h. let k = rw (last-key-behind rs r) at h in none-above g x (omega arith) k;
+        }
+
+    pub joined-in : (i g : ℕ)
+        → bit (memberIn (rs ++ (r ∷ [])) i g) ≡ max (bit (memberIn rs i g)) (cond (eqb i (length (members rs) - 1)) (bit (inGroup r g)) 0)
+    joined-in i g =
+        rw same
+        (compare-le (length (members rs)) i
+        (λ h. rw (le-ltb i (length (members rs)) h, ne-eqb i (length (members rs) - 1) (λ z. omega (arith, o .some l))) (omega arith))
+        (λ h. rw (lt-ltb i (length (members rs)) h) (listed-behind rs r g (getD (members rs) i noMember) ∙ (rw (named i h)))))
+      where
+        named : (i : ℕ) → i < length (members rs) → oneMember (r .member) (getD (members rs) i noMember) ≡ eqb i (length (members rs) - 1)
+        named i h =
+            let z = o .last (o .some l) in
+            compare-eq i (length (members rs) - 1)
+            (λ x. let y = rw (← x) at z in
+            rw (eq-eqb i (length (members rs) - 1) x) (eq-eqb (memberKey (r .member)) (keyAt rs i) (omega arith)))
+            (λ x. rw (ne-eqb i (length (members rs) - 1) x)
+            (ne-eqb (memberKey (r .member)) (keyAt rs i) (λ y. omega (arith, o .rise i (length (members rs) - 1) (omega arith) (omega arith)))))
+
+  -- the row names one member more
+  module _ (l : lastKey rs < memberKey (r .member)) where
+    one-more : members (rs ++ (r ∷ [])) ≡ members rs ++ (r .member ∷ [])
+    one-more = members-new rs r l
+
+    count-new : length (members rs ++ (r .member ∷ [])) ≡ length (members rs) + 1
+    count-new = length-append (members rs) (r .member ∷ [])
+
+    before : (i : ℕ) → i < length (members rs) → getD (members rs ++ (r .member ∷ [])) i noMember ≡ getD (members rs) i noMember
+    before i h = List·getD-append (members rs) (r .member ∷ []) noMember i h
+
+    at-end : getD (members rs ++ (r .member ∷ [])) (length (members rs)) noMember ≡ r .member
+    at-end = getD-at (members rs) (r .member) [] noMember (length (members rs)) refl
+
+    -- members before are below
+    below : (i : ℕ) → i < length (members rs) → keyAt rs i < memberKey (r .member)
+    below i h =
+        let z = o .last (omega arith) in
+        compare-eq i (length (members rs) - 1)
+        (λ x. let y = rw (← x) at z in omega arith)
+        (λ x. omega (arith, o .rise i (length (members rs) - 1) (omega arith) (omega arith)))
+
+    new-ordered : Ordered (rs ++ (r ∷ []))
+    new-ordered =
+        record {
+          some = λ h. rw (one-more, count-new) (omega arith);
+          rise = rw one-more (λ i j h m.
+              let n = rw count-new at m in
+              compare-eq j (length (members rs))
+              (λ x. rw (x, at-end, before i (omega arith)) (below i (omega arith)))
+              (λ x. rw (before i (omega arith), before j (omega arith)) (o .rise i j h (omega arith))));
+          last = λ h.
+              let n : length (members rs) + 1 - 1 ≡ length (members rs) = omega arith in
+              rw (one-more, count-new, n, at-end, last-key-behind rs r);
+          above = λ g x h. let k = rw (last-key-behind rs r) at h in none-above g x (omega arith) k;
+        }
+
+    pub new-in : (i g : ℕ)
+        → bit (memberIn (rs ++ (r ∷ [])) i g) ≡ max (bit (memberIn rs i g)) (cond (eqb i (length (members rs))) (bit (inGroup r g)) 0)
+    new-in i g =
+        rw (one-more, count-new)
+        (compare-eq i (length (members rs))
+        (λ x. let d = listed-behind rs r g (r .member) in
+        let y = rw (o .above g (r .member) l, eq-eqb (memberKey (r .member)) (memberKey (r .member)) refl) at d in
+        rw (
+          x,
+          lt-ltb (length (members rs)) (length (members rs) + 1) (omega arith),
+          le-ltb (length (members rs)) (length (members rs)) (omega arith),
+          eq-eqb (length (members rs)) (length (members rs)) refl,
+          at-end,
+        ) y)
+        (λ x. compare-le (length (members rs)) i
+        (λ h. rw (le-ltb i (length (members rs) + 1) (omega arith), le-ltb i (length (members rs)) h, ne-eqb i (length (members rs)) x) (omega arith))
+        (λ h. let d = listed-behind rs r g (getD (members rs) i noMember) in
+        let y = rw (ne-eqb (memberKey (r .member)) (keyAt rs i) (λ z. omega (arith, below i h))) at d in
+        rw (lt-ltb i (length (members rs) + 1) (omega arith), lt-ltb i (length (members rs)) h, ne-eqb i (length (members rs)) x, before i h) y)))
+
+-- a row more that does not fall
+pub ordered-after : (rs : List Row) (r : Row) → Ordered rs → 1 ≤ memberKey (r .member) → lastKey rs ≤ memberKey (r .member)
+    → Ordered (rs ++ (r ∷ []))
+ordered-after rs r o l f =
+    compare-eq (lastKey rs) (memberKey (r .member))
+    (λ z. joined-ordered rs r o z (omega arith))
+    (λ z. new-ordered rs r o (omega arith))
+
+-- the rows of a readable register do not fall
+ordered-each : {e : Edition} {groups : ℕ} {rs qs : List Row} → Ordered rs → Each (RowRight e groups) rs qs → Ordered (rs ++ qs)
+ordered-each {rs = rs} o none = rw (append-nil rs) o
+ordered-each o (more {xs} {ys} {y} p m) =
+    rw (append-assoc xs (y ∷ []) ys) at (ordered-each (ordered-after xs y o (p .someone) (p .follows)) m)
+
+-- and list each member once
+distinct-of-ordered : (rs : List Row) → Ordered rs → Distinct (listedSets rs)
+distinct-of-ordered rs o =
+    record {
+      once = λ i j k l e.
+          let z = ap memberKey e in
+          compare-le i j
+          (λ h. compare-le j i (λ m. omega arith) (λ m. absurd (omega (arith, o .rise i j m l))))
+          (λ h. absurd (omega (arith, o .rise j i h k)));
+    }
 
 pub distinct-of-right : {e : Edition} {groups : ℕ} {rs : List Row} → Each (RowRight e groups) [] rs → Distinct (listedSets rs)
-distinct-of-right {rs} right =
-    record {
-      once = λ i j hi hj e.
-          by-cases (decLe i j)
-          (λ h.
-          by-cases (decLe j i) (λ k. omega arith)
-          (λ k. absurd (omega (arith, members-rise right noRow i j (omega arith) hj))))
-          (λ h. absurd (omega (arith, members-rise right noRow j i (omega arith) hi)));
-    }
+distinct-of-right right = distinct-of-ordered _ (ordered-each ordered-none right)
 
 pub distinct-of-readable : (e : Edition) (groups : ℕ) (b : List ℕ) (rs : List Row) → readRegister e groups b ≡ read rs
     → Distinct (listedSets rs)
 distinct-of-readable e groups b rs x = distinct-of-right (register-read e groups b rs x .right)
-
--- who has no row is in no group
-unlisted : (rs : List Row) (g x : ℕ) → ((i : ℕ) → i < length rs → getD rs i noRow .member ≡ x → ⊥) → listed rs g x ≡ false
-unfolding listed
-unlisted [] g x no-row = refl
-unlisted (r ∷ rs) g x no-row =
-    rw (ne-eqb (r .member) x (no-row 0 (omega arith))) (unlisted rs g x (λ i l. no-row (suc i) (omega arith)))
-
--- the member of a row is in the groups whose bits the row has
-pub listed-at : (rs : List Row) → Distinct (listedSets rs) → (g i : ℕ) → i < length rs
-    → listed rs g (getD rs i noRow .member) ≡ inGroup (getD rs i noRow) g
-unfolding listed
-listed-at [] D g i l = absurd (omega arith)
-listed-at (r ∷ rs) D g zero l =
-    let others = unlisted rs g (r .member) (λ i h e. omega (arith, D .once (suc i) 0 (omega arith) l e)) in
-    rw (eq-eqb (r .member) (r .member) refl, others)
-    (or-false (inGroup r g))
-  where
-    or-false : (b : Bool) → (b || false) ≡ b
-    or-false true = refl
-    or-false false = refl
-listed-at (r ∷ rs) D g (suc i) l =
-    rw (ne-eqb (r .member) (getD rs i noRow .member) (λ e. omega (arith, D .once 0 (suc i) (omega arith) l e)))
-    (listed-at rs (record { once = λ j k hj hk e. omega (arith, D .once (suc j) (suc k) (omega arith) (omega arith) e) })
-    g i (omega arith))

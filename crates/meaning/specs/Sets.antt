@@ -1,5 +1,6 @@
 -- Finite sets of members, one for each group: document 01, "Meaning", "Sets are finite sets of members." The type X of a
--- member is open; the contracts take numbers, and `renumbered-fits` says that nothing is lost by that.
+-- member is open; the contracts take numbers, where `renumbered-fits` says that nothing is lost by that, and of a register
+-- the members that its rows name.
 use Prim.Native.Nat.{ℕ, _<_}
 use mathlib.Core.Path.{_≡_}
 use mathlib.Core.Bool.{Bool}

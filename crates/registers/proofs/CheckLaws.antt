@@ -1,24 +1,26 @@
 -- The columns of a register that was read show the sets that its rows list; what a reading gives is what the check answers, and
 -- the ones of the columns are the counts.
 use Prim.Native.Nat.{ℕ, _*_, _≤_, _<_}
-use mathlib.Core.Path.{_≡_, refl, sym, ap, _∙_}
+use mathlib.Core.Path.{_≡_, refl, _∙_}
+use mathlib.Core.Bool.{Bool, true, false}
 use mathlib.Core.List.{List}
 use native.Mathlib.Omega.{arith}
-use borrow.Author.Tests.{lt-ltb, le-ltb}
+use borrow.Author.Tests.{lt-ltb, le-ltb, eq-eqb, ne-eqb}
 use lib.ListN.{length, getD, replicate, length-replicate, getD-replicate, List·getD-eq-default}
 use lib.Dec.{eqb}
-use Rattle.wire.specs.Edition.{edition1, rowBytes}
+use Rattle.laws.specs.Sum.{bit}
+use Rattle.wire.specs.Edition.{edition1}
 use Rattle.wire.specs.Limits.{rowLimit}
 use Rattle.wire.specs.Record.{Reading, read, refused}
+use Rattle.wire.specs.Member.{noMember}
 use Rattle.wire.specs.RegisterFormat.{Row, readRegister}
 use Rattle.meaning.specs.Sheet.{Sheet}
 use Rattle.meaning.specs.Tree.{Tree}
-use Rattle.meaning.specs.Sets.{Distinct}
-use Rattle.meaning.specs.OfRecords.{listedSets}
-use Rattle.meaning.specs.ReadableRows.{distinct-of-readable, listed-at}
+use Rattle.meaning.specs.OfRecords.{members, listed, listedSets}
+use Rattle.meaning.specs.ReadableRows.{distinct-of-readable}
 use Rattle.laws.specs.Cases.{compare-le}
 use Rattle.rows.specs.RowsRead.{wordBits, rowGroups, rowsBefore}
-use Rattle.rows.proofs.RowLaws.{length-rowsBefore, row-before, in-group-bit, rows-most}
+use Rattle.rows.proofs.RowLaws.{rows-most}
 use Rattle.registers.specs.Columns.{columnDigit, inColumn, columnSets, columns-distinct, WordsFor, ColumnsFilled}
 use Rattle.registers.specs.ColumnSteps.{ColumnsCounted}
 use Rattle.registers.specs.Tallies.{Counted}
@@ -26,6 +28,7 @@ use Rattle.registers.specs.Agree.{Agree, answered-agree, count-agree}
 use Rattle.registers.specs.Checked.{AnswerTo, Checked, Tallied}
 use Rattle.registers.specs.declared.check.Check.{Check}
 use Rattle.registers.specs.declared.check.Check.the-variants as check
+use Rattle.registers.proofs.PutLaws.{members-within}
 use Rattle.registers.proofs.CountLaws.{column-count}
 
 -- a refused register
@@ -40,15 +43,15 @@ pub tallied-refused : (s : Sheet) (d : Reading (List Row)) (n k : ℕ) (t : List
 tallied-refused s d n k t e =
     record { counts = λ rows f. absurd (let z : _≡_ {A = ℕ} 0 1 = cc in omega arith); kept = λ m j f. refl }
 
--- no digit is set from row n on
-pub others-none : {b t : List ℕ} {n : ℕ} → ColumnsFilled b n t → (g i : ℕ) → 1 ≤ g → g ≤ rowGroups → n ≤ i → i < rowLimit
+-- no digit is set from member n on
+pub others-none : {rs : List Row} {t : List ℕ} {n : ℕ} → ColumnsFilled rs n t → (g i : ℕ) → 1 ≤ g → g ≤ rowGroups → n ≤ i → i < rowLimit
     → columnDigit t g i ≡ 0
-others-none {b} {t} {n} f g i a c o l = f .each g i a c l ∙ (rw (le-ltb i n o))
+others-none {rs} {n = n} f g i a c o l = f .each g i a c l ∙ (rw (le-ltb i (length (members rs)) (omega (arith, f .number))))
 
 -- the counts that were read off are those of the sets
-pub columns-counted : {b t u : List ℕ} {n words : ℕ} (s : Sheet) → s .size ≤ rowGroups → ColumnsFilled b n t → WordsFor n words
+pub columns-counted : {rs : List Row} {t u : List ℕ} {n words : ℕ} (s : Sheet) → s .size ≤ rowGroups → ColumnsFilled rs n t → WordsFor n words
     → ColumnsCounted t (s .size) words u → Counted s (columnSets t n) u
-columns-counted {b} {t} {u} {n} {words} s z f w c =
+columns-counted {rs} {t} {u} {n} {words} s z f w c =
     record {
       each = λ g k.
           c .each g (k .first) (k .last)
@@ -56,21 +59,28 @@ columns-counted {b} {t} {u} {n} {words} s z f w c =
           (λ i o l. others-none f g i (k .first) (omega (arith, k .last)) o (omega (arith, w .most)));
     }
 
--- a register of n rows that were read, and its columns
-module _ (s : Sheet) (z : s .size ≤ rowGroups) (groups : ℕ) (b t : List ℕ) (n : ℕ) (w : read (rowsBefore b n) ≡ readRegister edition1 groups b)
-    (f : ColumnsFilled b n t) where
-  columns-agree : (rs : List Row) → rowsBefore b n ≡ rs → Distinct (listedSets rs) → Agree s (columnSets t n) (listedSets rs)
+-- the members of a register that was read are no more than the most rows
+pub members-most : (groups : ℕ) (b : List ℕ) (rows : ℕ) → read (rowsBefore b rows) ≡ readRegister edition1 groups b
+    → {t : List ℕ} {n : ℕ} → ColumnsFilled (rowsBefore b rows) n t → n ≤ rowLimit
+members-most groups b rows w f = omega (arith, members-within b rows f, rows-most groups b rows w)
+
+-- a register whose rows were read, and the columns of its n members
+module _ (s : Sheet) (z : s .size ≤ rowGroups) (groups : ℕ) (b : List ℕ) (rows : ℕ) (w : read (rowsBefore b rows) ≡ readRegister edition1 groups b)
+    {t : List ℕ} {n : ℕ} (f : ColumnsFilled (rowsBefore b rows) n t) where
+  columns-agree : (rs : List Row) → rowsBefore b rows ≡ rs → Agree s (columnSets t n) (listedSets rs)
   unfolding inColumn
-  columns-agree rs e d =
+  columns-agree rs e =
+      let f′ = rw e at f in
       record {
-        bound = sym (length-rowsBefore b n) ∙ ap length e;
+        bound = f′ .number;
         groups = λ i g l y.
-            let i-in : i < length rs = omega (arith, length-rowsBefore b n, ap length e) in
-            let here = rw (lt-ltb i n l) at (f .each g i (y .first) (omega (arith, y .last)) (omega (arith, rows-most groups b n w))) in
-            ap (λ x. eqb x 1) here
-            ∙ sym (in-group-bit b (rowBytes edition1 * i) g (omega (arith, y .last)))
-            ∙ (rw (← row-before b n i l, e) (sym (listed-at rs d g i i-in)));
+            let here = f′ .each g i (y .first) (omega (arith, y .last)) (omega (arith, members-most groups b rows w f)) in
+            rw here (rw (lt-ltb i (length (members rs)) (omega (arith, f′ .number))) (one (listed rs g (getD (members rs) i noMember))));
       }
+    where
+      one : (a : Bool) → eqb (bit a) 1 ≡ a
+      one true = eq-eqb 1 1 refl
+      one false = ne-eqb 0 1 (λ e. omega arith)
 
   -- the answer to the columns is the answer to the rows
   pub checked-columns : (r : Check) → Tree s → AnswerTo s (columnSets t n) r → Checked s (readRegister edition1 groups b) r
@@ -78,12 +88,11 @@ module _ (s : Sheet) (z : s .size ≤ rowGroups) (groups : ℕ) (b t : List ℕ)
       record {
         refusal = λ m j e. absurd (let x = w ∙ e in let o : _≡_ {A = ℕ} 0 1 = cc in omega arith);
         answer = λ rs e.
-            let same : rowsBefore b n ≡ rs = (let x = w ∙ e in cc) in
-            let d = distinct-of-readable edition1 groups b rs e in
+            let same : rowsBefore b rows ≡ rs = (let x = w ∙ e in cc) in
             record {
               names = v .names;
               gives = v .gives;
-              answered = answered-agree s (columnSets t n) (listedSets rs) y (columns-agree rs same d) (columns-distinct t n) d _ _ (v .answered);
+              answered = answered-agree s (columnSets t n) (listedSets rs) y (columns-agree rs same) (columns-distinct t n) (distinct-of-readable edition1 groups b rs e) _ _ (v .answered);
             };
       }
 
@@ -92,9 +101,8 @@ module _ (s : Sheet) (z : s .size ≤ rowGroups) (groups : ℕ) (b t : List ℕ)
   tallied-columns v u c =
       record {
         counts = λ rs e.
-            let same : rowsBefore b n ≡ rs = (let x = w ∙ e in cc) in
-            let d = distinct-of-readable edition1 groups b rs e in
-            record { each = λ g k. c .each g k ∙ count-agree s (columnSets t n) (listedSets rs) g (columns-agree rs same d) k };
+            let same : rowsBefore b rows ≡ rs = (let x = w ∙ e in cc) in
+            record { each = λ g k. c .each g k ∙ count-agree s (columnSets t n) (listedSets rs) g (columns-agree rs same) k };
         kept = λ m j e. absurd (let x = w ∙ e in let o : _≡_ {A = ℕ} 0 1 = cc in omega arith);
       }
 

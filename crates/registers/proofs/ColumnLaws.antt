@@ -45,37 +45,37 @@ pub one-column : (t : List ℕ) (g i : ℕ) → 1 ≤ columnDigit t g i → inCo
 unfolding inColumn
 one-column t g i l = eq-eqb (columnDigit t g i) 1 (omega (arith, column-le t g i))
 
--- a row's digit is set in one column
-pub group-put : (t : List ℕ) (g row : ℕ) → g ≤ rowGroups → row < rowLimit → columnsLength ≤ length t
-    → GroupPut g row t (set t (columnWord g (row / wordBits)) (bitOr (getD t (columnWord g (row / wordBits)) 0) (2 ^ (row % wordBits))))
+-- a member's digit is set in one column
+pub group-put : (t : List ℕ) (g member : ℕ) → g ≤ rowGroups → member < rowLimit → columnsLength ≤ length t
+    → GroupPut g member t (set t (columnWord g (member / wordBits)) (bitOr (getD t (columnWord g (member / wordBits)) 0) (2 ^ (member % wordBits))))
 unfolding columnDigit
-group-put t g row a b c =
+group-put t g member a b c =
     record {
       each = λ h i x y l.
-          compare-eq (columnWord h (i / wordBits)) (columnWord g (row / wordBits))
+          compare-eq (columnWord h (i / wordBits)) (columnWord g (member / wordBits))
           (λ e. let s : h ≡ g = omega arith in
-          let q : i / wordBits ≡ row / wordBits = omega arith in
-          rw (e, getD-set-same t (columnWord g (row / wordBits)) (bitOr (getD t (columnWord g (row / wordBits)) 0) (2 ^ (row % wordBits))) 0 (omega arith))
-          (digit-or (getD t (columnWord g (row / wordBits)) 0) (2 ^ (row % wordBits)) (i % wordBits)
-          ∙ ap (max (digit (getD t (columnWord g (row / wordBits)) 0) (i % wordBits)))
-          (digit-pow (row % wordBits) (i % wordBits) ∙ same h i s q)))
-          (λ e. rw (getD-set-other t (columnWord g (row / wordBits)) (columnWord h (i / wordBits))
-          (bitOr (getD t (columnWord g (row / wordBits)) 0) (2 ^ (row % wordBits))) 0 e)
+          let q : i / wordBits ≡ member / wordBits = omega arith in
+          rw (e, getD-set-same t (columnWord g (member / wordBits)) (bitOr (getD t (columnWord g (member / wordBits)) 0) (2 ^ (member % wordBits))) 0 (omega arith))
+          (digit-or (getD t (columnWord g (member / wordBits)) 0) (2 ^ (member % wordBits)) (i % wordBits)
+          ∙ ap (max (digit (getD t (columnWord g (member / wordBits)) 0) (i % wordBits)))
+          (digit-pow (member % wordBits) (i % wordBits) ∙ same h i s q)))
+          (λ e. rw (getD-set-other t (columnWord g (member / wordBits)) (columnWord h (i / wordBits))
+          (bitOr (getD t (columnWord g (member / wordBits)) 0) (2 ^ (member % wordBits))) 0 e)
           (other h i e));
     }
   where
-    same : (h i : ℕ) → h ≡ g → i / wordBits ≡ row / wordBits
-        → bit (eqb (row % wordBits) (i % wordBits)) ≡ cond (eqb i row) (bit (eqb h g)) 0
+    same : (h i : ℕ) → h ≡ g → i / wordBits ≡ member / wordBits
+        → bit (eqb (member % wordBits) (i % wordBits)) ≡ cond (eqb i member) (bit (eqb h g)) 0
     same h i s q =
-        compare-eq i row
-        (λ e. rw (eq-eqb i row e, eq-eqb h g s, eq-eqb (row % wordBits) (i % wordBits) (omega arith)))
-        (λ e. rw (ne-eqb i row e, ne-eqb (row % wordBits) (i % wordBits) (λ z. e (omega arith))))
+        compare-eq i member
+        (λ e. rw (eq-eqb i member e, eq-eqb h g s, eq-eqb (member % wordBits) (i % wordBits) (omega arith)))
+        (λ e. rw (ne-eqb i member e, ne-eqb (member % wordBits) (i % wordBits) (λ z. e (omega arith))))
 
-    other : (h i : ℕ) → (columnWord h (i / wordBits) ≡ columnWord g (row / wordBits) → ⊥)
+    other : (h i : ℕ) → (columnWord h (i / wordBits) ≡ columnWord g (member / wordBits) → ⊥)
         → digit (getD t (columnWord h (i / wordBits)) 0) (i % wordBits)
-        ≡ max (digit (getD t (columnWord h (i / wordBits)) 0) (i % wordBits)) (cond (eqb i row) (bit (eqb h g)) 0)
+        ≡ max (digit (getD t (columnWord h (i / wordBits)) 0) (i % wordBits)) (cond (eqb i member) (bit (eqb h g)) 0)
     other h i e =
-        compare-eq i row
+        compare-eq i member
         (λ x. compare-eq h g (λ y. absurd (e (rw (x, y))))
-        (λ y. rw (eq-eqb i row x, ne-eqb h g y) (omega arith)))
-        (λ x. rw (ne-eqb i row x) (omega arith))
+        (λ y. rw (eq-eqb i member x, ne-eqb h g y) (omega arith)))
+        (λ x. rw (ne-eqb i member x) (omega arith))

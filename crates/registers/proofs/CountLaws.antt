@@ -28,13 +28,13 @@ count-word t g w l =
       ones-digits wordBits (getD t (columnWord g w) 0) l,
     )
 
--- at most one for each row
+-- at most one for each member
 pub count-most : (t : List ℕ) (g n : ℕ) → sum (columnDigit t g) n ≤ n
 unfolding sum
 count-most t g zero = omega arith
 count-most t g (suc n) = omega (arith, count-most t g n, column-le t g n)
 
--- columns that have no digit from row n on list n members
+-- columns that have no digit from member n on list n members
 pub column-count : (t : List ℕ) (g n m : ℕ) → n ≤ m → ((i : ℕ) → n ≤ i → i < m → columnDigit t g i ≡ 0)
     → sum (columnDigit t g) m ≡ count (columnSets t n) g
 unfolding count

@@ -1,36 +1,46 @@
--- The rows' digits are set in the columns: group by group, word by word, row by row.
-use Prim.Native.Nat.{ℕ, zero, suc, _+_, _-_, _*_, _^_, _≤_, _<_, max}
-use mathlib.Core.Path.{_≡_, refl, _∙_}
-use mathlib.Core.Bool.{cond}
-use mathlib.Core.List.{List}
+-- Members' digits are set in the columns: group by group, word by word, row by row.
+use Prim.Native.Nat.{ℕ, zero, suc, _+_, _-_, _*_, _/_, _%_, _^_, _≤_, _<_, max}
+use mathlib.Core.Path.{_≡_, refl, sym, _∙_}
+use mathlib.Core.Bool.{Bool, true, false, cond}
+use mathlib.Core.List.{List, [], _∷_, _++_}
 use native.Mathlib.Omega.{arith}
-use borrow.Author.Tests.{lt-ltb, le-ltb, le-leb, lt-leb, eq-eqb, ne-eqb}
+use native.Mathlib.Numerals.{add-one}
+use borrow.Author.Tests.{lt-ltb, le-ltb, le-leb, lt-leb, eq-eqb, ne-eqb, eqb-true, eqb-false}
+use lib.ListN.{length, getD, length-append}
 use lib.Dec.{ltb, eqb}
 use lib.Bits.{bitAnd}
 use lib.Count.{ones}
 use Rattle.laws.specs.Cases.{compare-le, compare-eq, split}
 use Rattle.laws.specs.Digits.{digit-le, digit-of-zero, digit-beyond, ones-of-zero, lowest}
-use Rattle.rows.specs.RowsRead.{wordBits, rowGroups, bitsPlace, bitAt, WordAt}
+use Rattle.laws.specs.Sum.{bit}
+use Rattle.wire.specs.Edition.{edition1, rowBytes}
+use Rattle.wire.specs.Member.{memberKey}
+use Rattle.wire.specs.RegisterFormat.{Row, rowOf, inGroup, lastKey}
+use Rattle.meaning.specs.OfRecords.{members}
+use Rattle.meaning.specs.ReadableRows.{members-few, Ordered, ordered-none, ordered-after, members-joined, members-new, joined-in, new-in}
+use Rattle.rows.specs.RowsRead.{wordBits, rowGroups, fromRow, rowsBefore, bitsPlace, bitAt, WordAt}
+use Rattle.rows.specs.declared.decode.RowFound.{RowFound}
+use Rattle.rows.proofs.RowLaws.{in-group-bit, length-rowsBefore, Stands}
 use Rattle.registers.specs.Columns.{columnDigit, ColumnsFilled}
 use Rattle.registers.specs.ColumnSteps.{LowestGroup, Put, GroupPut, wordBit, WordPut, RowPut, Empty}
 
 -- what is put depends on the groups' bits alone; what is put in two steps
-put-as : {f h : ℕ → ℕ} {row : ℕ} {t u : List ℕ} → ((g : ℕ) → 1 ≤ g → g ≤ rowGroups → f g ≡ h g) → Put f row t u → Put h row t u
-put-as {f} {h} {row} {t} {u} e p = record { each = λ g i a b l. p .each g i a b l ∙ (rw (e g a b)) }
+put-as : {f h : ℕ → ℕ} {member : ℕ} {t u : List ℕ} → ((g : ℕ) → 1 ≤ g → g ≤ rowGroups → f g ≡ h g) → Put f member t u → Put h member t u
+put-as {f} {h} {member} {t} {u} e p = record { each = λ g i a b l. p .each g i a b l ∙ (rw (e g a b)) }
 
-put-none : {f : ℕ → ℕ} {row : ℕ} (t : List ℕ) → ((g : ℕ) → f g ≡ 0) → Put f row t t
-put-none {f} {row} t e =
-    record { each = λ g i a b l. split (eqb i row) (λ x. rw (x, e g) (omega arith)) (λ x. rw x (omega arith)) }
+put-none : {f : ℕ → ℕ} {member : ℕ} (t : List ℕ) → ((g : ℕ) → f g ≡ 0) → Put f member t t
+put-none {f} {member} t e =
+    record { each = λ g i a b l. split (eqb i member) (λ x. rw (x, e g) (omega arith)) (λ x. rw x (omega arith)) }
 
-put-then : {f h k : ℕ → ℕ} {row : ℕ} {t u v : List ℕ} → Put f row t u → Put h row u v
-    → ((g : ℕ) → 1 ≤ g → g ≤ rowGroups → max (f g) (h g) ≡ k g) → Put k row t v
-put-then {f} {h} {k} {row} {t} {u} {v} p q e =
+put-then : {f h k : ℕ → ℕ} {member : ℕ} {t u v : List ℕ} → Put f member t u → Put h member u v
+    → ((g : ℕ) → 1 ≤ g → g ≤ rowGroups → max (f g) (h g) ≡ k g) → Put k member t v
+put-then {f} {h} {k} {member} {t} {u} {v} p q e =
     record {
       each = λ g i a b l.
           let x = p .each g i a b l in
           let y = q .each g i a b l in
           let z = e g a b in
-          split (eqb i row)
+          split (eqb i member)
           (λ s. let x′ = rw s at x in let y′ = rw s at y in rw s (omega arith))
           (λ s. let x′ = rw s at x in let y′ = rw s at y in rw s (omega arith));
     }
@@ -49,12 +59,12 @@ word-bit-zero before g =
     (λ l. rw (lt-leb (before + 1) g l))
 
 -- of a word the groups that are not left are put
-pub record GroupsTaken (word before row : ℕ) (t : List ℕ) (left : ℕ) (u : List ℕ) : Type 0 where
+pub record GroupsTaken (word before member : ℕ) (t : List ℕ) (left : ℕ) (u : List ℕ) : Type 0 where
   pub within : (g : ℕ) → wordBit left before g ≤ wordBit word before g
-  pub put : Put (λ g. wordBit word before g - wordBit left before g) row t u
+  pub put : Put (λ g. wordBit word before g - wordBit left before g) member t u
 
-pub groups-none-taken : (word before row : ℕ) (t : List ℕ) → GroupsTaken word before row t word t
-groups-none-taken word before row t =
+pub groups-none-taken : (word before member : ℕ) (t : List ℕ) → GroupsTaken word before member t word t
+groups-none-taken word before member t =
     record { within = λ g. omega arith; put = put-none t (λ g. omega arith) }
 
 module _ {before left g : ℕ} (w : LowestGroup before left g) where
@@ -75,9 +85,9 @@ module _ {before left g : ℕ} (w : LowestGroup before left g) where
       (λ l. rw (lt-leb (before + 1) h l))
 
   -- the lowest group is put, and no longer left
-  pub groups-more-taken : {word row : ℕ} {t u v : List ℕ} → GroupsTaken word before row t left u → GroupPut g row u v
-      → GroupsTaken word before row t (bitAnd left (left - 1)) v
-  groups-more-taken {word} {row} {t} {u} {v} k p =
+  pub groups-more-taken : {word member : ℕ} {t u v : List ℕ} → GroupsTaken word before member t left u → GroupPut g member u v
+      → GroupsTaken word before member t (bitAnd left (left - 1)) v
+  groups-more-taken {word} {member} {t} {u} {v} k p =
       record {
         within = λ h.
             compare-eq h g
@@ -91,7 +101,7 @@ module _ {before left g : ℕ} (w : LowestGroup before left g) where
       }
 
 -- where nothing is left, the word is put
-pub groups-all-taken : {word before row : ℕ} {t u : List ℕ} → GroupsTaken word before row t 0 u → WordPut word before row t u
+pub groups-all-taken : {word before member : ℕ} {t u : List ℕ} → GroupsTaken word before member t 0 u → WordPut word before member t u
 groups-all-taken {word} {before} k = put-as (λ g a b. rw (word-bit-zero before g) (omega arith)) (k .put)
 
 -- a word with a one is not 0, and one without is 0
@@ -106,12 +116,12 @@ no-ones-left m l e = compare-eq m 0 (λ z. z) (λ z. absurd (omega (arith, lowes
 abbrev pub firstBits : List ℕ → ℕ → ℕ → ℕ → ℕ
 firstBits b place k g = cond (ltb (g - 1) (wordBits * k)) (bitAt b place (g - 1)) 0
 
-pub bits-none : (b : List ℕ) (place row : ℕ) (t : List ℕ) → Put (firstBits b place 0) row t t
-bits-none b place row t = put-none t (λ g. rw (le-ltb (g - 1) (wordBits * 0) (omega arith)))
+pub bits-none : (b : List ℕ) (place member : ℕ) (t : List ℕ) → Put (firstBits b place 0) member t t
+bits-none b place member t = put-none t (λ g. rw (le-ltb (g - 1) (wordBits * 0) (omega arith)))
 
-pub bits-more : {b : List ℕ} {place k row word : ℕ} {t u v : List ℕ} → Put (firstBits b place k) row t u → WordAt b place k word
-    → word < 2 ^ 64 → WordPut word (wordBits * k) row u v → Put (firstBits b place (k + 1)) row t v
-bits-more {b} {place} {k} {row} {word} p w l q = put-then p q (λ g x y. step g x)
+pub bits-more : {b : List ℕ} {place k member word : ℕ} {t u v : List ℕ} → Put (firstBits b place k) member t u → WordAt b place k word
+    → word < 2 ^ 64 → WordPut word (wordBits * k) member u v → Put (firstBits b place (k + 1)) member t v
+bits-more {b} {place} {k} {member} {word} p w l q = put-then p q (λ g x y. step g x)
   where
     step : (g : ℕ) → 1 ≤ g → max (firstBits b place k g) (wordBit word (wordBits * k) g) ≡ firstBits b place (k + 1) g
     step g x =
@@ -126,28 +136,80 @@ bits-more {b} {place} {k} {row} {word} p w l q = put-then p q (λ g x y. step g 
         (λ o. rw (lt-leb (wordBits * k + 1) g o, lt-ltb (g - 1) (wordBits * k) (omega arith), lt-ltb (g - 1) (wordBits * (k + 1)) (omega arith))
         (omega arith))
 
-pub bits-all : (b : List ℕ) (place k row : ℕ) {t u : List ℕ} → Put (firstBits b place k) row t u → rowGroups ≤ wordBits * k
-    → RowPut b place row t u
-bits-all b place k row p l = put-as (λ g x y. rw (lt-ltb (g - 1) (wordBits * k) (omega arith))) p
+pub bits-all : (b : List ℕ) (place k member : ℕ) {t u : List ℕ} → Put (firstBits b place k) member t u → rowGroups ≤ wordBits * k
+    → RowPut b place member t u
+bits-all b place k member p l = put-as (λ g x y. rw (lt-ltb (g - 1) (wordBits * k) (omega arith))) p
 
--- the columns of no row, and of one row more
-pub columns-none : (b t : List ℕ) → Empty t → ColumnsFilled b 0 t
-unfolding columnDigit
-columns-none b t e =
-    record { each = λ g i x y l. rw (le-ltb i 0 (omega arith), e .each _) (digit-of-zero _) }
+-- the columns of no row
+pub columns-none : (b t : List ℕ) → Empty t → ColumnsFilled (rowsBefore b 0) 0 t
+unfolding columnDigit rowsBefore members
+columns-none b t e = record { number = refl; each = λ g i x y l. rw (le-ltb i 0 (omega arith), e .each _) (digit-of-zero _) }
 
-pub columns-more : {b t u : List ℕ} {row : ℕ} → ColumnsFilled b row t → RowPut b (bitsPlace row) row t u → ColumnsFilled b (row + 1) u
-columns-more {b} {t} {u} {row} f p =
-    record {
-      each = λ g i x y l.
-          let d = f .each g i x y l in
-          let q = p .each g i x y l in
-          compare-eq i row
-          (λ e. let d′ = rw (le-ltb i row (omega arith)) at d in
-          let q′ = rw (eq-eqb i row e) at q in
-          rw (lt-ltb i (row + 1) (omega arith)) (q′ ∙ (rw (d′, e) (omega arith))))
-          (λ e. let q′ = rw (ne-eqb i row e) at q in
-          compare-le row i
-          (λ o. let d′ = rw (le-ltb i row o) at d in rw (le-ltb i (row + 1) (omega arith)) (omega arith))
-          (λ o. let d′ = rw (lt-ltb i row o) at d in rw (lt-ltb i (row + 1) (omega arith)) (omega arith)));
-    }
+pub ordered-none-before : (b : List ℕ) → Ordered (rowsBefore b 0)
+unfolding rowsBefore
+ordered-none-before b = ordered-none
+
+-- no more members than rows
+pub members-within : (b : List ℕ) (row : ℕ) {t : List ℕ} {n : ℕ} → ColumnsFilled (rowsBefore b row) n t → n ≤ row
+members-within b row f = omega (arith, f .number, members-few (rowsBefore b row), length-rowsBefore b row)
+
+pub with-row-most : (joined : Bool) (n : ℕ) → cond joined n (n + 1) ≤ n + 1
+with-row-most true n = omega arith
+with-row-most false n = omega arith
+
+-- a row more, v, behind rows that do not fall: it is joined to the row before, or its member is the next
+module _ {b : List ℕ} {row : ℕ} {v : RowFound} (s : Stands b row v) (o : Ordered (rowsBefore b row)) where
+  abbrev rs : List Row
+  rs = rowsBefore b row
+
+  abbrev r : Row
+  r = rowOf edition1 (fromRow b row)
+
+  rows-after : rowsBefore b (row + 1) ≡ rs ++ (r ∷ [])
+  unfolding rowsBefore
+  rows-after = rw (add-one row)
+
+  -- the row's bits
+  bit-of : (g : ℕ) → g ≤ rowGroups → bit (inGroup r g) ≡ bitAt b (v .bits) (g - 1)
+  unfolding bitAt
+  bit-of g l =
+      rw (in-group-bit b (rowBytes edition1 * row) g l, s .bits)
+      (compare-eq (bitAt b (bitsPlace row) (g - 1)) 1
+      (λ e. rw (eq-eqb (bitAt b (bitsPlace row) (g - 1)) 1 e) (sym e))
+      (λ e. rw (ne-eqb (bitAt b (bitsPlace row) (g - 1)) 1 e) (omega (arith, digit-le (getD b (bitsPlace row + (g - 1) / 8) 0) ((g - 1) % 8)))))
+
+  is-joined : v .joined ≡ true → lastKey rs ≡ memberKey (r .member)
+  is-joined e = sym (eqb-true (v .key) (lastKey rs) (sym (s .joined) ∙ e)) ∙ s .key
+
+  is-new : v .joined ≡ false → lastKey rs < memberKey (r .member)
+  is-new e = let n = eqb-false (v .key) (lastKey rs) (sym (s .joined) ∙ e) in omega (arith, s .follows, s .key)
+
+  pub ordered-more : Ordered (rowsBefore b (row + 1))
+  ordered-more = rw rows-after (ordered-after rs r o (omega (arith, s .some, s .key)) (omega (arith, s .follows, s .key)))
+
+  -- a member is there once a row is
+  pub members-some : {n : ℕ} → n ≡ length (members rs) → 1 ≤ cond (v .joined) n (n + 1)
+  members-some e =
+      split (v .joined) (λ j. rw j (omega (arith, o .some (omega (arith, is-joined j, s .some, s .key))))) (λ j. rw j (omega arith))
+
+  pub columns-more : {n m : ℕ} {t u : List ℕ} → ColumnsFilled rs n t → m ≡ cond (v .joined) n (n + 1) → RowPut b (v .bits) (m - 1) t u
+      → ColumnsFilled (rowsBefore b (row + 1)) m u
+  columns-more {n} {m} {t} {u} f e p =
+      rw rows-after
+      (split (v .joined)
+      (λ j. let same : m ≡ length (members rs) = e ∙ (rw j (f .number)) in
+      let some : 1 ≤ lastKey rs = omega (arith, is-joined j, s .some, s .key) in
+      record {
+        number = rw (members-joined rs r (is-joined j) some) same;
+        each = λ g i x y l.
+            p .each g i x y l
+            ∙ (rw (f .each g i x y l, same, ← bit-of g y) (sym (joined-in rs r o (is-joined j) some i g)));
+      })
+      (λ j. let more : m ≡ length (members rs) + 1 = e ∙ (rw (j, f .number)) in
+      let index : length (members rs) + 1 - 1 ≡ length (members rs) = omega arith in
+      record {
+        number = rw (members-new rs r (is-new j), length-append (members rs) (r .member ∷ [])) more;
+        each = λ g i x y l.
+            p .each g i x y l
+            ∙ (rw (f .each g i x y l, more, index, ← bit-of g y) (sym (new-in rs r o (is-new j) i g)));
+      }))

@@ -19,7 +19,7 @@ use Rattle.meaning.proofs.SonLaws.{son-parent}
 use Rattle.laws.specs.Cases.{and-true, or-left, or-right, split, compare-le}
 use Rattle.registers.specs.Columns.{columnDigit, inColumn, columnSets, WordsFor}
 use Rattle.registers.specs.Joins.{asksSons, heldBy, Joined}
-use Rattle.registers.specs.RuleTests.{parentIn, loIn, hiIn, modeIn, mayBreak, rowBreaks, countBreaks}
+use Rattle.registers.specs.RuleTests.{parentIn, loIn, hiIn, modeIn, mayBreak, memberBreaks, countBreaks}
 use Rattle.registers.proofs.ColumnLaws.{bit-column, column-one, one-column}
 use Rattle.registers.proofs.JoinLaws.{none-held, held-none, two-held, held-two}
 
@@ -50,65 +50,65 @@ may s several g shared = s .disjoint g && several
 may s several g below = false
 may s several g above = false
 
--- A rule of one member is broken exactly by a row that breaks it, where it can be broken. Columns have no digits after row n.
+-- A rule of one member is broken exactly by a member that breaks it, where it can be broken. Columns have no digits from member n on.
 module _ (s : Sheet) (T : Tree s) (c : List ℕ) (n words : ℕ) (some two : List ℕ) (g : ℕ) (f : WordsFor n words)
     (others : (h i : ℕ) → Group s h → n ≤ i → i < rowLimit → columnDigit c h i ≡ 0) (y : Group s g)
     (several : Bool) (two-sons : (h j : ℕ) → Son s g h → Son s g j → h < j → several ≡ true)
     (k : (q : Rule) → 3 ≤ ruleNumber q → may s several g q ≡ true → Joined (sonList s g) c words some two) where
-  in-rows : (h i : ℕ) → Group s h → i < wordBits * words → inColumn c h i ≡ true → i < n
-  in-rows h i z o e =
+  in-members : (h i : ℕ) → Group s h → i < wordBits * words → inColumn c h i ≡ true → i < n
+  in-members h i z o e =
       compare-le n i
       (λ m. absurd (omega (arith, column-one c h i e, others h i z m (omega (arith, f .most)))))
       (λ m. m)
 
-  pub by-row : (q : Rule) (i : ℕ) → ruleNumber q < 5 → i < wordBits * words → may s several g q ≡ true
-      → rowBreaks (ruleNumber q) c some two g (s .parent g) i ≡ true
+  pub by-member : (q : Rule) (i : ℕ) → ruleNumber q < 5 → i < wordBits * words → may s several g q ≡ true
+      → memberBreaks (ruleNumber q) c some two g (s .parent g) i ≡ true
       → Broken s (columnSets c n) g q
-  unfolding rowBreaks
-  by-row outside i l o m e =
+  unfolding memberBreaks
+  by-member outside i l o m e =
       let x = and-true (inColumn c g i) (not (inColumn c (s .parent g) i)) e in (
         s .parent g,
         i,
         record { above = ltb-true 0 (s .parent g) m; group = y; under = refl },
-        in-rows g i y o (x .0),
+        in-members g i y o (x .0),
         x .0,
         not-true _ (x .1),
       )
-  by-row lacking i l o m e =
+  by-member lacking i l o m e =
       let x = and-true (inColumn c (s .parent g) i) (not (inColumn c g i)) e in
       let v = and-true (ltb 0 (s .parent g)) (s .same (s .parent g)) m in
       let z : Son s (s .parent g) g = record { above = ltb-true 0 (s .parent g) (v .0); group = y; under = refl } in
-      (s .parent g, i, z, v .1, in-rows (s .parent g) i (son-parent T z) o (x .0), x .0, not-true _ (x .1))
-  by-row uncovered i l o m e =
+      (s .parent g, i, z, v .1, in-members (s .parent g) i (son-parent T z) o (x .0), x .0, not-true _ (x .1))
+  by-member uncovered i l o m e =
       let x = and-true (inColumn c g i) (not (inColumn some 0 i)) e in (
         i,
         m,
-        in-rows g i y o (x .0),
+        in-members g i y o (x .0),
         x .0,
         none-held s c g i (some-false (k uncovered (omega arith) m) i o (not-true _ (x .1))),
       )
-  by-row shared i l o m e =
+  by-member shared i l o m e =
       let x = two-held s c g i (two-true (k shared (omega arith) m) i o e) in
-      (x .0, x .1, i, and-true (s .disjoint g) several m .0, x .2, x .3, x .4, in-rows (x .0) i (x .2 .group) o (x .5), x .5, x .6)
-  by-row below i l o m e = absurd (omega arith)
-  by-row above i l o m e = absurd (omega arith)
+      (x .0, x .1, i, and-true (s .disjoint g) several m .0, x .2, x .3, x .4, in-members (x .0) i (x .2 .group) o (x .5), x .5, x .6)
+  by-member below i l o m e = absurd (omega arith)
+  by-member above i l o m e = absurd (omega arith)
 
-  pub row-of : (q : Rule) → ruleNumber q < 5 → Broken s (columnSets c n) g q
-      → (may s several g q ≡ true) × ((i : ℕ) × (i < wordBits * words) × (rowBreaks (ruleNumber q) c some two g (s .parent g) i ≡ true))
-  unfolding rowBreaks
-  row-of outside l (p, i, z, o, a, b) =
+  pub member-of : (q : Rule) → ruleNumber q < 5 → Broken s (columnSets c n) g q
+      → (may s several g q ≡ true) × ((i : ℕ) × (i < wordBits * words) × (memberBreaks (ruleNumber q) c some two g (s .parent g) i ≡ true))
+  unfolding memberBreaks
+  member-of outside l (p, i, z, o, a, b) =
       (lt-ltb 0 (s .parent g) (omega arith), (i, omega (arith, f .enough), rw (z .under, a, b)))
-  row-of lacking l (p, i, z, m, o, a, b) =
+  member-of lacking l (p, i, z, m, o, a, b) =
       (rw (lt-ltb 0 (s .parent g) (omega arith), z .under) m, (i, omega (arith, f .enough), rw (z .under, a, b)))
-  row-of uncovered l (i, m, o, a, h) =
+  member-of uncovered l (i, m, o, a, h) =
       let w : i < wordBits * words = omega (arith, f .enough) in
       (m, (i, w, rw (a, false-some (k uncovered (omega arith) m) i w (held-none s c g i h))))
-  row-of shared l (h, j, i, m, z, d, x, o, a, b) =
+  member-of shared l (h, j, i, m, z, d, x, o, a, b) =
       let w : i < wordBits * words = omega (arith, f .enough) in
       let v : may s several g shared ≡ true = rw (m, two-sons h j z d x) in
       (v, (i, w, true-two (k shared (omega arith) v) i w (held-two s c g i h j z d x a b)))
-  row-of below l v = absurd (omega arith)
-  row-of above l v = absurd (omega arith)
+  member-of below l v = absurd (omega arith)
+  member-of above l v = absurd (omega arith)
 
 pub rule-first : (q : Rule) → 1 ≤ ruleNumber q
 rule-first outside = omega arith

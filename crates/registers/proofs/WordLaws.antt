@@ -1,4 +1,4 @@
--- The rows of a word that pass a test, as its digits; whether some row of several words does.
+-- The members of a word that pass a test, as its digits; whether some member of several words does.
 use Prim.Native.Nat.{ℕ, _+_, _-_, _*_, _^_, _≤_, _<_}
 use mathlib.Core.Path.{_≡_, _∙_}
 use mathlib.Core.Bool.{Bool, true, false, not, _&&_}
@@ -15,7 +15,7 @@ use Rattle.laws.specs.SumLaws.{bit-true}
 use Rattle.laws.specs.Digits.{digit-of-zero, digit-some, digit-less}
 use Rattle.rows.specs.RowsRead.{wordBits}
 use Rattle.registers.specs.Columns.{columnWord, inColumn}
-use Rattle.registers.specs.RuleTests.{RowsPassing, SomeRow}
+use Rattle.registers.specs.RuleTests.{MembersPassing, SomeMember}
 use Rattle.registers.proofs.ColumnLaws.{digit-at, bit-column}
 
 -- a word of a table that has one column
@@ -23,20 +23,20 @@ pub first-word : (t : List ℕ) (w : ℕ) → getD t w 0 ≡ getD t (columnWord 
 first-word t w = let e : columnWord 0 w ≡ w = omega arith in rw e
 
 -- the digits of one column's word, and those that another's lacks
-pub rows-in : (t : List ℕ) (g w : ℕ) {a : ℕ} → a ≡ getD t (columnWord g w) 0 → RowsPassing (inColumn t g) w a
-rows-in t g w x = record { each = λ j l. rw (x, bit-column t g (wordBits * w + j)) (let d = digit-at t g w j l in omega arith) }
+pub members-in : (t : List ℕ) (g w : ℕ) {a : ℕ} → a ≡ getD t (columnWord g w) 0 → MembersPassing (inColumn t g) w a
+members-in t g w x = record { each = λ j l. rw (x, bit-column t g (wordBits * w + j)) (let d = digit-at t g w j l in omega arith) }
 
-pub passing-as : {f h : ℕ → Bool} {w word : ℕ} → ((i : ℕ) → h i ≡ f i) → RowsPassing f w word → RowsPassing h w word
+pub passing-as : {f h : ℕ → Bool} {w word : ℕ} → ((i : ℕ) → h i ≡ f i) → MembersPassing f w word → MembersPassing h w word
 passing-as e p = record { each = λ j l. p .each j l ∙ (rw (e _)) }
 
-pub rows-lack : (c d : List ℕ) (g p w : ℕ) {a b r : ℕ} → a ≡ getD c (columnWord g w) 0 → b ≡ getD d (columnWord p w) 0
-    → r ≡ a - bitAnd a b → RowsPassing (λ i. inColumn c g i && not (inColumn d p i)) w r
-rows-lack c d g p w {a} {b} x y z =
+pub members-lack : (c d : List ℕ) (g p w : ℕ) {a b r : ℕ} → a ≡ getD c (columnWord g w) 0 → b ≡ getD d (columnWord p w) 0
+    → r ≡ a - bitAnd a b → MembersPassing (λ i. inColumn c g i && not (inColumn d p i)) w r
+members-lack c d g p w {a} {b} x y z =
     record {
       each = λ j l.
           rw z
           (digit-less a b j
-          ∙ both (inColumn c g (wordBits * w + j)) (inColumn d p (wordBits * w + j)) (rows-in c g w x .each j l) (rows-in d p w y .each j l));
+          ∙ both (inColumn c g (wordBits * w + j)) (inColumn d p (wordBits * w + j)) (members-in c g w x .each j l) (members-in d p w y .each j l));
     }
   where
     both : (m n : Bool) {h k : ℕ} → h ≡ bit m → k ≡ bit n → h - k ≡ bit (m && not n)
@@ -45,17 +45,17 @@ rows-lack c d g p w {a} {b} x y z =
     both false true u v = omega arith
     both false false u v = omega arith
 
--- of the rows before `to`, and not before `from`, some passes a test exactly where a number is not 0
-pub record RowsSeen (f : ℕ → Bool) (from to all : ℕ) : Type 0 where
+-- of the members before `to`, and not before `from`, some passes a test exactly where a number is not 0
+pub record MembersSeen (f : ℕ → Bool) (from to all : ℕ) : Type 0 where
   pub some : (all ≡ 0 → ⊥) → (i : ℕ) × (from ≤ i) × (i < to) × (f i ≡ true)
   pub none : all ≡ 0 → (i : ℕ) → from ≤ i → i < to → f i ≡ false
 
-pub rows-seen-none : (f : ℕ → Bool) (from : ℕ) → RowsSeen f from from 0
-rows-seen-none f from = record { some = λ e. absurd (omega arith); none = λ e i a b. absurd (omega arith) }
+pub members-seen-none : (f : ℕ → Bool) (from : ℕ) → MembersSeen f from from 0
+members-seen-none f from = record { some = λ e. absurd (omega arith); none = λ e i a b. absurd (omega arith) }
 
-pub rows-seen-more : {f : ℕ → Bool} {from w all word : ℕ} → RowsSeen f from (wordBits * w) all → from ≤ wordBits * w → RowsPassing f w word
-    → word < 2 ^ 64 → RowsSeen f from (wordBits * (w + 1)) (bitOr all word)
-rows-seen-more {f} {from} {w} {all} {word} s o p l =
+pub members-seen-more : {f : ℕ → Bool} {from w all word : ℕ} → MembersSeen f from (wordBits * w) all → from ≤ wordBits * w → MembersPassing f w word
+    → word < 2 ^ 64 → MembersSeen f from (wordBits * (w + 1)) (bitOr all word)
+members-seen-more {f} {from} {w} {all} {word} s o p l =
     record {
       some = λ e.
           compare-eq all 0
@@ -74,8 +74,8 @@ rows-seen-more {f} {from} {w} {all} {word} s o p l =
     positive : all ≡ 0 → (bitOr all word ≡ 0 → ⊥) → 0 < word
     positive z e = let x : word ≡ 0 → ⊥ = λ y. e (rw (z, y) (or-zero-l 0)) in omega arith
 
-pub rows-seen-all : {f : ℕ → Bool} {from to all : ℕ} → RowsSeen f from to all → SomeRow f from to (not (eqb all 0))
-rows-seen-all {f} {from} {to} {all} s =
+pub members-seen-all : {f : ℕ → Bool} {from to all : ℕ} → MembersSeen f from to all → SomeMember f from to (not (eqb all 0))
+members-seen-all {f} {from} {to} {all} s =
     record {
       some = λ x. s .some (eqb-false all 0 (not-true _ x));
       none = λ x. s .none (eqb-true all 0 (not-false _ x));

@@ -1,5 +1,5 @@
--- The steps to the columns: a row's digit is set for one group, for the groups of a word, for all groups of the row; and the
--- counts that are read off.
+-- The steps to the columns: a member's digit is set for one group, for the groups of a word, for all groups of one of its rows;
+-- and the counts that are read off.
 use Prim.Native.Nat.{ℕ, _+_, _-_, _*_, _≤_, _<_, max}
 use mathlib.Core.Path.{_≡_}
 use mathlib.Core.Bool.{cond}
@@ -20,9 +20,9 @@ pub record LowestGroup (before word g : ℕ) : Type 0 where
   pub numbered : g ≡ before + place + 1
   pub lowest : Lowest word place (bitAnd word (word - 1))
 
--- from t to u, row's digit is set in the columns of the groups that have the bit f
-pub record Put (f : ℕ → ℕ) (row : ℕ) (t u : List ℕ) : Type 0 where
-  pub each : (g i : ℕ) → 1 ≤ g → g ≤ rowGroups → i < rowLimit → columnDigit u g i ≡ max (columnDigit t g i) (cond (eqb i row) (f g) 0)
+-- from t to u, the member's digit is set in the columns of the groups that have the bit f
+pub record Put (f : ℕ → ℕ) (member : ℕ) (t u : List ℕ) : Type 0 where
+  pub each : (g i : ℕ) → 1 ≤ g → g ≤ rowGroups → i < rowLimit → columnDigit u g i ≡ max (columnDigit t g i) (cond (eqb i member) (f g) 0)
 
 -- for one group, for the digits of a word that comes after `before` groups, for the bits of the bytes from a place on
 abbrev pub GroupPut : ℕ → ℕ → List ℕ → List ℕ → Type 0

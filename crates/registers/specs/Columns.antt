@@ -1,26 +1,30 @@
 -- Membership as columns: for each group a column of digits, 64 members a word, member i being digit i mod 64 of word i div 64.
 -- A table has the columns one behind the other, by the groups' numbers.
-use Prim.Native.Nat.{ℕ, _+_, _-_, _*_, _/_, _%_, _≤_, _<_}
+use Prim.Native.Nat.{ℕ, _+_, _*_, _/_, _%_, _≤_, _<_}
 use mathlib.Core.Path.{_≡_}
-use mathlib.Core.Bool.{Bool, cond}
+use mathlib.Core.Bool.{Bool}
 use mathlib.Core.List.{List}
-use lib.ListN.{getD}
-use lib.Dec.{ltb, eqb}
+use lib.ListN.{length, getD}
+use lib.Dec.{eqb}
+use Rattle.laws.specs.Sum.{bit}
 use Rattle.laws.specs.Digits.{digit}
 use Rattle.wire.specs.Limits.{rowLimit}
+use Rattle.wire.specs.RegisterFormat.{Row}
 use Rattle.meaning.specs.Sets.{Sets, Distinct, numbered}
-use Rattle.rows.specs.RowsRead.{wordBits, rowGroups, bitsPlace, bitAt}
+use Rattle.meaning.specs.OfRecords.{members}
+use Rattle.meaning.specs.ReadableRows.{memberIn}
+use Rattle.rows.specs.RowsRead.{wordBits, rowGroups}
 
--- the words of a column: a digit for each row
+-- the words of a column: a digit for each member, who are no more than the rows
 abbrev pub columnWords : ℕ
 columnWords = 32
 
--- so many words are looked at together, and so many rows with them
+-- so many words are looked at together, and so many members with them
 abbrev pub blockWords : ℕ
 blockWords = 8
 
-abbrev pub blockRows : ℕ
-blockRows = wordBits * blockWords
+abbrev pub blockMembers : ℕ
+blockMembers = wordBits * blockWords
 
 -- places of a table by group: group numbers start at 1, and place 0 is for none
 abbrev pub groupPlaces : ℕ
@@ -47,7 +51,7 @@ columnSets t n = numbered n (inColumn t)
 pub columns-distinct : (t : List ℕ) (n : ℕ) → Distinct (columnSets t n)
 columns-distinct t n = record { once = λ i j k l e. e }
 
--- so many words have a digit for each of n rows, and a column has as many
+-- so many words have a digit for each of n members, and a column has as many
 pub record WordsFor (n words : ℕ) : Type 0 where
   pub enough : n ≤ wordBits * words
   pub most : words ≤ columnWords
@@ -56,6 +60,7 @@ pub record WordsFor (n words : ℕ) : Type 0 where
 abbrev pub BlocksFor : ℕ → ℕ → Type 0
 BlocksFor n blocks = WordsFor n (blockWords * blocks)
 
--- the columns have the bits of the first n rows of a register, and no others
-pub record ColumnsFilled (b : List ℕ) (n : ℕ) (t : List ℕ) : Type 0 where
-  pub each : (g i : ℕ) → 1 ≤ g → g ≤ rowGroups → i < rowLimit → columnDigit t g i ≡ cond (ltb i n) (bitAt b (bitsPlace i) (g - 1)) 0
+-- the columns of n members have a digit for each member of the rows, in the groups of all its rows, and no others
+pub record ColumnsFilled (rs : List Row) (n : ℕ) (t : List ℕ) : Type 0 where
+  pub number : n ≡ length (members rs)
+  pub each : (g i : ℕ) → 1 ≤ g → g ≤ rowGroups → i < rowLimit → columnDigit t g i ≡ bit (memberIn rs i g)

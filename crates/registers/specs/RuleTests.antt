@@ -1,5 +1,5 @@
--- The tests that the scan makes: whether a rule of one member can be broken at a group, whether a row breaks it, whether some
--- row of several words does, whether a count does. Rules go by document 01's numbers.
+-- The tests that the scan makes: whether a rule of one member can be broken at a group, whether a member breaks it, whether some
+-- member of several words does, whether a count does. Rules go by document 01's numbers.
 use Prim.Native.Nat.{ℕ, _+_, _-_, _*_, _≤_, _<_}
 use mathlib.Core.Path.{_≡_}
 use mathlib.Core.Bool.{Bool, true, false, cond, not, _&&_}
@@ -40,10 +40,10 @@ mayBreak t several g k =
     (coverMode (modeIn t g))
     (disjointMode (modeIn t g) && several)
 
--- whether row i of the columns c breaks rule k at group g, whose parent is p; column 0 of `some` and of `two` tells who is in
+-- whether member i of the columns c breaks rule k at group g, whose parent is p; column 0 of `some` and of `two` tells who is in
 -- some son and who is in two
-unfoldable pub rowBreaks : ℕ → List ℕ → List ℕ → List ℕ → ℕ → ℕ → ℕ → Bool
-rowBreaks k c some two g p i =
+unfoldable pub memberBreaks : ℕ → List ℕ → List ℕ → List ℕ → ℕ → ℕ → ℕ → Bool
+memberBreaks k c some two g p i =
     byRule
     k
     (inColumn c g i && not (inColumn c p i))
@@ -51,12 +51,12 @@ rowBreaks k c some two g p i =
     (inColumn c g i && not (inColumn some 0 i))
     (inColumn two 0 i)
 
--- the digits of a word tell which of its rows pass a test
-pub record RowsPassing (f : ℕ → Bool) (w word : ℕ) : Type 0 where
+-- the digits of a word tell which of its members pass a test
+pub record MembersPassing (f : ℕ → Bool) (w word : ℕ) : Type 0 where
   pub each : (j : ℕ) → j < wordBits → digit word j ≡ bit (f (wordBits * w + j))
 
--- whether some row before `to`, and not before `from`, passes a test
-pub record SomeRow (f : ℕ → Bool) (from to : ℕ) (r : Bool) : Type 0 where
+-- whether some member before `to`, and not before `from`, passes a test
+pub record SomeMember (f : ℕ → Bool) (from to : ℕ) (r : Bool) : Type 0 where
   pub some : r ≡ true → (i : ℕ) × (from ≤ i) × (i < to) × (f i ≡ true)
   pub none : r ≡ false → (i : ℕ) → from ≤ i → i < to → f i ≡ false
 

@@ -26,10 +26,10 @@ sonStarts = groupPlaces + 1
 pub record Counted {X : Type 0} (s : Sheet) (A : Sets X) (t : List ℕ) : Type 0 where
   pub each : (g : ℕ) → Group s g → getD t g 0 ≡ count A g
 
--- all that the scan takes: the columns c of n rows, the lists of sons, the counts u, and two tables of a column each
+-- all that the scan takes: the columns c of n members, the lists of sons, the counts u, and two tables of a column each
 pub record Gathered (t : List ℕ) (size : ℕ) (c : List ℕ) (n : ℕ) (starts order u some two : List ℕ) : Type 0 where
   pub columns : columnsLength ≤ length c
-  pub rows : n ≤ rowLimit
+  pub members : n ≤ rowLimit
   pub others : (g i : ℕ) → Group (sheetIn t size) g → n ≤ i → i < rowLimit → columnDigit c g i ≡ 0
   pub sons : SonsListed (sheetIn t size) starts order
   pub places : groupPlaces ≤ length u

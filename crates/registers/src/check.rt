@@ -27,12 +27,12 @@ ghost use lib.Bits.{bitAnd};
 ghost use Rattle.wire.specs.Edition.{edition1};
 ghost use Rattle.wire.specs.RegisterFormat.{readRegister};
 ghost use Rattle.reading.specs.SheetIn.{sheetIn};
-ghost use Rattle.registers.specs.Columns.{blockRows, groupPlaces, columnSets};
+ghost use Rattle.registers.specs.Columns.{blockMembers, groupPlaces, columnSets};
 ghost use Rattle.registers.specs.Tallies.{Checkable, Gathered, Joinable, WordAsked, BlockAsked};
 ghost use Rattle.registers.specs.SonLists.{keptSons};
 ghost use Rattle.registers.specs.SonSteps.{severalSons};
 ghost use Rattle.registers.specs.Joins.{asksSons, JoinedFor};
-ghost use Rattle.registers.specs.RuleTests.{parentIn, modeIn, mayBreak, RowsPassing, SomeRow, rowBreaks, countBreaks};
+ghost use Rattle.registers.specs.RuleTests.{parentIn, modeIn, mayBreak, MembersPassing, SomeMember, memberBreaks, countBreaks};
 ghost use Rattle.registers.specs.Checked.{AnswerTo, Checked, Tallied};
 
 // The listed sets fit; a group's number with the number of the rule that it breaks first; or a refusal's number with the row's.
@@ -72,7 +72,7 @@ fn beyond(word: u64, other: u64) -> u64
     word - (word & other)
 }
 
-// the rows of a word that break one of the rules 1 to 4 at a group, where the rule can be broken
+// the members of a word that break one of the rules 1 to 4 at a group, where the rule can be broken
 fn breaking(
     rule: u16,
     columns: &[u64],
@@ -83,7 +83,7 @@ fn breaking(
     p: GroupNo,
 ) -> u64
     requires { ⌜ WordAsked (now columns) (now some) (now two) w (g .0) (p .0) ⌝ }
-    ensures { λ r. ⌜ RowsPassing (rowBreaks rule (now (columns .entry)) (now (some .entry)) (now (two .entry)) (g .0) (p .0)) w r ⌝ }
+    ensures { λ r. ⌜ MembersPassing (memberBreaks rule (now (columns .entry)) (now (some .entry)) (now (two .entry)) (g .0) (p .0)) w r ⌝ }
 {
     if rule == 1 {
         return beyond(column_word(columns, g, w), column_word(columns, p, w));
@@ -97,7 +97,7 @@ fn breaking(
     two[w]
 }
 
-// whether some row of a block does
+// whether some member of a block does
 fn block_breaks(
     rule: u16,
     columns: &[u64],
@@ -108,7 +108,7 @@ fn block_breaks(
     p: GroupNo,
 ) -> bool
     requires { ⌜ BlockAsked (now columns) (now some) (now two) b (g .0) (p .0) ⌝ }
-    ensures { λ r. ⌜ SomeRow (rowBreaks rule (now (columns .entry)) (now (some .entry)) (now (two .entry)) (g .0) (p .0)) (blockRows * b) (blockRows * (b + 1)) r ⌝ }
+    ensures { λ r. ⌜ SomeMember (memberBreaks rule (now (columns .entry)) (now (some .entry)) (now (two .entry)) (g .0) (p .0)) (blockMembers * b) (blockMembers * (b + 1)) r ⌝ }
 {
     let mut broken = 0u64;
     for k in 0..BLOCK_WORDS {
@@ -165,7 +165,7 @@ fn join_asked(
     }
 }
 
-// The scan over groups, rules and rows, a block of rows at a time, left at the first broken rule.
+// The scan over groups, rules and members, a block of members at a time, left at the first broken rule.
 fn scan(
     groups: &[u16],
     size: u16,
@@ -221,9 +221,9 @@ pub fn check_register(groups: &[u16], size: u16, register: &[u8], counts: &mut [
     gather_sons(groups, size, &mut starts, &mut order);
     match read_rows(register, size) {
         Rows::Refused(refusal, row) => Check::Refused(refusal, row),
-        Rows::Count(n) => {
+        Rows::Count(rows) => {
             let mut columns = [0u64; COLUMNS];
-            fill_columns(register, n, &mut columns);
+            let n = fill_columns(register, rows, &mut columns);
             count_groups(&columns, size, BLOCK_WORDS * blocks_for(n), counts);
             let mut some = [0u64; COLUMN_WORDS];
             let mut two = [0u64; COLUMN_WORDS];

@@ -1,6 +1,7 @@
-// A column of bits for each group: bit i is set where the member of row i is in the group, 64 rows a word. The groups of a row
-// are taken lowest bit first; as many are left to take as there are ones left.
-use crate::limits::BLOCK_ROWS;
+// A column of bits for each group: bit i is set where member i is in the group, 64 members a word. Rows that go on with one
+// member set its bit in the groups of each. The groups of a row are taken lowest bit first; as many are left to take as there
+// are ones left.
+use crate::limits::BLOCK_MEMBERS;
 use crate::limits::COLUMN_WORDS;
 use reading::tables::GroupNo;
 use rows::decode::RowAnswer;
@@ -9,6 +10,7 @@ use rows::limits::ROW_WORDS;
 use rows::limits::WORD_BITS;
 use rows::reader::row_of;
 ghost use mathlib.Core.Path.{_≡_};
+ghost use mathlib.Core.Bool.{cond};
 ghost use Prim.Native.Nat.{_+_, _-_, _*_, _≤_, _<_};
 ghost use lib.ListN.{length, getD};
 ghost use lib.Bits.{bitAnd};
@@ -16,7 +18,7 @@ ghost use lib.Count.{ones};
 ghost use Rattle.laws.specs.Digits.{Lowest};
 ghost use Rattle.wire.specs.Limits.{rowLimit};
 ghost use Rattle.wire.specs.Edition.{edition1, membershipBytes};
-ghost use Rattle.rows.specs.RowsRead.{wordBits, rowGroups, RowsReadable};
+ghost use Rattle.rows.specs.RowsRead.{wordBits, rowGroups, rowsBefore, RowsReadable};
 ghost use Rattle.registers.specs.Columns.{columnsLength, columnWord, BlocksFor, ColumnsFilled};
 ghost use Rattle.registers.specs.ColumnSteps.{LowestGroup, GroupPut, WordPut, RowPut, Empty};
 
@@ -59,65 +61,82 @@ pub fn column_word(columns: &[u64], g: GroupNo, w: usize) -> u64
     columns[COLUMN_WORDS * (g.0 as usize) + w]
 }
 
-// the blocks of words that have a bit for each of n rows
+// the blocks of words that have a bit for each of n members
 pub fn blocks_for(n: usize) -> usize
     requires { ⌜ n ≤ rowLimit ⌝ }
     ensures { λ r. ⌜ BlocksFor n r ⌝ }
 {
-    (n + BLOCK_ROWS - 1) / BLOCK_ROWS
+    (n + BLOCK_MEMBERS - 1) / BLOCK_MEMBERS
 }
 
-// a row's bit in a group's column
-fn put_group(columns: &mut [u64], g: GroupNo, row: usize)
-    requires { ⌜ (g .0 ≤ rowGroups) × ((row < rowLimit) × (columnsLength ≤ length (now columns))) ⌝ }
-    ensures { λ _. ⌜ GroupPut (g .0) row (now (columns .entry)) (now (columns .exit)) ⌝ }
+// a member's bit in a group's column
+fn put_group(columns: &mut [u64], g: GroupNo, member: usize)
+    requires { ⌜ (g .0 ≤ rowGroups) × ((member < rowLimit) × (columnsLength ≤ length (now columns))) ⌝ }
+    ensures { λ _. ⌜ GroupPut (g .0) member (now (columns .entry)) (now (columns .exit)) ⌝ }
 {
-    let at = COLUMN_WORDS * (g.0 as usize) + row / WORD_BITS as usize;
-    columns[at] = columns[at] | (1u64 << (row % WORD_BITS as usize));
+    let at = COLUMN_WORDS * (g.0 as usize) + member / WORD_BITS as usize;
+    columns[at] = columns[at] | (1u64 << (member % WORD_BITS as usize));
 }
 
-// a row's bit in the columns of the groups of one word
-fn put_word(word: u64, before: u16, row: usize, columns: &mut [u64])
-    requires { ⌜ (before + wordBits ≤ rowGroups) × ((row < rowLimit) × (columnsLength ≤ length (now columns))) ⌝ }
-    ensures { λ _. ⌜ WordPut word before row (now (columns .entry)) (now (columns .exit)) ⌝ }
+// a member's bit in the columns of the groups of one word
+fn put_word(word: u64, before: u16, member: usize, columns: &mut [u64])
+    requires { ⌜ (before + wordBits ≤ rowGroups) × ((member < rowLimit) × (columnsLength ≤ length (now columns))) ⌝ }
+    ensures { λ _. ⌜ WordPut word before member (now (columns .entry)) (now (columns .exit)) ⌝ }
 {
     let mut left = word;
     let mut number = groups_in(left);
     while number != 0 {
-        put_group(columns, lowest_group(left, before), row);
+        put_group(columns, lowest_group(left, before), member);
         left = rest_of(left);
         number = groups_in(left);
     }
 }
 
-// a row's bit in the columns of its groups
-fn put_row(register: &[u8], place: usize, row: usize, columns: &mut [u64])
-    requires { ⌜ (place + membershipBytes edition1 ≤ length (now register)) × ((row < rowLimit) × (columnsLength ≤ length (now columns))) ⌝ }
-    ensures { λ _. ⌜ RowPut (now (register .entry)) place row (now (columns .entry)) (now (columns .exit)) ⌝ }
+// a member's bit in the columns of the groups of one of its rows
+fn put_row(register: &[u8], place: usize, member: usize, columns: &mut [u64])
+    requires { ⌜ (place + membershipBytes edition1 ≤ length (now register)) × ((member < rowLimit) × (columnsLength ≤ length (now columns))) ⌝ }
+    ensures { λ _. ⌜ RowPut (now (register .entry)) place member (now (columns .entry)) (now (columns .exit)) ⌝ }
 {
     for k in 0..ROW_WORDS {
-        put_word(word_at(register, place, k), WORD_BITS * k, row, columns);
+        put_word(word_at(register, place, k), WORD_BITS * k, member, columns);
     }
 }
 
-// The columns of the first n rows of a register that was read: the reader walks them again, and finds each at its place.
-pub fn fill_columns(register: &[u8], n: usize, columns: &mut [u64])
-    requires { ⌜ (n ≤ rowLimit) × (RowsReadable (now register) n × ((columnsLength ≤ length (now columns)) × Empty (now columns))) ⌝ }
-    ensures { λ _. ⌜ ColumnsFilled (now (register .entry)) n (now (columns .exit)) ⌝ }
+// how many members there are with one row more, which is joined to the row before or not
+fn with_row(members: usize, joined: bool) -> usize
+    requires { ⌜ members < rowLimit ⌝ }
+    ensures { λ n. ⌜ n ≡ cond joined members (members + 1) ⌝ }
+{
+    if joined {
+        return members;
+    }
+    members + 1
+}
+
+// The columns of the rows of a register that was read, and how many members they have: the reader walks them again, finds each at
+// its place, and tells which go on with the member before.
+pub fn fill_columns(register: &[u8], rows: usize, columns: &mut [u64]) -> usize
+    requires { ⌜ (rows ≤ rowLimit) × (RowsReadable (now register) rows × ((columnsLength ≤ length (now columns)) × Empty (now columns))) ⌝ }
+    ensures { λ n. ⌜ ColumnsFilled (rowsBefore (now (register .entry)) rows) n (now (columns .exit)) ⌝ }
 {
     let mut at = 0;
-    for row in 0..n {
-        match row_of(register, at) {
+    let mut last = 0u64;
+    let mut members = 0;
+    for row in 0..rows {
+        match row_of(register, at, last) {
             RowAnswer::Row(r) => {
-                put_row(register, r.bits, row, columns);
+                members = with_row(members, r.joined);
+                put_row(register, r.bits, members - 1, columns);
+                last = r.key;
                 at = r.next;
             }
             RowAnswer::End => {
-                return;
+                return members;
             }
             RowAnswer::Refused(_) => {
-                return;
+                return members;
             }
         }
     }
+    members
 }

@@ -1,6 +1,6 @@
 // The check of a register: once its rows are read, the first broken rule, if any, and the count of each group.
-// `sons` lists each group's sons, `columns` turns the rows into a column of bits for each group, `counts` counts columns,
-// `joins` puts the columns of sons together, `check` scans groups, rules and rows. Document 01, "Registers".
+// `sons` lists each group's sons, `columns` has a bit for each group and member, `counts` counts columns, `joins` puts the columns
+// of sons together, `check` scans groups, rules and members. Document 01, "Registers"; document 02, cards 2 and 3.
 pub mod check;
 pub mod columns;
 pub mod counts;

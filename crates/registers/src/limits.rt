@@ -6,15 +6,15 @@ use rows::limits::WORD_BITS;
 // Places by a group's number, 0 for none.
 pub const GROUP_PLACES: usize = GROUPS as usize + 1;
 
-// A column has a bit for each row, and the table of columns one column for each place.
+// A column has a bit for each member, of whom there are no more than rows, and the table of columns one column for each place.
 pub const COLUMN_WORDS: usize = ROWS / WORD_BITS as usize;
 
 pub const COLUMNS: usize = COLUMN_WORDS * GROUP_PLACES;
 
-// So many words of a column are looked at together, and so many rows with them.
+// So many words of a column are looked at together, and so many members with them.
 pub const BLOCK_WORDS: usize = 8;
 
-pub const BLOCK_ROWS: usize = BLOCK_WORDS * WORD_BITS as usize;
+pub const BLOCK_MEMBERS: usize = BLOCK_WORDS * WORD_BITS as usize;
 
 // Places where the sons of each group begin, and where those of the last one end; and places for all sons, who are fewer than
 // the groups.

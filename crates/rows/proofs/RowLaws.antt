@@ -2,41 +2,41 @@
 use Prim.Native.Nat.{ℕ, zero, suc, _+_, _-_, _*_, _/_, _≤_, _<_}
 use mathlib.Core.Path.{_≡_, refl, sym, _∙_}
 use mathlib.Core.Bool.{Bool, true, false, cond, not, _&&_}
-use mathlib.Core.List.{List, [], _∷_, _++_}
+use mathlib.Core.List.{List, [], _∷_, _++_, append-nil, append-assoc}
 use native.Mathlib.Omega.{arith}
 use native.Mathlib.Nat.{le-refl, add-zero}
 use native.Mathlib.Numerals.{add-one}
-use borrow.Author.Tests.{lt-ltb, le-ltb, le-leb, lt-leb, eq-eqb, ne-eqb, eqb-true, leb-true}
-use lib.ListN.{length, drop, getD, length-append, length-drop, List·getD-append}
-use lib.Seq.{getD-take, getD-drop, drop-drop, getD-at}
-use lib.Dec.{leb, eqb}
+use borrow.Author.Tests.{le-leb, lt-leb, eq-eqb, ne-eqb, eqb-true, leb-true, ltb-true, lt-ltb, le-ltb}
+use lib.ListN.{length, drop, length-append, length-drop}
+use lib.Seq.{getD-take, getD-drop, drop-drop}
+use lib.Dec.{leb, ltb, eqb}
 use Rattle.laws.specs.Cases.{split, and-true, compare-eq, below-suc}
 use Rattle.wire.specs.Limits.{rowLimit}
-use Rattle.wire.specs.Edition.{edition1, groupLimit, membershipBytes, rowBytes, rowKind}
+use Rattle.wire.specs.Edition.{edition1, groupLimit, membershipBytes, rowHead, rowBytes, rowKind}
+use Rattle.wire.specs.Member.{memberKey}
 use Rattle.wire.specs.Bytes.{u16At, u32At}
-use Rattle.wire.specs.Fields.{u16-drop, u32-drop, u32-halves}
+use Rattle.wire.specs.Fields.{u16-drop, u32-halves}
 use Rattle.wire.specs.Encoding.{Bytes}
 use Rattle.wire.specs.Facts.{u16-most}
 use Rattle.wire.specs.Record.{after, Reading, read, refused, onward, refusal}
-use Rattle.wire.specs.RegisterFormat.{Row, rowOf, inGroup, lastMember, clearAbove, rowTests, readRows, readRegister}
+use Rattle.wire.specs.RegisterFormat.{Row, memberOf, rowOf, inGroup, lastKey, clearAbove, rowTests, readRows, readRegister}
 use Rattle.wire.specs.Many.{Reads, stop, go}
-use Rattle.wire.specs.RowFacts.{last-member-behind}
-use Rattle.wire.specs.RoundTripRegister.{register-read}
-use Rattle.meaning.specs.ReadableRows.{noRow}
+use Rattle.wire.specs.RowFacts.{last-key-behind}
+use Rattle.wire.specs.RoundTripRegister.{testsAfter, register-read}
 use Rattle.rows.specs.declared.decode.RowFound.{RowFound}
 use Rattle.rows.specs.declared.decode.RowAnswer.the-variants as answer
-use Rattle.rows.specs.RowsRead.{rowGroups, Front, ended, held, turned, rowGives, frontAt, rowHead, fromRow, rowsBefore, bitsPlace, bitAt, Above, RowsReadable}
+use Rattle.rows.specs.RowsRead.{rowGroups, Front, ended, held, turned, rowGives, rowHeld, frontAt, fromRow, rowsBefore, bitsPlace, bitAt, Above, RowsReadable}
 
 -- group g of the row at a place is bit g - 1 of its membership bytes
 pub in-group-bit : (b : List ℕ) (at g : ℕ) → g ≤ rowGroups
     → inGroup (rowOf edition1 (drop at b)) g ≡ eqb (bitAt b (at + rowHead) (g - 1)) 1
 unfolding inGroup rowOf bitAt membershipBytes
 in-group-bit b at g m =
-    let q : at + (8 + (g - 1) / 8) ≡ at + 8 + (g - 1) / 8 = omega arith in
+    let q : at + (rowHead + (g - 1) / 8) ≡ at + rowHead + (g - 1) / 8 = omega arith in
     rw (
-      getD-take 16 (drop 8 (drop at b)) ((g - 1) / 8) 0 (omega arith),
-      getD-drop 8 (drop at b) ((g - 1) / 8) 0,
-      getD-drop at b (8 + (g - 1) / 8) 0,
+      getD-take (membershipBytes edition1) (drop rowHead (drop at b)) ((g - 1) / 8) 0 (omega arith),
+      getD-drop rowHead (drop at b) ((g - 1) / 8) 0,
+      getD-drop at b (rowHead + (g - 1) / 8) 0,
       q,
     )
 
@@ -79,30 +79,40 @@ frame-of b x =
     let t = and-true (leb (rowBytes edition1) (length b)) (eqb (u16At b 0) (rowBytes edition1 - 2)) (s .0) in
     (leb-true _ _ (t .0), eqb-true _ _ (t .1))
 
+-- the order that 12 asks for
+abbrev rowFollows : ℕ → List ℕ → Bool
+rowFollows last b = ltb 0 (memberKey (memberOf b)) && leb last (memberKey (memberOf b))
+
 -- what stands at a place
-module _ (b : List ℕ) (at : ℕ) where
-  abbrev rowHeld : Front
-  rowHeld = held (rowOf edition1 (drop at b) .member) (at + rowHead) (at + rowBytes edition1)
+module _ (b : List ℕ) (at last : ℕ) where
+  -- the row, once its frame is right
+  abbrev rowInOrder : Front
+  rowInOrder = cond (rowFollows last (drop at b)) (rowHeld b at last) (turned 12)
 
-  front-some : eqb (length (drop at b)) 0 ≡ false → frontAt b at ≡ cond (rowFramed (drop at b)) rowHeld (turned 11)
+  front-some : eqb (length (drop at b)) 0 ≡ false → frontAt b at last ≡ cond (rowFramed (drop at b)) rowInOrder (turned 11)
   unfolding frontAt rowTests refusal
-  front-some e = rw e (split (rowFramed (drop at b)) (λ x. rw x) (λ x. rw x))
+  front-some e =
+      rw e
+      (split (rowFramed (drop at b))
+      (λ x. rw x (split (rowFollows last (drop at b)) (λ y. rw y) (λ y. rw y)))
+      (λ x. rw x))
 
-  front-empty : length (drop at b) ≡ 0 → frontAt b at ≡ ended
+  front-empty : length (drop at b) ≡ 0 → frontAt b at last ≡ ended
   unfolding frontAt
   front-empty e = rw (eq-eqb (length (drop at b)) 0 e)
 
-  pub front-none : length b ≤ at → frontAt b at ≡ ended
+  pub front-none : length b ≤ at → frontAt b at last ≡ ended
   front-none l = front-empty (simp length-drop (omega arith))
 
-  front-more : at < length b → frontAt b at ≡ cond (rowFramed (drop at b)) rowHeld (turned 11)
+  front-more : at < length b → frontAt b at last ≡ cond (rowFramed (drop at b)) rowInOrder (turned 11)
   front-more l = front-some (ne-eqb (length (drop at b)) 0 (λ e. let z = rw length-drop at e in omega arith))
 
-  pub front-short : at < length b → length b < at + rowBytes edition1 → frontAt b at ≡ turned 11
+  pub front-short : at < length b → length b < at + rowBytes edition1 → frontAt b at last ≡ turned 11
   front-short k l = front-more k ∙ (rw (lt-leb (rowBytes edition1) (length (drop at b)) (simp length-drop (omega arith))))
 
   module _ (l : at + rowBytes edition1 ≤ length b) where
-    front-long : frontAt b at ≡ cond (eqb (u16At b at) (rowBytes edition1 - 2) && eqb (u16At b (at + 2)) (rowKind edition1)) rowHeld (turned 11)
+    front-long : frontAt b at last
+        ≡ cond (eqb (u16At b at) (rowBytes edition1 - 2) && eqb (u16At b (at + 2)) (rowKind edition1)) rowInOrder (turned 11)
     front-long =
         front-more (omega arith)
         ∙ (rw (
@@ -120,7 +130,7 @@ module _ (b : List ℕ) (at : ℕ) where
     unfolding membershipBytes rowKind
     framed-by k e = omega (arith, u32-halves b at, u16-most b k at, u16-most b k (at + 2))
 
-    pub front-frame : (u32At b at ≡ frame → ⊥) → frontAt b at ≡ turned 11
+    pub front-frame : (u32At b at ≡ frame → ⊥) → frontAt b at last ≡ turned 11
     front-frame n =
         front-long
         ∙ compare-eq (u16At b at) (rowBytes edition1 - 2)
@@ -129,52 +139,79 @@ module _ (b : List ℕ) (at : ℕ) where
         (λ y. rw (eq-eqb (u16At b at) (rowBytes edition1 - 2) x, ne-eqb (u16At b (at + 2)) (rowKind edition1) y)))
         (λ x. rw (ne-eqb (u16At b at) (rowBytes edition1 - 2) x))
 
-    pub front-row : Bytes b → u32At b at ≡ frame → {m : ℕ} → m ≡ u32At b (at + 4) → held m (at + rowHead) (at + rowBytes edition1) ≡ frontAt b at
-    unfolding rowOf
-    front-row k e x =
-        let w = framed-by k e in
-        rw (x, ← u32-drop at b 4)
-        (sym (front-long ∙ (rw (eq-eqb (u16At b at) (rowBytes edition1 - 2) (w .0), eq-eqb (u16At b (at + 2)) (rowKind edition1) (w .1)))))
+    -- the frame is right, and the member's key is known
+    module _ (k : Bytes b) (e : u32At b at ≡ frame) {key : ℕ} (x : key ≡ memberKey (memberOf (drop at b))) where
+      front-framed : frontAt b at last ≡ cond (ltb 0 key && leb last key) (held key (eqb key last) (at + rowHead) (at + rowBytes edition1)) (turned 12)
+      front-framed =
+          let w = framed-by k e in
+          rw x
+          (front-long
+          ∙ (rw (eq-eqb (u16At b at) (rowBytes edition1 - 2) (w .0), eq-eqb (u16At b (at + 2)) (rowKind edition1) (w .1))))
+
+      front-row : 0 < key → last ≤ key → frontAt b at last ≡ held key (eqb key last) (at + rowHead) (at + rowBytes edition1)
+      front-row l m = front-framed ∙ (rw (lt-ltb 0 key l, le-leb last key m))
+
+      pub front-rises : last < key → frontAt b at last ≡ held key false (at + rowHead) (at + rowBytes edition1)
+      front-rises l = front-row (omega arith) (omega arith) ∙ (rw (ne-eqb key last (λ z. omega arith)))
+
+      pub front-joined : 0 < key → key ≡ last → frontAt b at last ≡ held key true (at + rowHead) (at + rowBytes edition1)
+      front-joined l z = front-row l (omega arith) ∙ (rw (eq-eqb key last z))
+
+      pub front-falls : key < last → turned 12 ≡ frontAt b at last
+      front-falls l = sym (front-framed ∙ (rw (lt-leb last key l) (split (ltb 0 key) (λ y. rw y) (λ y. rw y))))
+
+      pub front-nobody : key ≡ 0 → turned 12 ≡ frontAt b at last
+      front-nobody z = sym (front-framed ∙ (rw (le-ltb 0 key (omega arith))))
 
   -- what an answer says of the bytes
-  end-empty : ended ≡ frontAt b at → eqb (length (drop at b)) 0 ≡ true
+  end-empty : ended ≡ frontAt b at last → eqb (length (drop at b)) 0 ≡ true
   end-empty e =
       split (eqb (length (drop at b)) 0) (λ x. x)
-      (λ x. absurd (split (rowFramed (drop at b))
-      (λ y. let w = rw (front-some x, y) at e in let z : _≡_ {A = ℕ} 0 1 = cc in omega arith)
-      (λ y. let w = rw (front-some x, y) at e in let z : _≡_ {A = ℕ} 0 1 = cc in omega arith)))
+      (λ x. let s = e ∙ front-some x in
+      absurd (split (rowFramed (drop at b))
+      (λ y. split (rowFollows last (drop at b))
+      (λ u. let w = rw (y, u) at s in let z : _≡_ {A = ℕ} 0 1 = cc in omega arith)
+      (λ u. let w = rw (y, u) at s in let z : _≡_ {A = ℕ} 0 1 = cc in omega arith))
+      (λ y. let w = rw y at s in let z : _≡_ {A = ℕ} 0 1 = cc in omega arith)))
 
-  not-empty : (f : Front) → f ≡ frontAt b at → (ended ≡ f → ⊥) → eqb (length (drop at b)) 0 ≡ false
+  not-empty : (f : Front) → f ≡ frontAt b at last → (ended ≡ f → ⊥) → eqb (length (drop at b)) 0 ≡ false
   not-empty f e n =
       split (eqb (length (drop at b)) 0) (λ x. absurd (n (sym (front-empty (eqb-true (length (drop at b)) 0 x)) ∙ sym e))) (λ x. x)
 
-  turned-frame : (n : ℕ) → turned n ≡ frontAt b at
-      → (eqb (length (drop at b)) 0 ≡ false) × (rowFramed (drop at b) ≡ false) × (n ≡ 11)
-  turned-frame n e =
+  -- a row that was turned back meets 11 or 12, whatever the sheet
+  turned-tests : (groups n : ℕ) → turned n ≡ frontAt b at last
+      → (eqb (length (drop at b)) 0 ≡ false) × (refusal (rowTests edition1 groups last (drop at b)) ≡ n) × (1 ≤ n)
+  unfolding rowTests refusal
+  turned-tests groups n e =
       let o = not-empty (turned n) e (λ f. let z : _≡_ {A = ℕ} 0 1 = cc in omega arith) in
       let s = e ∙ front-some o in
       split (rowFramed (drop at b))
-      (λ y. absurd (let w = rw y at s in let z : _≡_ {A = ℕ} 0 1 = cc in omega arith))
-      (λ y. let w = rw y at s in (o, y, cc))
+      (λ y. split (rowFollows last (drop at b))
+      (λ u. absurd (let w = rw (y, u) at s in let z : _≡_ {A = ℕ} 0 1 = cc in omega arith))
+      (λ u. let w = rw (y, u) at s in let m : n ≡ 12 = cc in (o, rw (y, u) (sym m), omega arith)))
+      (λ y. let w = rw y at s in let m : n ≡ 11 = cc in (o, rw y (sym m), omega arith))
 
   -- a row that was found
   pub record Held (v : RowFound) : Type 0 where
     pub some : eqb (length (drop at b)) 0 ≡ false
     pub framed : rowFramed (drop at b) ≡ true
-    pub member : v .member ≡ rowOf edition1 (drop at b) .member
+    pub order : rowFollows last (drop at b) ≡ true
+    pub key : v .key ≡ memberKey (memberOf (drop at b))
     pub bits : v .bits ≡ at + rowHead
     pub next : v .next ≡ at + rowBytes edition1
 
-  pub held-frame : (v : RowFound) → rowGives (answer.Row v) ≡ frontAt b at → Held v
+  pub held-frame : (v : RowFound) → rowGives (answer.Row v) ≡ frontAt b at last → Held v
   held-frame v e =
       let o = not-empty (rowGives (answer.Row v)) e (λ f. let z : _≡_ {A = ℕ} 0 1 = cc in omega arith) in
       let s = e ∙ front-some o in
       split (rowFramed (drop at b))
-      (λ y. let w = rw y at s in record { some = o; framed = y; member = cc; bits = cc; next = cc })
+      (λ y. split (rowFollows last (drop at b))
+      (λ u. let w = rw (y, u) at s in record { some = o; framed = y; order = u; key = cc; bits = cc; next = cc })
+      (λ u. absurd (let w = rw (y, u) at s in let z : _≡_ {A = ℕ} 0 1 = cc in omega arith)))
       (λ y. absurd (let w = rw y at s in let z : _≡_ {A = ℕ} 0 1 = cc in omega arith))
 
   -- its membership bytes are within the bytes
-  pub held-within : (v : RowFound) → rowGives (answer.Row v) ≡ frontAt b at → v .bits + membershipBytes edition1 ≤ length b
+  pub held-within : (v : RowFound) → rowGives (answer.Row v) ≡ frontAt b at last → v .bits + membershipBytes edition1 ≤ length b
   held-within v e =
       let w = held-frame v e in
       omega (arith, frame-of (drop at b) (w .framed) .0, length-drop at b, w .bits)
@@ -185,30 +222,22 @@ unfolding readRows
 step-end groups left rs b x = rw x
 
 step-refused : (groups left n : ℕ) (rs : List Row) (b : List ℕ) → eqb (length b) 0 ≡ false
-    → refusal (rowTests edition1 groups rs b) ≡ suc n
-    → readRows edition1 groups (suc left) rs b ≡ refused (suc n) (length rs + 1)
+    → refusal (rowTests edition1 groups (lastKey rs) b) ≡ n → 1 ≤ n
+    → readRows edition1 groups (suc left) rs b ≡ refused n (length rs + 1)
 unfolding readRows onward
-step-refused groups left n rs b x y = rw (x, y, ne-eqb (suc n) 0 (λ z. omega arith))
+step-refused groups left n rs b x y l = rw (x, y, ne-eqb n 0 (λ z. omega arith))
 
-step-on : (groups left : ℕ) (rs : List Row) (b : List ℕ) → eqb (length b) 0 ≡ false → refusal (rowTests edition1 groups rs b) ≡ 0
+step-on : (groups left : ℕ) (rs : List Row) (b : List ℕ) → eqb (length b) 0 ≡ false
+    → refusal (rowTests edition1 groups (lastKey rs) b) ≡ 0
     → readRows edition1 groups (suc left) rs b ≡ readRows edition1 groups left (rs ++ (rowOf edition1 b ∷ [])) (drop (rowBytes edition1) b)
 unfolding readRows onward
 step-on groups left rs b x y = rw (x, y)
 
-tests-frame : (groups : ℕ) (rs : List Row) (b : List ℕ) → rowFramed b ≡ false → refusal (rowTests edition1 groups rs b) ≡ 11
+tests-rest : (groups last : ℕ) (b : List ℕ) (r : Bool) → rowFramed b ≡ true → rowFollows last b ≡ true
+    → clearAbove (rowOf edition1 b) groups (groupLimit edition1 - groups) ≡ not r → refusal (rowTests edition1 groups last b) ≡ cond r 13 0
 unfolding rowTests refusal
-tests-frame groups rs b x = rw x
-
-tests-member : (groups : ℕ) (rs : List Row) (b : List ℕ) → rowFramed b ≡ true → rowOf edition1 b .member ≤ lastMember rs
-    → refusal (rowTests edition1 groups rs b) ≡ 12
-unfolding rowTests refusal rowOf
-tests-member groups rs b x l = rw (x, le-ltb (lastMember rs) (u32At b 4) l)
-
-tests-rest : (groups : ℕ) (rs : List Row) (b : List ℕ) (r : Bool) → rowFramed b ≡ true → lastMember rs < rowOf edition1 b .member
-    → clearAbove (rowOf edition1 b) groups (groupLimit edition1 - groups) ≡ not r → refusal (rowTests edition1 groups rs b) ≡ cond r 13 0
-unfolding rowTests refusal rowOf
-tests-rest groups rs b true x l c = rw (x, lt-ltb (lastMember rs) (u32At b 4) l, c)
-tests-rest groups rs b false x l c = rw (x, lt-ltb (lastMember rs) (u32At b 4) l, c)
+tests-rest groups last b true x l c = rw (x, l, c)
+tests-rest groups last b false x l c = rw (x, l, c)
 
 -- the rows read so far
 pub length-rowsBefore : (b : List ℕ) (n : ℕ) → length (rowsBefore b n) ≡ n
@@ -216,14 +245,9 @@ unfolding rowsBefore
 length-rowsBefore b zero = refl
 length-rowsBefore b (suc n) = simp (length-append, length-rowsBefore b n) (omega arith)
 
-pub row-before : (b : List ℕ) (n i : ℕ) → i < n → getD (rowsBefore b n) i noRow ≡ rowOf edition1 (fromRow b i)
-unfolding rowsBefore
-row-before b zero i l = absurd (omega arith)
-row-before b (suc n) i l =
-    below-suc i n l
-    (λ (e : i ≡ n). rw e (getD-at (rowsBefore b n) (rowOf edition1 (fromRow b n)) [] noRow n (length-rowsBefore b n)))
-    (λ (k : i < n). List·getD-append (rowsBefore b n) (rowOf edition1 (fromRow b n) ∷ []) noRow i (rw (length-rowsBefore b n) k)
-    ∙ row-before b n i k)
+pub last-row : (b : List ℕ) (i : ℕ) → lastKey (rowsBefore b (i + 1)) ≡ memberKey (memberOf (fromRow b i))
+unfolding rowsBefore rowOf
+last-row b i = rw (add-one i) (last-key-behind (rowsBefore b i) (rowOf edition1 (fromRow b i)))
 
 -- the reading that is left after `row` rows
 unfoldable pub going : ℕ → List ℕ → ℕ → Reading (List Row)
@@ -233,64 +257,57 @@ pub going-start : (groups : ℕ) (b : List ℕ) → readRegister edition1 groups
 unfolding going readRegister rowsBefore membershipBytes
 going-start groups b = refl
 
-pub last-start : (b : List ℕ) → lastMember (rowsBefore b 0) ≡ 0
-unfolding rowsBefore lastMember
+pub last-start : (b : List ℕ) → lastKey (rowsBefore b 0) ≡ 0
+unfolding rowsBefore lastKey
 last-start b = refl
 
 module _ (groups : ℕ) (b : List ℕ) (row : ℕ) (l : row < rowLimit) where
   abbrev place : ℕ
   place = rowBytes edition1 * row
 
+  -- the key of the member before
+  abbrev before : ℕ
+  before = lastKey (rowsBefore b row)
+
   more : rowLimit - row ≡ suc (rowLimit - (row + 1))
   more = omega arith
 
-  pub going-end : rowGives answer.End ≡ frontAt b place → going groups b row ≡ read (rowsBefore b row)
+  pub going-end : rowGives answer.End ≡ frontAt b place before → going groups b row ≡ read (rowsBefore b row)
   unfolding going
-  going-end e = rw more (step-end groups (rowLimit - (row + 1)) (rowsBefore b row) (fromRow b row) (end-empty b place e))
+  going-end e =
+      rw more (step-end groups (rowLimit - (row + 1)) (rowsBefore b row) (fromRow b row) (end-empty b place before e))
 
-  going-turned : (n : ℕ) → eqb (length (fromRow b row)) 0 ≡ false → refusal (rowTests edition1 groups (rowsBefore b row) (fromRow b row)) ≡ suc n
-      → going groups b row ≡ refused (suc n) (row + 1)
+  going-turned : (n : ℕ) → eqb (length (fromRow b row)) 0 ≡ false → refusal (rowTests edition1 groups before (fromRow b row)) ≡ n → 1 ≤ n
+      → going groups b row ≡ refused n (row + 1)
   unfolding going
-  going-turned n x y =
-      rw more (step-refused groups (rowLimit - (row + 1)) n (rowsBefore b row) (fromRow b row) x y
+  going-turned n x y p =
+      rw more (step-refused groups (rowLimit - (row + 1)) n (rowsBefore b row) (fromRow b row) x y p
       ∙ (rw (length-rowsBefore b row)))
 
-  pub going-refused : (n : ℕ) → rowGives (answer.Refused n) ≡ frontAt b place → going groups b row ≡ refused n (row + 1)
-  going-refused n e =
-      let w = turned-frame b place n e in
-      rw (w .2) (going-turned 10 (w .0) (tests-frame groups (rowsBefore b row) (fromRow b row) (w .1)))
+  pub going-refused : (n : ℕ) → rowGives (answer.Refused n) ≡ frontAt b place before → going groups b row ≡ refused n (row + 1)
+  going-refused n e = let w = turned-tests b place before groups n e in going-turned n (w .0) (w .1) (w .2)
 
-  module _ (v : RowFound) (e : rowGives (answer.Row v) ≡ frontAt b place) where
-    is-row : Held b place v
-    is-row = held-frame b place v e
+  module _ (v : RowFound) (e : rowGives (answer.Row v) ≡ frontAt b place before) where
+    is-row : Held b place before v
+    is-row = held-frame b place before v e
 
-    pub going-member : v .member ≤ lastMember (rowsBefore b row) → going groups b row ≡ refused 12 (row + 1)
-    going-member m =
-        going-turned 11 (is-row .some)
-        (tests-member groups (rowsBefore b row) (fromRow b row) (is-row .framed) (rw (is-row .member) at m))
+    tests-are : (r : Bool) → Above groups 0 rowGroups (bitAt b (v .bits)) r
+        → refusal (rowTests edition1 groups before (fromRow b row)) ≡ cond r 13 0
+    tests-are r a =
+        tests-rest groups before (fromRow b row) r (is-row .framed) (is-row .order)
+        (clear-bits b place groups r (rw (is-row .bits) at a))
 
-    module _ (m : lastMember (rowsBefore b row) < v .member) where
-      tests-are : (r : Bool) → Above groups 0 rowGroups (bitAt b (v .bits)) r
-          → refusal (rowTests edition1 groups (rowsBefore b row) (fromRow b row)) ≡ cond r 13 0
-      tests-are r a =
-          tests-rest groups (rowsBefore b row) (fromRow b row) r (is-row .framed) (rw (is-row .member) at m)
-          (clear-bits b place groups r (rw (is-row .bits) at a))
+    pub going-bits : Above groups 0 rowGroups (bitAt b (v .bits)) true → going groups b row ≡ refused 13 (row + 1)
+    going-bits a = going-turned 13 (is-row .some) (tests-are true a) (omega arith)
 
-      pub going-bits : Above groups 0 rowGroups (bitAt b (v .bits)) true → going groups b row ≡ refused 13 (row + 1)
-      going-bits a = going-turned 12 (is-row .some) (tests-are true a)
-
-      pub going-on : Above groups 0 rowGroups (bitAt b (v .bits)) false → going groups b row ≡ going groups b (row + 1)
-      unfolding going rowsBefore
-      going-on a =
-          let s : row + 1 ≡ suc row = omega arith in
-          let d : rowBytes edition1 * row + rowBytes edition1 ≡ rowBytes edition1 * suc row = omega arith in
-          rw more
-          (step-on groups (rowLimit - (row + 1)) (rowsBefore b row) (fromRow b row) (is-row .some) (tests-are false a)
-          ∙ (rw (drop-drop (rowBytes edition1) (rowBytes edition1 * row) b, s, d)))
-
-    pub last-on : v .member ≡ lastMember (rowsBefore b (row + 1))
-    unfolding rowsBefore
-    last-on = rw (add-one row, last-member-behind (rowsBefore b row) (rowOf edition1 (fromRow b row))) (is-row .member)
+    pub going-on : Above groups 0 rowGroups (bitAt b (v .bits)) false → going groups b row ≡ going groups b (row + 1)
+    unfolding going rowsBefore
+    going-on a =
+        let s : row + 1 ≡ suc row = omega arith in
+        let d : rowBytes edition1 * row + rowBytes edition1 ≡ rowBytes edition1 * suc row = omega arith in
+        rw more
+        (step-on groups (rowLimit - (row + 1)) (rowsBefore b row) (fromRow b row) (is-row .some) (tests-are false a)
+        ∙ (rw (drop-drop (rowBytes edition1) (rowBytes edition1 * row) b, s, d)))
 
 -- no more rows are left
 step-full : (groups : ℕ) (rs : List Row) (b : List ℕ) → length b ≡ 0 → readRows edition1 groups 0 rs b ≡ read rs
@@ -314,16 +331,29 @@ going-over groups b l =
     (λ e. let z = rw (length-drop (rowBytes edition1 * rowLimit) b) at e in omega arith)
     ∙ (rw (length-rowsBefore b rowLimit))
 
--- each row that was read has its frame, and there are no more than the most
-reads-framed : (groups : ℕ) {rs ys : List Row} {b c : List ℕ} → Reads (rowTests edition1 groups) (rowOf edition1) rs b ys c
-    → (i : ℕ) → i < length ys → rowFramed (fromRow b i) ≡ true
+-- the first of the rows, and the others
+rows-first : (b : List ℕ) (i : ℕ) → rowsBefore b (suc i) ≡ rowOf edition1 b ∷ rowsBefore (drop (rowBytes edition1) b) i
+unfolding rowsBefore membershipBytes
+rows-first b zero = refl
+rows-first b (suc i) =
+    let d : rowBytes edition1 + rowBytes edition1 * i ≡ rowBytes edition1 * suc i = omega arith in
+    rw (rows-first b i, drop-drop (rowBytes edition1 * i) (rowBytes edition1) b, d)
+
+-- each row that was read has its frame and stands behind the rows before it
+reads-passed : (groups : ℕ) {rs ys : List Row} {b c : List ℕ}
+    → Reads (testsAfter edition1 groups) (rowOf edition1) rs b ys c → (i : ℕ) → i < length ys
+    → (rowFramed (fromRow b i) ≡ true) × (rowFollows (lastKey (rs ++ rowsBefore b i)) (fromRow b i) ≡ true)
 unfolding rowTests after
-reads-framed groups stop i l = absurd (omega arith)
-reads-framed groups (go {xs} {b} p rest) zero l = let e : rowBytes edition1 * 0 ≡ 0 = omega arith in rw e (p .0)
-reads-framed groups (go {xs} {b} p rest) (suc i) l =
+reads-passed groups stop i l = absurd (omega arith)
+reads-passed groups (go {xs} {b} p rest) zero l =
+    let e : rowBytes edition1 * 0 ≡ 0 = omega arith in
+    let n : xs ++ rowsBefore b 0 ≡ xs = unfold rowsBefore in append-nil xs in
+    rw (e, n) (p .0, p .1 .0)
+reads-passed groups (go {xs} {b} p rest) (suc i) l =
     let e : rowBytes edition1 * suc i ≡ rowBytes edition1 + rowBytes edition1 * i = omega arith in
     let f : u16At b 0 + 2 ≡ rowBytes edition1 = omega (arith, frame-of b (p .0) .1) in
-    rw (e, ← drop-drop (rowBytes edition1 * i) (rowBytes edition1) b) (rw f at (reads-framed groups rest i (omega arith)))
+    rw (e, ← drop-drop (rowBytes edition1 * i) (rowBytes edition1) b, rows-first b i)
+    (rw (f, append-assoc xs (rowOf edition1 b ∷ []) (rowsBefore (drop (rowBytes edition1) b) i)) at (reads-passed groups rest i (omega arith)))
 
 module _ (groups : ℕ) (b : List ℕ) (n : ℕ) (h : read (rowsBefore b n) ≡ readRegister edition1 groups b) where
   pub rows-most : n ≤ rowLimit
@@ -334,25 +364,49 @@ module _ (groups : ℕ) (b : List ℕ) (n : ℕ) (h : read (rowsBefore b n) ≡ 
   rows-readable =
       record {
         each = λ i l.
-            let x = reads-framed groups (register-read edition1 groups b (rowsBefore b n) (sym h) .rows) i (rw (length-rowsBefore b n) l) in
-            let e : rowBytes edition1 * (i + 1) ≡ rowBytes edition1 * i + rowBytes edition1 = omega arith in
-            rw e
-            (front-some b (rowBytes edition1 * i)
-            (ne-eqb (length (fromRow b i)) 0 (λ z. omega (arith, frame-of (fromRow b i) x .0)))
-            ∙ (rw x));
+            let x = reads-passed groups (register-read edition1 groups b (rowsBefore b n) (sym h) .rows) i (rw (length-rowsBefore b n) l) in
+            front-some b (rowBytes edition1 * i) (lastKey (rowsBefore b i))
+            (ne-eqb (length (fromRow b i)) 0 (λ z. omega (arith, frame-of (fromRow b i) (x .0) .0)))
+            ∙ (rw (x .0, x .1));
       }
 
+-- row i, as the reader hands it up
+pub record Stands (b : List ℕ) (i : ℕ) (v : RowFound) : Type 0 where
+  pub key : v .key ≡ memberKey (rowOf edition1 (fromRow b i) .member)
+  pub joined : v .joined ≡ eqb (v .key) (lastKey (rowsBefore b i))
+  pub bits : v .bits ≡ bitsPlace i
+  pub next : v .next ≡ rowBytes edition1 * (i + 1)
+  pub last : v .key ≡ lastKey (rowsBefore b (i + 1))
+  pub some : 1 ≤ v .key
+  pub follows : lastKey (rowsBefore b i) ≤ v .key
+
 -- what the reader hands up at the place of a row that is known to be readable: that row, and no end or refusal
-module _ {b : List ℕ} {n i at : ℕ} (r : RowsReadable b n) (l : i < n) (e : at ≡ rowBytes edition1 * i) where
-  stands : frontAt b at ≡ held (rowOf edition1 (fromRow b i) .member) (bitsPlace i) (rowBytes edition1 * (i + 1))
-  stands = rw e (r .each i l)
+module _ {b : List ℕ} {n i at last : ℕ} (r : RowsReadable b n) (l : i < n) (e : at ≡ rowBytes edition1 * i)
+    (k : last ≡ lastKey (rowsBefore b i)) where
+  stands : frontAt b at last ≡ rowHeld b (rowBytes edition1 * i) (lastKey (rowsBefore b i))
+  stands = rw (e, k) (r .each i l)
 
-  pub row-stands : (v : RowFound) → rowGives (answer.Row v) ≡ frontAt b at
-      → (v .member ≡ rowOf edition1 (fromRow b i) .member) × (v .bits ≡ bitsPlace i) × (v .next ≡ rowBytes edition1 * (i + 1))
-  row-stands v f = let z = f ∙ stands in (cc, cc, cc)
+  pub row-stands : (v : RowFound) → rowGives (answer.Row v) ≡ frontAt b at last → Stands b i v
+  unfolding rowOf
+  row-stands v f =
+      let z = f ∙ stands in
+      let o = rw (e, k) at (held-frame b at last v f .order) in
+      let w = and-true (ltb 0 (memberKey (memberOf (fromRow b i)))) (leb (lastKey (rowsBefore b i)) (memberKey (memberOf (fromRow b i)))) o in
+      let key : v .key ≡ memberKey (memberOf (fromRow b i)) = cc in
+      let next : v .next ≡ rowBytes edition1 * i + rowBytes edition1 = cc in
+      let joined : v .joined ≡ eqb (memberKey (memberOf (fromRow b i))) (lastKey (rowsBefore b i)) = cc in
+      record {
+        key = key;
+        joined = rw key joined;
+        bits = cc;
+        next = omega arith;
+        last = key ∙ sym (last-row b i);
+        some = omega (arith, ltb-true 0 (memberKey (memberOf (fromRow b i))) (w .0));
+        follows = omega (arith, leb-true (lastKey (rowsBefore b i)) (memberKey (memberOf (fromRow b i))) (w .1));
+      }
 
-  pub not-ended : rowGives answer.End ≡ frontAt b at → ⊥
+  pub not-ended : rowGives answer.End ≡ frontAt b at last → ⊥
   not-ended f = let z = f ∙ stands in let o : _≡_ {A = ℕ} 0 1 = cc in omega arith
 
-  pub not-refused : (k : ℕ) → rowGives (answer.Refused k) ≡ frontAt b at → ⊥
-  not-refused k f = let z = f ∙ stands in let o : _≡_ {A = ℕ} 0 1 = cc in omega arith
+  pub not-refused : (m : ℕ) → rowGives (answer.Refused m) ≡ frontAt b at last → ⊥
+  not-refused m f = let z = f ∙ stands in let o : _≡_ {A = ℕ} 0 1 = cc in omega arith

@@ -6,9 +6,10 @@ use mathlib.Core.List.{List, [], _∷_, _++_}
 use lib.ListN.{length, take, drop, getD}
 use lib.Dec.{eqb}
 use Rattle.laws.specs.Digits.{digit}
-use Rattle.wire.specs.Edition.{edition1, rowBytes}
+use Rattle.wire.specs.Edition.{edition1, rowHead, rowBytes}
 use Rattle.wire.specs.Record.{Test, refusal, Reading, read, refused}
-use Rattle.wire.specs.RegisterFormat.{Row, rowOf, rowTests}
+use Rattle.wire.specs.Member.{memberKey}
+use Rattle.wire.specs.RegisterFormat.{Row, memberOf, rowOf, lastKey, rowTests}
 use Rattle.rows.specs.declared.decode.RowAnswer.{RowAnswer}
 use Rattle.rows.specs.declared.decode.RowAnswer.the-variants as answer
 use Rattle.rows.specs.declared.read.Rows.{Rows}
@@ -24,34 +25,33 @@ rowWords = 2
 abbrev pub rowGroups : ℕ
 rowGroups = rowWords * wordBits
 
--- what stands at a place: no bytes at all; a row, with its member, the place of its membership bytes and the place after it; or
--- a row that is turned back with a refusal's number
+-- what stands at a place: no bytes at all; a row, with its member's key, whether it goes on with the member before, the place of
+-- its membership bytes and the place after it; or a row that is turned back with a refusal's number
 pub data Front : Type 0 where
   ended : Front
-  held : ℕ → ℕ → ℕ → Front
+  held : ℕ → Bool → ℕ → ℕ → Front
   turned : ℕ → Front
 
 -- document 01's number and values of the decoder's answer
 abbrev pub rowGives : RowAnswer → Front
 rowGives answer.End = ended
-rowGives (answer.Row r) = held (r .member) (r .bits) (r .next)
+rowGives (answer.Row r) = held (r .key) (r .joined) (r .bits) (r .next)
 rowGives (answer.Refused n) = turned n
 
--- 11 is the first of a row's tests, and asks nothing of the sheet or of the rows before
-abbrev pub frameTests : List ℕ → List Test
-frameTests b = take 1 (rowTests edition1 0 [] b)
+-- the row at a place
+abbrev pub rowHeld : List ℕ → ℕ → ℕ → Front
+rowHeld b at last =
+    held (memberKey (memberOf (drop at b))) (eqb (memberKey (memberOf (drop at b))) last) (at + rowHead) (at + rowBytes edition1)
 
--- the bytes of a row before its membership bytes: length, kind and member
-abbrev pub rowHead : ℕ
-rowHead = 8
+-- 11 and 12 are the first of a row's tests, and ask nothing of the sheet
+abbrev pub frontTests : ℕ → List ℕ → List Test
+frontTests last b = take 2 (rowTests edition1 0 last b)
 
--- what stands at a place of a register's bytes
-unfoldable pub frontAt : List ℕ → ℕ → Front
-frontAt b at =
+-- what stands at a place of a register's bytes, behind a member with the key `last` (0 where no row is before)
+unfoldable pub frontAt : List ℕ → ℕ → ℕ → Front
+frontAt b at last =
     cond (eqb (length (drop at b)) 0) ended
-    (cond (eqb (refusal (frameTests (drop at b))) 0)
-    (held (rowOf edition1 (drop at b) .member) (at + rowHead) (at + rowBytes edition1))
-    (turned (refusal (frameTests (drop at b)))))
+    (cond (eqb (refusal (frontTests last (drop at b))) 0) (rowHeld b at last) (turned (refusal (frontTests last (drop at b)))))
 
 -- the bytes from row i on, and the first n rows of a register
 abbrev pub fromRow : List ℕ → ℕ → List ℕ
@@ -83,7 +83,7 @@ abbrev pub rowsGive : List ℕ → Rows → Reading (List Row)
 rowsGive b (rows.Count n) = read (rowsBefore b n)
 rowsGive b (rows.Refused n r) = refused n r
 
--- each of the first n rows stands at its place: what is known of a register that was read
+-- each of the first n rows stands at its place, behind the rows before it: what is known of a register that was read
 pub record RowsReadable (b : List ℕ) (n : ℕ) : Type 0 where
   pub each : (i : ℕ) → i < n
-      → frontAt b (rowBytes edition1 * i) ≡ held (rowOf edition1 (fromRow b i) .member) (bitsPlace i) (rowBytes edition1 * (i + 1))
+      → frontAt b (rowBytes edition1 * i) (lastKey (rowsBefore b i)) ≡ rowHeld b (rowBytes edition1 * i) (lastKey (rowsBefore b i))

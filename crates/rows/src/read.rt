@@ -20,10 +20,10 @@ pub fn read_rows(register: &[u8], groups: u16) -> Rows
     ensures { λ r. ⌜ rowsGive (now (register .entry)) r ≡ readRegister edition1 groups (now (register .entry)) ⌝ }
 {
     let mut at = 0;
-    let mut last: u32 = 0;
+    let mut last = 0u64;
     for row in 0..ROWS {
         let number = row as u32 + 1;
-        match row_of(register, at) {
+        match row_of(register, at, last) {
             RowAnswer::End => {
                 return Rows::Count(row);
             }
@@ -31,13 +31,10 @@ pub fn read_rows(register: &[u8], groups: u16) -> Rows
                 return Rows::Refused(n, number);
             }
             RowAnswer::Row(r) => {
-                if r.member <= last {
-                    return Rows::Refused(12, number);
-                }
                 if bit_above(register, r.bits, groups) {
                     return Rows::Refused(13, number);
                 }
-                last = r.member;
+                last = r.key;
                 at = r.next;
             }
         }

@@ -1,5 +1,5 @@
-// The reader that walks the rows: the lent register and the place reached. The borrow checker covers no function over it, so
-// each is proved by hand; the work is `row_at`'s, which takes a plain slice.
+// The reader that walks the rows: the lent register, the place reached, and the key of the member before it, 0 at first. The
+// borrow checker covers no function over it, so each is proved by hand; the work is `row_at`'s, which takes a plain slice.
 use crate::decode::RowAnswer;
 use crate::decode::row_at;
 ghost use mathlib.Core.Path.{_≡_};
@@ -8,21 +8,23 @@ ghost use Rattle.rows.specs.RowsRead.{rowGives, frontAt};
 pub struct RowReader<'a> {
     pub bytes: &'a [u8],
     pub at: usize,
+    pub last: u64,
 }
 
-// The row at the place reached, with the place reached after it.
+// The row at the place reached, with its member's key, whether it goes on with the member before, and the place reached after it.
 pub fn next<'a>(r: RowReader<'a>) -> RowAnswer
-    ensures { λ s. ⌜ rowGives s ≡ frontAt (now (r .entry .bytes)) (r .entry .at) ⌝ }
+    ensures { λ s. ⌜ rowGives s ≡ frontAt (now (r .entry .bytes)) (r .entry .at) (r .entry .last) ⌝ }
 {
-    row_at(r.bytes, r.at)
+    row_at(r.bytes, r.at, r.last)
 }
 
-// One step of the walk, by a reader that has reached the place `at`.
-pub fn row_of(register: &[u8], at: usize) -> RowAnswer
-    ensures { λ r. ⌜ rowGives r ≡ frontAt (now (register .entry)) at ⌝ }
+// One step of the walk, by a reader that has reached the place `at` behind a member with the key `last`.
+pub fn row_of(register: &[u8], at: usize, last: u64) -> RowAnswer
+    ensures { λ r. ⌜ rowGives r ≡ frontAt (now (register .entry)) at last ⌝ }
 {
     next(RowReader {
         bytes: register,
         at,
+        last,
     })
 }

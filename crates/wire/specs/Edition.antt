@@ -24,9 +24,12 @@ groupLimit e = 8 * membershipBytes e
 unfoldable pub labelLimit : Edition → ℕ
 labelLimit edition1 = 16
 
--- the kind of a row, and its bytes: length and kind (four bytes), member (four), membership
+-- the kind of a row, its bytes before the membership bytes (length and kind, four bytes; member, four), and all its bytes
 unfoldable pub rowKind : Edition → ℕ
 rowKind edition1 = 32
 
+abbrev pub rowHead : ℕ
+rowHead = 8
+
 abbrev pub rowBytes : Edition → ℕ
-rowBytes e = 8 + membershipBytes e
+rowBytes e = rowHead + membershipBytes e

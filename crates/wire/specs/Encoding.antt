@@ -1,5 +1,5 @@
 -- The bytes of records, sheets and registers, and which sheets and registers are within the limits: document 01, "What it reads
--- and gives", "Records of a sheet", "Registers"; document 02, card 1. Definitions only.
+-- and gives", "Records of a sheet", "Registers"; document 02, cards 1 and 2. Definitions only.
 use Prim.Native.Nat.{ℕ, _+_, _-_, _≤_, _<_}
 use mathlib.Core.Path.{_≡_}
 use mathlib.Core.Bool.{true, false}
@@ -10,7 +10,8 @@ use Rattle.wire.specs.Edition.{Edition, editionNumber, membershipBytes, 
 use Rattle.wire.specs.Bytes.{le16, le32}
 use Rattle.wire.specs.SheetFormat.{GroupRecord, NameRecord, listNumber, ClaimRecord, count, lists, Records}
 use Rattle.wire.specs.SheetFormat.{parentAllowed, labelBytes, used, allWithin}
-use Rattle.wire.specs.RegisterFormat.{Row, lastMember, clearAbove}
+use Rattle.wire.specs.Member.{Member, memberKey}
+use Rattle.wire.specs.RegisterFormat.{Row, lastKey, clearAbove}
 
 -- every element is a byte (past the end 0 stands)
 abbrev pub Bytes : List ℕ → Type 0
@@ -39,8 +40,11 @@ encodeSheet d =
     encodeHead d
     ++ (flatMap encodeGroup (d .groups) ++ (flatMap encodeName (d .names) ++ flatMap encodeClaim (d .claims)))
 
+unfoldable pub memberBytes : Member → List ℕ
+memberBytes m = le32 (m .number)
+
 unfoldable pub encodeRow : Edition → Row → List ℕ
-encodeRow e r = encodeRecord (rowKind e) (le32 (r .member) ++ r .bits)
+encodeRow e r = encodeRecord (rowKind e) (memberBytes (r .member) ++ r .bits)
 
 unfoldable pub encodeRegister : Edition → List Row → List ℕ
 encodeRegister e rs = flatMap (encodeRow e) rs
@@ -89,14 +93,22 @@ pub record SheetWithin (d : Records) : Type 0 where
   pub groupEnds : Each (λ gs g. g .hi ≤ noEnd) [] (d .groups)
   pub claimEnds : (n lo hi : ℕ) → List·Memᴰ (count n lo hi) (d .claims) → hi ≤ noEnd
 
--- A row after the rows rs, under a sheet of edition e with `groups` groups; and rows within the limits, numbers that fit their
--- fields among them.
+-- A row after the rows rs, under a sheet of edition e with `groups` groups; a member and a row whose numbers fit their fields; and
+-- rows within the limits.
 pub record RowRight (e : Edition) (groups : ℕ) (rs : List Row) (r : Row) : Type 0 where
-  pub rises : lastMember rs < r .member
+  pub someone : 0 < memberKey (r .member)
+  pub follows : lastKey rs ≤ memberKey (r .member)
   pub width : length (r .bits) ≡ membershipBytes e
   pub clear : clearAbove r groups (groupLimit e - groups) ≡ true
+
+pub record MemberFits (m : Member) : Type 0 where
+  pub number : m .number < 4294967296
+
+pub record RowFits (r : Row) : Type 0 where
+  pub member : MemberFits (r .member)
+  pub bytes : Bytes (r .bits)
 
 pub record RowsWithin (e : Edition) (groups : ℕ) (rs : List Row) : Type 0 where
   pub rowCount : length rs ≤ rowLimit
   pub right : Each (RowRight e groups) [] rs
-  pub fits : Each (λ before r. (r .member < 4294967296) × Bytes (r .bits)) [] rs
+  pub fits : Each (λ before r. RowFits r) [] rs

@@ -2,6 +2,7 @@ pub mod Limits
 pub mod Edition
 pub mod Capacity
 pub mod EditionFacts
+pub mod Member
 pub mod Bytes
 pub mod Wide
 pub mod Record
@@ -13,6 +14,7 @@ pub mod Many
 pub mod Sorts
 pub mod Facts
 pub mod Fields
+pub mod MemberFacts
 pub mod RoundTripRegister
 pub mod RoundTripRecords
 pub mod RoundTripSheet

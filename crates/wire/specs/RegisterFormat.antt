@@ -1,4 +1,5 @@
--- The reading of a register's rows, to an end or to a refusal: document 01, "Registers" and "Turned back", 10 to 13.
+-- The reading of a register's rows, to an end or to a refusal: document 01, "Registers" and "Turned back", 10 to 13;
+-- document 02, card 2 (12 is kept for 0 and for a falling number).
 use Prim.Native.Nat.{ℕ, zero, suc, _+_, _-_, _/_, _%_}
 use mathlib.Core.Bool.{Bool, true, false, cond, _&&_}
 use mathlib.Core.List.{List, [], _∷_, _++_}
@@ -6,17 +7,22 @@ use lib.ListN.{length, take, drop, getD}
 use lib.Dec.{leb, ltb, eqb}
 use Rattle.laws.specs.Digit.{digit}
 use Rattle.wire.specs.Limits.{rowLimit}
-use Rattle.wire.specs.Edition.{Edition, membershipBytes, groupLimit, rowKind, rowBytes}
+use Rattle.wire.specs.Edition.{Edition, membershipBytes, groupLimit, rowKind, rowHead, rowBytes}
+use Rattle.wire.specs.Member.{Member, memberKey}
 use Rattle.wire.specs.Bytes.{u16At, u32At}
 use Rattle.wire.specs.Record.{Test, test, refusal, Reading, read, onward}
 
 -- a member and the membership bytes
 pub record Row : Type 0 where
-  pub member : ℕ
+  pub member : Member
   pub bits : List ℕ
 
+-- the fields of a row
+unfoldable pub memberOf : List ℕ → Member
+memberOf b = record { number = u32At b 4 }
+
 unfoldable pub rowOf : Edition → List ℕ → Row
-rowOf e b = record { member = u32At b 4; bits = take (membershipBytes e) (drop 8 b) }
+rowOf e b = record { member = memberOf b; bits = take (membershipBytes e) (drop rowHead b) }
 
 -- "group g is bit (g − 1) mod 8 of byte (g − 1) div 8, bit 0 the lowest"
 unfoldable pub inGroup : Row → ℕ → Bool
@@ -27,18 +33,18 @@ unfoldable pub clearAbove : Row → ℕ → ℕ → Bool
 clearAbove r groups zero = true
 clearAbove r groups (suc n) = cond (inGroup r (groups + suc n)) false (clearAbove r groups n)
 
--- the member of the last of the rows, 0 where there is none
-unfoldable pub lastMember : List Row → ℕ
-lastMember [] = 0
-lastMember (r ∷ []) = r .member
-lastMember (r ∷ (q ∷ rs)) = lastMember (q ∷ rs)
+-- the key of the last row's member, 0 where there is none
+unfoldable pub lastKey : List Row → ℕ
+lastKey [] = 0
+lastKey (r ∷ []) = memberKey (r .member)
+lastKey (r ∷ (q ∷ rs)) = lastKey (q ∷ rs)
 
--- The tests of the row that comes after the rows rs, under a sheet of edition e with `groups` groups: 11, it is cut, or its kind
--- or length is wrong; 12, its member is 0 or not above the row before; 13, a bit above the groups is set.
-unfoldable pub rowTests : Edition → ℕ → List Row → List ℕ → List Test
-rowTests e groups rs b =
+-- The tests of a row that comes after a row whose member has the key `last`, under a sheet of edition e with `groups` groups: 11,
+-- it is cut, or its kind or length is wrong; 12, its member is 0 or falls; 13, a bit above the groups is set.
+unfoldable pub rowTests : Edition → ℕ → ℕ → List ℕ → List Test
+rowTests e groups last b =
     test 11 (leb (rowBytes e) (length b) && eqb (u16At b 0) (rowBytes e - 2) && eqb (u16At b 2) (rowKind e))
-    ∷ test 12 (ltb (lastMember rs) (u32At b 4))
+    ∷ test 12 (ltb 0 (memberKey (memberOf b)) && leb last (memberKey (memberOf b)))
     ∷ test 13 (clearAbove (rowOf e b) groups (groupLimit e - groups))
     ∷ []
 
@@ -47,7 +53,7 @@ unfoldable pub readRows : Edition → ℕ → ℕ → List Row → List ℕ → 
 readRows e groups zero rs b = onward (refusal (test 10 (eqb (length b) 0) ∷ [])) (length rs + 1) (read rs)
 readRows e groups (suc left) rs b =
     cond (eqb (length b) 0) (read rs)
-    (onward (refusal (rowTests e groups rs b)) (length rs + 1)
+    (onward (refusal (rowTests e groups (lastKey rs) b)) (length rs + 1)
     (readRows e groups left (rs ++ (rowOf e b ∷ [])) (drop (rowBytes e) b)))
 
 -- the reading of a register's bytes, under a sheet of edition e with `groups` groups

@@ -1,25 +1,27 @@
 -- A register is read back from its encoding, and every readable register is the encoding of its rows; the numbers of a refusal.
-use Prim.Native.Nat.{ℕ, zero, suc, _+_, _-_, _≤_, _<_}
+use Prim.Native.Nat.{ℕ, zero, suc, _+_, _-_, _≤_}
 use mathlib.Core.Path.{_≡_, refl, sym, ap, _∙_}
 use mathlib.Core.Bool.{true, _&&_}
 use mathlib.Core.List.{List, [], _∷_, _++_, append-assoc, append-nil, flatMap}
 use native.Mathlib.Omega.{arith}
 use lib.ListN.{length, take, drop, length-take, length-drop, take-append-drop}
 use lib.Seq.{drop-drop, take-at, drop-at}
-use lib.Dec.{leb, eqb}
+use lib.Dec.{leb, ltb, eqb}
 use borrow.Author.Tests.{leb-true, ltb-true, eqb-true, le-leb, lt-ltb, eq-eqb, ne-eqb}
 use Rattle.wire.specs.Limits.{rowLimit, noEnd}
-use Rattle.wire.specs.Edition.{Edition, membershipBytes, rowKind, rowBytes}
+use Rattle.wire.specs.Edition.{Edition, membershipBytes, rowKind, rowHead, rowBytes}
+use Rattle.wire.specs.Member.{memberKey}
 use Rattle.wire.specs.EditionFacts.{groups-within, row-kind-fits}
-use Rattle.wire.specs.Bytes.{u16At, u32At, le16, le32}
-use Rattle.wire.specs.Record.{lengthOf, kindOf, after, test, read}
-use Rattle.wire.specs.RegisterFormat.{Row, rowOf, lastMember, rowTests, readRows, readRegister}
-use Rattle.wire.specs.Encoding.{Bytes, Each, none, more, RowRight, RowsWithin}
-use Rattle.wire.specs.Encoding.{encodeRecord, encodeRow, encodeRegister}
+use Rattle.wire.specs.Bytes.{u16At, le16}
+use Rattle.wire.specs.Record.{lengthOf, kindOf, after, Test, test, read}
+use Rattle.wire.specs.RegisterFormat.{Row, memberOf, rowOf, lastKey, rowTests, readRows, readRegister}
+use Rattle.wire.specs.Encoding.{Bytes, Each, none, more, RowRight, RowFits, RowsWithin}
+use Rattle.wire.specs.Encoding.{encodeRecord, memberBytes, encodeRow, encodeRegister}
 use Rattle.laws.specs.Cases.{split, and-true}
 use Rattle.wire.specs.Passing.{Pass, Nonzero, onward-passed, onward-read}
 use Rattle.wire.specs.Many.{Reads, stop, go, reads-same, empty-of-length, each-both, each-read, encode-reads}
-use Rattle.wire.specs.Fields.{u32-le32, length-le32, drop-le32, encode-read, length-encoded, kind-encoded, length-record}
+use Rattle.wire.specs.Fields.{encode-read, length-encoded, kind-encoded, length-record}
+use Rattle.wire.specs.MemberFacts.{member-size, member-skipped, member-back, member-bytes, member-fits}
 use Rattle.wire.specs.Facts.{bytes-drop, bytes-after}
 
 last-nonzero : (b : List ℕ) → Nonzero (test 10 (eqb (length b) 0) ∷ [])
@@ -37,19 +39,23 @@ bytes-take (suc n) [] k i = omega arith
 bytes-take (suc n) (x ∷ b) k zero = k zero
 bytes-take (suc n) (x ∷ b) k (suc i) = bytes-take n b (λ j. k (suc j)) i
 
+-- the tests of a row after the rows rs
+abbrev pub testsAfter : Edition → ℕ → List Row → List ℕ → List Test
+testsAfter e groups rs = rowTests e groups (lastKey rs)
+
 -- the rows of a readable register, whatever the numbers of its bytes
 pub record RowsRead (e : Edition) (groups : ℕ) (b : List ℕ) (rs : List Row) : Type 0 where
   pub rowCount : length rs ≤ rowLimit
-  pub rows : Reads (rowTests e groups) (rowOf e) [] b rs []
+  pub rows : Reads (testsAfter e groups) (rowOf e) [] b rs []
   pub right : Each (RowRight e groups) [] rs
 
 module _ (e : Edition) (groups : ℕ) where
-  row-nonzero : (rs : List Row) (b : List ℕ) → Nonzero (rowTests e groups rs b)
+  row-nonzero : (rs : List Row) (b : List ℕ) → Nonzero (testsAfter e groups rs b)
   unfolding rowTests
   row-nonzero rs b = omega arith
 
   -- a row that passes: its frame, what it has, and its bytes
-  row-frame : (rs : List Row) (b : List ℕ) → Pass (rowTests e groups rs b) → RowFrame e b
+  row-frame : (rs : List Row) (b : List ℕ) → Pass (testsAfter e groups rs b) → RowFrame e b
   unfolding rowTests
   row-frame rs b p =
       let s = and-true (leb (rowBytes e) (length b) && eqb (u16At b 0) (rowBytes e - 2)) (eqb (u16At b 2) (rowKind e)) (p .0) in
@@ -57,60 +63,76 @@ module _ (e : Edition) (groups : ℕ) where
       let size = eqb-true (u16At b 0) (rowBytes e - 2) (t .1) in
       record { whole = leb-true _ _ (t .0); size = omega arith; kind = eqb-true _ _ (s .1) }
 
-  after-row : (rs : List Row) (b : List ℕ) → Pass (rowTests e groups rs b) → drop (rowBytes e) b ≡ after b
+  after-row : (rs : List Row) (b : List ℕ) → Pass (testsAfter e groups rs b) → drop (rowBytes e) b ≡ after b
   unfolding after
   after-row rs b p = rw (row-frame rs b p .size)
 
-  row-right : (rs : List Row) (b : List ℕ) → Pass (rowTests e groups rs b) → RowRight e groups rs (rowOf e b)
+  row-right : (rs : List Row) (b : List ℕ) → Pass (testsAfter e groups rs b) → RowRight e groups rs (rowOf e b)
   unfolding rowTests
   row-right rs b p =
       let f = row-frame rs b p in
+      let order = and-true (ltb 0 (memberKey (memberOf b))) (leb (lastKey rs) (memberKey (memberOf b))) (p .1 .0) in
       record {
-        rises = unfold rowOf in ltb-true _ _ (p .1 .0);
+        someone = unfold rowOf in ltb-true _ _ (order .0);
+        follows = unfold rowOf in leb-true _ _ (order .1);
         width = unfold rowOf in simp (length-take, length-drop) (omega arith);
         clear = p .1 .1 .0;
       }
 
-  row-fits : (rs : List Row) (b : List ℕ) → Bytes b → Pass (rowTests e groups rs b)
-      → (rowOf e b .member < 4294967296) × Bytes (rowOf e b .bits)
-  unfolding rowOf u32At
+  row-fits : (rs : List Row) (b : List ℕ) → Bytes b → Pass (testsAfter e groups rs b) → RowFits (rowOf e b)
+  unfolding rowOf
   row-fits rs b k p =
-      (omega (arith, k 4, k 5, k 6, k 7), bytes-take (membershipBytes e) (drop 8 b) (bytes-drop 8 b k))
+      record {
+        member = member-fits b k;
+        bytes = bytes-take (membershipBytes e) (drop rowHead b) (bytes-drop rowHead b k);
+      }
 
-  row-encoded : (rs : List Row) (b : List ℕ) → Bytes b → Pass (rowTests e groups rs b)
+  row-encoded : (rs : List Row) (b : List ℕ) → Bytes b → Pass (testsAfter e groups rs b)
       → encodeRow e (rowOf e b) ++ after b ≡ b
   unfolding encodeRow rowOf
   row-encoded rs b k p =
       let f = row-frame rs b p in
-      let bits = take (membershipBytes e) (drop 8 b) in
-      let tail : take (membershipBytes e) (drop 8 b) ++ after b ≡ drop 8 b =
-      rw (← after-row rs b p, ← drop-drop (membershipBytes e) 8 b) (take-append-drop (membershipBytes e) (drop 8 b)) in
+      let bits = take (membershipBytes e) (drop rowHead b) in
+      let tail : take (membershipBytes e) (drop rowHead b) ++ after b ≡ drop rowHead b =
+      rw (← after-row rs b p, ← drop-drop (membershipBytes e) rowHead b) (take-append-drop (membershipBytes e) (drop rowHead b)) in
       rw (← f .kind)
-      (encode-read b k (omega arith) (le32 (u32At b 4) ++ take (membershipBytes e) (drop 8 b))
-      (rw (append-assoc, tail) (drop-le32 b k 4 (omega arith)))
-      (omega (arith, length-le32 (u32At b 4) bits, length-take (membershipBytes e) (drop 8 b), length-drop 8 b)))
+      (encode-read b k (omega arith) (memberBytes (memberOf b) ++ take (membershipBytes e) (drop rowHead b))
+      (rw (append-assoc, tail) (member-bytes b k (omega arith)))
+      (omega (arith, member-size (memberOf b) bits, length-take (membershipBytes e) (drop rowHead b), length-drop rowHead b)))
 
   -- an encoded row that is right passes, and is read with what follows it
-  module _ (rs : List Row) (r : Row) (c : List ℕ) (R : RowRight e groups rs r) (small : r .member < 4294967296) where
-    row-size : length (le32 (r .member) ++ r .bits) ≡ 4 + membershipBytes e
-    row-size = omega (arith, length-le32 (r .member) (r .bits), R .width)
+  module _ (rs : List Row) (r : Row) (c : List ℕ) (R : RowRight e groups rs r) (F : RowFits r) where
+    row-size : length (memberBytes (r .member) ++ r .bits) ≡ rowHead - 4 + membershipBytes e
+    row-size = omega (arith, member-size (r .member) (r .bits), R .width)
+
+    -- the length field
+    abbrev size : ℕ
+    size = length (memberBytes (r .member) ++ r .bits) + 2
+
+    row-bytes : encodeRow e r ++ c ≡ (le16 size ++ le16 (rowKind e)) ++ (memberBytes (r .member) ++ (r .bits ++ c))
+    unfolding encodeRow encodeRecord
+    row-bytes = simp append-assoc
 
     row-back : rowOf e (encodeRow e r ++ c) ≡ r
-    unfolding rowOf encodeRow encodeRecord le16 le32 u32At
+    unfolding rowOf
     row-back =
-        let m : u32At (le32 (r .member) ++ c) 0 ≡ r .member = u32-le32 (r .member) c small in
-        rw (m, take-at (r .bits) c (membershipBytes e) (R .width))
+        rw (
+          row-bytes,
+          member-back size (rowKind e) (r .member) (r .bits ++ c) (F .member),
+          member-skipped size (rowKind e) (r .member) (r .bits ++ c),
+          take-at (r .bits) c (membershipBytes e) (R .width),
+        )
 
     row-skipped : drop (rowBytes e) (encodeRow e r ++ c) ≡ c
-    unfolding encodeRow encodeRecord le16 le32
     row-skipped =
-        sym (drop-drop (membershipBytes e) 8 (encodeRow e r ++ c)) ∙ drop-at (r .bits) c (membershipBytes e) (R .width)
+        sym (drop-drop (membershipBytes e) rowHead (encodeRow e r ++ c))
+        ∙ (rw (row-bytes, member-skipped size (rowKind e) (r .member) (r .bits ++ c)) (drop-at (r .bits) c (membershipBytes e) (R .width)))
 
     row-begins : (rowBytes e ≤ length (encodeRow e r ++ c)) × (lengthOf (encodeRow e r ++ c) ≡ rowBytes e - 2)
         × (kindOf (encodeRow e r ++ c) ≡ rowKind e)
     unfolding encodeRow
     row-begins =
-        let body = le32 (r .member) ++ r .bits in
+        let body = memberBytes (r .member) ++ r .bits in
         let kind = row-kind-fits e in
         let fits : length body + 2 ≤ noEnd = omega (arith, row-size, groups-within e) in (
           omega (arith, row-size, length-record (rowKind e) body c kind fits),
@@ -118,24 +140,27 @@ module _ (e : Edition) (groups : ℕ) where
           kind-encoded (rowKind e) body c kind fits,
         )
 
-    row-passes : Pass (rowTests e groups rs (encodeRow e r ++ c))
+    row-passes : Pass (testsAfter e groups rs (encodeRow e r ++ c))
     unfolding rowTests
     row-passes =
         let s = row-begins in
-        let member : u32At (encodeRow e r ++ c) 4 ≡ r .member = unfold rowOf in ap (λ q. q .member) row-back in
-        let rises = lt-ltb (lastMember rs) (r .member) (R .rises) in
-        (rw (le-leb _ _ (s .0), eq-eqb _ _ (s .1), eq-eqb _ _ (s .2)), (rw member rises, (rw row-back (R .clear), tt)))
+        let member : memberOf (encodeRow e r ++ c) ≡ r .member = unfold rowOf in ap (λ q. q .member) row-back in
+        let someone = lt-ltb 0 (memberKey (r .member)) (R .someone) in
+        let follows = le-leb (lastKey rs) (memberKey (r .member)) (R .follows) in (
+          rw (le-leb _ _ (s .0), eq-eqb _ _ (s .1), eq-eqb _ _ (s .2)),
+          (rw (member, someone, follows), (rw row-back (R .clear), tt)),
+        )
 
   -- the rows that reading took: at most `left`, behind rs, and qs in all
   abbrev RowsFrom : ℕ → List Row → List ℕ → List Row → Type 0
   RowsFrom left rs b qs =
-      (ys : List Row) × (rs ++ ys ≡ qs) × (length ys ≤ left) × Reads (rowTests e groups) (rowOf e) rs b ys []
+      (ys : List Row) × (rs ++ ys ≡ qs) × (length ys ≤ left) × Reads (testsAfter e groups) (rowOf e) rs b ys []
 
   rows-end : (left : ℕ) (rs : List Row) (b : List ℕ) (qs : List Row) → read rs ≡ read qs → length b ≡ 0
       → RowsFrom left rs b qs
   rows-end left rs b qs x l = ([], append-nil rs ∙ (cc), omega arith, reads-same refl (empty-of-length b l) stop)
 
-  rows-more : (left : ℕ) (rs : List Row) (b : List ℕ) (qs : List Row) → Pass (rowTests e groups rs b)
+  rows-more : (left : ℕ) (rs : List Row) (b : List ℕ) (qs : List Row) → Pass (testsAfter e groups rs b)
       → RowsFrom left (rs ++ (rowOf e b ∷ [])) (after b) qs → RowsFrom (suc left) rs b qs
   rows-more left rs b qs p m =
       (rowOf e b ∷ m .0, sym (append-assoc rs (rowOf e b ∷ []) (m .0)) ∙ m .1, omega (arith, m .2), go p (m .3))
@@ -149,11 +174,11 @@ module _ (e : Edition) (groups : ℕ) where
   rows-read (suc left) rs b qs x =
       split (eqb (length b) 0) (λ t. rows-end (suc left) rs b qs (rw t at x) (eqb-true _ _ t))
       (λ t.
-      let s = onward-read (rowTests e groups rs b) (row-nonzero rs b) _ _ qs (rw t at x) in
+      let s = onward-read (testsAfter e groups rs b) (row-nonzero rs b) _ _ qs (rw t at x) in
       rows-more left rs b qs (s .0)
       (rows-read left (rs ++ (rowOf e b ∷ [])) (after b) qs (rw (after-row rs b (s .0)) at (s .1))))
 
-  rows-encoded : (left : ℕ) {rs ys : List Row} → Each (λ us y. RowRight e groups us y × ((y .member < 4294967296) × Bytes (y .bits))) rs ys → length ys ≤ left
+  rows-encoded : (left : ℕ) {rs ys : List Row} → Each (λ us y. RowRight e groups us y × RowFits y) rs ys → length ys ≤ left
       → readRows e groups left rs (flatMap (encodeRow e) ys) ≡ read (rs ++ ys)
   unfolding readRows flatMap
   rows-encoded zero none l = rw append-nil (onward-passed (test 10 true ∷ []) _ _ (refl, tt))
@@ -161,11 +186,11 @@ module _ (e : Edition) (groups : ℕ) where
   rows-encoded zero (more p m) l = absurd (omega arith)
   rows-encoded (suc left) (more {xs} {ys} {y} p m) l =
       let c = flatMap (encodeRow e) ys in
-      let s = row-begins xs y c (p .0) (p .1 .0) in
-      let v = row-back xs y c (p .0) (p .1 .0) in
-      let k = row-skipped xs y c (p .0) (p .1 .0) in
+      let s = row-begins xs y c (p .0) (p .1) in
+      let v = row-back xs y c (p .0) (p .1) in
+      let k = row-skipped xs y c (p .0) (p .1) in
       rw (ne-eqb (length (encodeRow e y ++ c)) 0 (omega arith))
-      (onward-passed _ _ _ (row-passes xs y c (p .0) (p .1 .0))
+      (onward-passed _ _ _ (row-passes xs y c (p .0) (p .1))
       ∙ rw (v, k, rows-encoded left m (omega arith), append-assoc))
 
   -- The written register loses nothing.

@@ -1,19 +1,19 @@
--- `registers::check::block_breaks` meets its contract. Invariant: the number is 0 where none of the rows seen breaks the rule.
+-- `registers::check::block_breaks` meets its contract. Invariant: the number is 0 where none of the members seen breaks the rule.
 use borrow.Author.Needs.{needs}
 use native.Mathlib.Omega.{arith}
 use Prim.Native.Nat.{_+_, _-_, _*_, _≤_}
 use mathlib.Core.Path.{_≡_}
 use Rattle.rows.specs.RowsRead.{wordBits}
-use Rattle.registers.specs.Columns.{blockWords, blockRows}
-use Rattle.registers.specs.RuleTests.{rowBreaks}
-use Rattle.registers.proofs.WordLaws.{RowsSeen, rows-seen-none, rows-seen-more, rows-seen-all}
+use Rattle.registers.specs.Columns.{blockWords, blockMembers}
+use Rattle.registers.specs.RuleTests.{memberBreaks}
+use Rattle.registers.proofs.WordLaws.{MembersSeen, members-seen-none, members-seen-more, members-seen-all}
 use Rattle.registers.proofs.check.block_breaks.Statement.{statement}
 use Rattle.registers.proofs.check.block_breaks.Tie as tie
 
 abbrev Inv-loop : tie.InvT-loop
 Inv-loop rule columns some two b g p broken₀ k₀ broken k =
     (k ≤ blockWords)
-    × RowsSeen (rowBreaks rule columns some two (g .0) (p .0)) (blockRows * b) (wordBits * (blockWords * b + k)) broken
+    × MembersSeen (memberBreaks rule columns some two (g .0) (p .0)) (blockMembers * b) (wordBits * (blockWords * b + k)) broken
 
 abbrev μ-loop : tie.MeasureT-loop
 μ-loop rule columns some two b g p broken₀ k₀ broken k = blockWords - k
@@ -21,8 +21,8 @@ abbrev μ-loop : tie.MeasureT-loop
 loop-holds : tie.Need-loop-holds Inv-loop μ-loop
 loop-holds c =
     let b = c .before .before .before .args .b in
-    let e : wordBits * (blockWords * b + 0) ≡ blockRows * b = omega arith in
-    (search needs, rw e (rows-seen-none _ _))
+    let e : wordBits * (blockWords * b + 0) ≡ blockMembers * b = omega arith in
+    (search needs, rw e (members-seen-none _ _))
 
 mul-breaking : tie.Need-mul-breaking Inv-loop μ-loop
 mul-breaking c = search needs
@@ -44,14 +44,14 @@ loop-again c =
     let l = c .before .before .loop in
     let b = c .before .before .before .before .before .before .args .b in
     let e : blockWords * b + (l .k + 1) ≡ blockWords * b + l .k + 1 = omega arith in
-    (search needs, rw e (rows-seen-more (l .inv .1) (omega arith) (c .breaking .ensures) (search needs)))
+    (search needs, rw e (members-seen-more (l .inv .1) (omega arith) (c .breaking .ensures) (search needs)))
 
 returns : tie.Need-returns Inv-loop μ-loop
 returns c =
     let l = c .before .loop in
     let b = c .before .before .before .before .before .args .b in
-    let e : wordBits * (blockWords * b + l .k) ≡ blockRows * (b + 1) = omega arith in
-    rows-seen-all (rw e at (l .inv .1))
+    let e : wordBits * (blockWords * b + l .k) ≡ blockMembers * (b + 1) = omega arith in
+    members-seen-all (rw e at (l .inv .1))
 
 pub block-breaks-spec : {M : Type 1} → statement M
 block-breaks-spec =

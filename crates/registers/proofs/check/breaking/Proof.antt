@@ -1,8 +1,8 @@
 -- `registers::check::breaking` meets its contract.
 use borrow.Author.Needs.{needs}
 use borrow.Author.Tests.{ne-eqb}
-use Rattle.registers.specs.RuleTests.{rowBreaks}
-use Rattle.registers.proofs.WordLaws.{first-word, rows-in, passing-as, rows-lack}
+use Rattle.registers.specs.RuleTests.{memberBreaks}
+use Rattle.registers.proofs.WordLaws.{first-word, members-in, passing-as, members-lack}
 use Rattle.registers.proofs.check.breaking.Statement.{statement}
 use Rattle.registers.proofs.check.breaking.Tie as tie
 
@@ -16,10 +16,10 @@ beyond-requires : tie.Need-beyond-requires
 beyond-requires c κs = search needs
 
 returns : tie.Need-returns
-unfolding rowBreaks
+unfolding memberBreaks
 returns c =
     let a = c .before .before in
-    rw (a .before .if1 .taken) (rows-lack _ _ _ _ _ (a .column-word .ensures) (c .before .column-word2 .ensures) (c .beyond .ensures))
+    rw (a .before .if1 .taken) (members-lack _ _ _ _ _ (a .column-word .ensures) (c .before .column-word2 .ensures) (c .beyond .ensures))
 
 column-word-requires-3 : tie.Need-column-word-requires-3
 column-word-requires-3 c κs = search needs
@@ -31,10 +31,10 @@ beyond-requires-2 : tie.Need-beyond-requires-2
 beyond-requires-2 c κs = search needs
 
 returns-2 : tie.Need-returns-2
-unfolding rowBreaks
+unfolding memberBreaks
 returns-2 c =
     let a = c .before .before in
-    rw (a .before .if2 .taken) (rows-lack _ _ _ _ _ (a .column-word3 .ensures) (c .before .column-word4 .ensures) (c .beyond2 .ensures))
+    rw (a .before .if2 .taken) (members-lack _ _ _ _ _ (a .column-word3 .ensures) (c .before .column-word4 .ensures) (c .beyond2 .ensures))
 
 column-word-requires-5 : tie.Need-column-word-requires-5
 column-word-requires-5 c κs = search needs
@@ -49,12 +49,12 @@ beyond-requires-3 : tie.Need-beyond-requires-3
 beyond-requires-3 c κs = search needs
 
 returns-3 : tie.Need-returns-3
-unfolding rowBreaks
+unfolding memberBreaks
 returns-3 c =
     let a = c .before .before in
     let q = a .before .before .before .before .before .before .before .args in
     rw (a .before .if3 .taken)
-    (rows-lack _ _ _ _ _ (a .column-word5 .ensures) (first-word (q .some .now) (q .w)) (c .beyond3 .ensures))
+    (members-lack _ _ _ _ _ (a .column-word5 .ensures) (first-word (q .some .now) (q .w)) (c .beyond3 .ensures))
 
 mul-result : tie.Need-mul-result
 mul-result c = search needs
@@ -63,13 +63,13 @@ shared-slice-read-result : tie.Need-shared-slice-read-result
 shared-slice-read-result c = search needs
 
 returns-4 : tie.Need-returns-4
-unfolding rowBreaks
+unfolding memberBreaks
 returns-4 c =
     let e = c .before in
     let q = e .before .before .before .before .before .before .args in
     passing-as
     (λ i. rw (ne-eqb _ _ (e .before .before .if1 .left), ne-eqb _ _ (e .before .if2 .left), ne-eqb _ _ (e .if3 .left)))
-    (rows-in (q .two .now) 0 (q .w) (first-word (q .two .now) (q .w)))
+    (members-in (q .two .now) 0 (q .w) (first-word (q .two .now) (q .w)))
 
 pub breaking-spec : {M : Type 1} → statement M
 breaking-spec =

@@ -1,4 +1,4 @@
--- `registers::check::check_register` meets its contract. The answer to the columns of the rows is the answer to the rows.
+-- `registers::check::check_register` meets its contract. The answer to the members' columns is the answer to the rows.
 use borrow.Author.Needs.{needs}
 use mathlib.Core.Path.{_≡_, sym}
 use native.Mathlib.Omega.{arith}
@@ -12,20 +12,20 @@ use Rattle.rows.specs.RowsRead.{rowGroups, rowsBefore}
 use Rattle.rows.proofs.RowLaws.{rows-most, rows-readable}
 use Rattle.registers.specs.Columns.{columnWords, columnsLength, columnSets}
 use Rattle.registers.specs.Tallies.{sonStarts, Counted}
-use Rattle.registers.proofs.CheckLaws.{checked-refused, tallied-refused, others-none, columns-counted, checked-columns, tallied-columns, zeros}
+use Rattle.registers.proofs.CheckLaws.{checked-refused, tallied-refused, others-none, columns-counted, members-most, checked-columns, tallied-columns, zeros}
 use Rattle.registers.proofs.check.check_register.Statement.{statement}
 use Rattle.registers.proofs.check.check_register.Tie as tie
 
--- n rows are read
-rows-read : (c : tie.After-n)
-    → read (rowsBefore (c .before .before .before .before .before .before .before .before .before .before .before .args .register .now) (c .n .given .0 .0))
+-- the rows are read
+rows-read : (c : tie.After-rows)
+    → read (rowsBefore (c .before .before .before .before .before .before .before .before .before .before .before .args .register .now) (c .rows .given .0 .0))
     ≡ readRegister edition1 (c .before .before .before .before .before .before .before .before .before .before .before .args .size)
     (c .before .before .before .before .before .before .before .before .before .before .before .args .register .now)
-rows-read c = rw (c .n .given .1) at (c .before .before .read-rows .ensures)
+rows-read c = rw (c .rows .given .1) at (c .before .before .read-rows .ensures)
 
 -- the counts are those of the columns
 counted : (c : tie.After-count-groups)
-    → Counted (sheetIn (c .before .before .before .before .before .before .before .before .before .before .before .before .before .before .before .before .before .before .before .args .groups .now) (c .before .before .before .before .before .before .before .before .before .before .before .before .before .before .before .before .before .before .before .args .size)) (columnSets (c .before .before .before .before .before .fill-columns .last .1 .1 .0) (c .before .before .before .before .before .before .before .before .n .given .0 .0))
+    → Counted (sheetIn (c .before .before .before .before .before .before .before .before .before .before .before .before .before .before .before .before .before .before .before .args .groups .now) (c .before .before .before .before .before .before .before .before .before .before .before .before .before .before .before .before .before .before .before .args .size)) (columnSets (c .before .before .before .before .before .fill-columns .last .1 .1 .0) (c .before .before .before .before .before .fill-columns .result))
     (c .count-groups .last .1 .1 .1 .0)
 counted c =
     let w = c .before .before in
@@ -50,8 +50,8 @@ read-rows-requires c κs = search needs
 enum-known-refusal : tie.Need-enum-known-refusal
 enum-known-refusal c = search needs
 
-enum-known-n : tie.Need-enum-known-n
-enum-known-n c = search needs
+enum-known-rows : tie.Need-enum-known-rows
+enum-known-rows c = search needs
 
 slice-aggregate-fill-columns : tie.Need-slice-aggregate-fill-columns
 slice-aggregate-fill-columns c = search needs
@@ -65,7 +65,8 @@ slice-aggregate-count-groups : tie.Need-slice-aggregate-count-groups
 slice-aggregate-count-groups c = search needs
 
 blocks-for-requires : tie.Need-blocks-for-requires
-blocks-for-requires c κs = rows-most _ _ _ (rows-read (c .before .before .before .before .before))
+blocks-for-requires c κs =
+    let f = c .before .before in members-most _ _ _ (rows-read (f .before .before .before)) (f .fill-columns .ensures)
 
 mul-count-groups : tie.Need-mul-count-groups
 mul-count-groups c = search needs
@@ -100,7 +101,7 @@ scan-requires c κs =
       start .pre .0,
       record {
         columns = le-of-eq (sym (f .fill-columns .kept .1 .1 .0));
-        rows = rows-most _ _ _ (rows-read n);
+        members = members-most _ _ _ (rows-read n) (f .fill-columns .ensures);
         others = λ h i y. others-none (f .fill-columns .ensures) h i (y .first) (omega (arith, y .last, z, start .pre .0 .most));
         sons = g .gather-sons .ensures;
         places = omega (arith, k .count-groups .kept .1 .1 .1 .0);
@@ -126,8 +127,8 @@ returns-2 c =
     let start = n .before .before .before .before .before .before .before .before .before .before .before in
     let z : sheetIn (start .args .groups .now) (start .args .size) .size ≤ rowGroups
     = omega (arith, size-in (start .args .groups .now) (start .args .size), start .pre .0 .most) in (
-      checked-columns _ z _ _ _ _ (rows-read n) (f .fill-columns .ensures) _ (start .pre .0 .tabled .tree) (c .before .before .scan .ensures),
-      tallied-columns _ z _ _ _ _ (rows-read n) (f .fill-columns .ensures) _ _ (counted k),
+      checked-columns _ z _ _ _ (rows-read n) (f .fill-columns .ensures) _ (start .pre .0 .tabled .tree) (c .before .before .scan .ensures),
+      tallied-columns _ z _ _ _ (rows-read n) (f .fill-columns .ensures) _ _ (counted k),
     )
 
 pub check-register-spec : {M : Type 1} → statement M
@@ -139,7 +140,7 @@ check-register-spec =
     gather-sons-requires
     read-rows-requires
     enum-known-refusal
-    enum-known-n
+    enum-known-rows
     slice-aggregate-fill-columns
     fill-columns-requires
     slice-aggregate-count-groups

@@ -1,5 +1,5 @@
 -- `registers::check::scan` meets its contract. Invariants: nothing is broken at the groups before g, by the rules before `rule`,
--- by the rows of the blocks before b.
+-- by the members of the blocks before b.
 use borrow.Author.Needs.{needs}
 use Prim.Native.Nat.{_+_, _-_, _*_, _≤_, _<_}
 use mathlib.Core.Path.{_≡_, refl, sym, _∙_}
@@ -7,18 +7,18 @@ use mathlib.Core.Logic.{⊎-elim}
 use native.Mathlib.Omega.{arith}
 use lib.ListN.{length}
 use Rattle.reading.specs.SheetIn.{sheetIn, size-in, group-in, parent-below}
-use Rattle.registers.specs.Columns.{blockRows, columnSets}
+use Rattle.registers.specs.Columns.{blockMembers, columnSets}
 use Rattle.registers.specs.RuleTests.{parentIn}
 use Rattle.registers.specs.declared.check.Check.the-variants as check
 use Rattle.registers.proofs.JoinLaws.{sons-readable}
-use Rattle.registers.proofs.ScanLaws.{ClearGroups, ClearRules, ClearRows, rows-none, rows-more, rules-none, groups-none}
-use Rattle.registers.proofs.ScanLaws.{groups-more, scan-fits, rules-row, rules-not, rules-count, scan-row, scan-count}
+use Rattle.registers.proofs.ScanLaws.{ClearGroups, ClearRules, ClearMembers, members-none, members-more, rules-none, groups-none}
+use Rattle.registers.proofs.ScanLaws.{groups-more, scan-fits, rules-member, rules-not, rules-count, scan-member, scan-count}
 use Rattle.registers.proofs.check.scan.Statement.{statement}
 use Rattle.registers.proofs.check.scan.Tie as tie
 
 abbrev Inv-loop2 : tie.InvT-loop2
 Inv-loop2 groups size columns n starts order counts some two answer₀ end blocks words g group p rule b₀ answer b =
-    (b ≤ blocks) × ((answer ≡ check.Fits) × ClearRows rule columns some two (group .0) (p .0) (blockRows * b))
+    (b ≤ blocks) × ((answer ≡ check.Fits) × ClearMembers rule columns some two (group .0) (p .0) (blockMembers * b))
 
 abbrev μ-loop2 : tie.MeasureT-loop2
 μ-loop2 groups size columns n starts order counts some two answer₀ end blocks words g group p rule b₀ answer b = blocks - b
@@ -108,7 +108,7 @@ may-break-requires c κs =
     )
 
 loop2-holds : tie.Need-loop2-holds Inv-loop2 μ-loop2 Inv-loop μ-loop Inv-scan μ-scan
-loop2-holds c = (search needs, (c .before .before .before .before .loop .inv .1 .1 .0, rows-none _ _ _ _ _ _))
+loop2-holds c = (search needs, (c .before .before .before .before .loop .inv .1 .1 .0, members-none _ _ _ _ _ _))
 
 block-breaks-requires :
     tie.Need-block-breaks-requires Inv-loop2 μ-loop2 Inv-loop μ-loop Inv-scan μ-scan
@@ -136,7 +136,7 @@ loop2-less c = search needs
 loop2-again : tie.Need-loop2-again Inv-loop2 μ-loop2 Inv-loop μ-loop Inv-scan μ-scan
 loop2-again c =
     let i = c .before .before .before .before .before .loop2 .inv in
-    (search needs, (i .1 .0, rows-more (i .1 .1) (c .before .block-breaks .ensures) (c .if3 .left)))
+    (search needs, (i .1 .0, members-more (i .1 .1) (c .before .block-breaks .ensures) (c .if3 .left)))
 
 count-breaks-requires :
     tie.Need-count-breaks-requires Inv-loop2 μ-loop2 Inv-loop μ-loop Inv-scan μ-scan
@@ -162,7 +162,7 @@ loop-again c =
         omega (arith, w .0 .taken),
         (
           w .5 ∙ w .3 .inv .1 .0,
-          rules-row (p .0) (p .1) _ _ (s .before .scan .inv .0) (omega arith) f (joining l .join-asked .ensures)
+          rules-member (p .0) (p .1) _ _ (s .before .scan .inv .0) (omega arith) f (joining l .join-asked .ensures)
               (l .loop .inv .1 .1 .1) (w .0 .taken) _ (omega (arith, w .4 .left)) (rw (q .parent-of .ensures) at (w .3 .inv .1 .1)),
         ),
       ),
@@ -240,9 +240,9 @@ returns-2 c =
     let q = parent l in
     let s = q .before in
     let p = start s .pre in
-    scan-row (p .0) (p .1) _ _ (s .before .scan .inv .0) (omega arith) (s .before .before .blocks-for .ensures)
+    scan-member (p .0) (p .1) _ _ (s .before .scan .inv .0) (omega arith) (s .before .before .blocks-for .ensures)
     (joining l .join-asked .ensures) (l .loop .inv .1 .1 .1) (s .before .scan .inv .1 .1 .1 .1 .1) (l .loop .inv .0) _ refl
-    (m .before .if1 .taken) (blockRows * r .before .loop2 .b) (blockRows * (r .before .loop2 .b + 1)) (omega (arith, r .loop2-test .taken)) (sym (m .may-break .ensures) ∙ r .before .before .if2 .taken) _
+    (m .before .if1 .taken) (blockMembers * r .before .loop2 .b) (blockMembers * (r .before .loop2 .b + 1)) (omega (arith, r .loop2-test .taken)) (sym (m .may-break .ensures) ∙ r .before .before .if2 .taken) _
     (rw (← q .parent-of .ensures) (c .before .block-breaks .ensures)) (c .if3 .taken)
 
 same-length-5 : tie.Need-same-length-5 Inv-loop2 μ-loop2 Inv-loop μ-loop Inv-scan μ-scan

@@ -50,7 +50,7 @@ same-length c = search needs
 returns : tie.Need-returns
 returns c =
     let a = c .before .before .args in
-    rw (one-shifted (a .row % wordBits) (omega arith)) (group-put _ _ _ (omega arith) (omega arith) (omega arith))
+    rw (one-shifted (a .member % wordBits) (omega arith)) (group-put _ _ _ (omega arith) (omega arith) (omega arith))
 
 pub put-group-spec : {M : Type 1} → statement M
 put-group-spec =

@@ -11,11 +11,11 @@ use Rattle.registers.proofs.columns.put_row.Statement.{statement}
 use Rattle.registers.proofs.columns.put_row.Tie as tie
 
 abbrev Inv-loop : tie.InvT-loop
-Inv-loop register place row columns₀ k₀ columns k =
-    (k ≤ rowWords) × ((length columns ≡ length columns₀) × Put (firstBits register place k) row columns₀ columns)
+Inv-loop register place member columns₀ k₀ columns k =
+    (k ≤ rowWords) × ((length columns ≡ length columns₀) × Put (firstBits register place k) member columns₀ columns)
 
 abbrev μ-loop : tie.MeasureT-loop
-μ-loop register place row columns₀ k₀ columns k = rowWords - k
+μ-loop register place member columns₀ k₀ columns k = rowWords - k
 
 loop-holds : tie.Need-loop-holds Inv-loop μ-loop
 loop-holds c = (search needs, (refl, bits-none _ _ _ _))

@@ -13,12 +13,12 @@ use Rattle.registers.proofs.columns.put_word.Statement.{statement}
 use Rattle.registers.proofs.columns.put_word.Tie as tie
 
 abbrev Inv-loop : tie.InvT-loop
-Inv-loop word before row columns₀ left₀ number₀ columns left number =
+Inv-loop word before member columns₀ left₀ number₀ columns left number =
     (length columns ≡ length columns₀)
-    × ((left < 2 ^ 64) × ((number ≡ ones left) × GroupsTaken word before row columns₀ left columns))
+    × ((left < 2 ^ 64) × ((number ≡ ones left) × GroupsTaken word before member columns₀ left columns))
 
 abbrev μ-loop : tie.MeasureT-loop
-μ-loop word before row columns₀ left₀ number₀ columns left number = number
+μ-loop word before member columns₀ left₀ number₀ columns left number = number
 
 groups-in-requires : tie.Need-groups-in-requires Inv-loop μ-loop
 groups-in-requires c κs = search needs

@@ -1,21 +1,21 @@
 -- `rows::read::read_rows` meets its contract. Invariant: the reading that is left after `row` rows is the whole reading, `at` is
--- the place after these rows, and `last` the last member of them.
+-- the place after these rows, and `last` the key of the last member of them.
 use borrow.Author.Needs.{needs}
 use Prim.Native.Nat.{_-_, _*_, _≤_}
 use mathlib.Core.Path.{_≡_, sym, _∙_}
 use native.Mathlib.Omega.{arith}
 use Rattle.wire.specs.Edition.{edition1, membershipBytes, rowBytes}
 use Rattle.wire.specs.Limits.{rowLimit}
-use Rattle.wire.specs.RegisterFormat.{lastMember, readRegister}
+use Rattle.wire.specs.RegisterFormat.{lastKey, readRegister}
 use Rattle.rows.specs.RowsRead.{rowsBefore}
 use Rattle.rows.proofs.RowLaws.{held-frame, held-within, going, going-start, last-start, going-end, going-refused}
-use Rattle.rows.proofs.RowLaws.{going-member, going-bits, going-on, last-on, going-full, going-over}
+use Rattle.rows.proofs.RowLaws.{going-bits, going-on, last-row, going-full, going-over}
 use Rattle.rows.proofs.read.read_rows.Statement.{statement}
 use Rattle.rows.proofs.read.read_rows.Tie as tie
 
 abbrev Inv-loop : tie.InvT-loop
 Inv-loop register groups at₀ last₀ row₀ at last row =
-    (row ≤ rowLimit) × (at ≡ rowBytes edition1 * row) × (last ≡ lastMember (rowsBefore register row))
+    (row ≤ rowLimit) × (at ≡ rowBytes edition1 * row) × (last ≡ lastKey (rowsBefore register row))
     × (readRegister edition1 groups register ≡ going groups register row)
 
 abbrev μ-loop : tie.MeasureT-loop
@@ -41,7 +41,7 @@ returns c =
     let d = c .before .before in
     let l = d .before .before .loop in
     sym (l .inv .3 ∙ going-end _ _ _ (d .before .loop-test .taken)
-    (rw (c .enum-told .given .1, l .inv .1) at (d .row-of .ensures)))
+    (rw (c .enum-told .given .1, l .inv .1, l .inv .2) at (d .row-of .ensures)))
 
 enum-known-n : tie.Need-enum-known-n Inv-loop μ-loop
 enum-known-n c = search needs
@@ -51,10 +51,15 @@ returns-2 c =
     let d = c .before .before .before in
     let l = d .before .before .loop in
     sym (l .inv .3 ∙ going-refused _ _ _ (d .before .loop-test .taken) _
-    (rw (c .before .n .given .1, l .inv .1) at (d .row-of .ensures)))
+    (rw (c .before .n .given .1, l .inv .1, l .inv .2) at (d .row-of .ensures)))
 
 enum-known-r : tie.Need-enum-known-r Inv-loop μ-loop
 enum-known-r c = search needs
+
+bit-above-requires : tie.Need-bit-above-requires Inv-loop μ-loop
+bit-above-requires c κs =
+    let r = c .before in
+    held-within _ _ _ _ (rw (r .r .given .1) at (r .before .before .row-of .ensures))
 
 returns-3 : tie.Need-returns-3 Inv-loop μ-loop
 returns-3 c =
@@ -62,23 +67,8 @@ returns-3 c =
     let d = r .before .before in
     let l = d .before .before .loop in
     sym (l .inv .3
-    ∙ going-member _ _ _ (d .before .loop-test .taken) _ (rw (r .r .given .1, l .inv .1) at (d .row-of .ensures))
-    (rw (l .inv .2) at (c .if1 .taken)))
-
-bit-above-requires : tie.Need-bit-above-requires Inv-loop μ-loop
-bit-above-requires c κs =
-    let r = c .before .before .before in
-    held-within _ _ _ (rw (r .r .given .1) at (r .before .before .row-of .ensures))
-
-returns-4 : tie.Need-returns-4 Inv-loop μ-loop
-returns-4 c =
-    let r = c .before .before .before .before .before in
-    let d = r .before .before in
-    let l = d .before .before .loop in
-    sym (l .inv .3
-    ∙ going-bits _ _ _ (d .before .loop-test .taken) _ (rw (r .r .given .1, l .inv .1) at (d .row-of .ensures))
-    (rw (l .inv .2) at (c .before .before .if1 .left))
-    (rw (c .if2 .taken) at (c .before .bit-above .ensures)))
+    ∙ going-bits _ _ _ (d .before .loop-test .taken) _ (rw (r .r .given .1, l .inv .1, l .inv .2) at (d .row-of .ensures))
+    (rw (c .if1 .taken) at (c .before .bit-above .ensures)))
 
 add-row : tie.Need-add-row Inv-loop μ-loop
 add-row c = search needs
@@ -88,30 +78,27 @@ loop-less c = search needs
 
 loop-again : tie.Need-loop-again Inv-loop μ-loop
 loop-again c =
-    let r = c .before .before .before .before .before in
+    let r = c .before .before .before in
     let d = r .before .before in
     let l = d .before .before .loop in
-    let groups = d .before .before .before .before .args .groups in
-    let whole = rw (r .r .given .1, l .inv .1) at (d .row-of .ensures) in (
+    let whole = rw (r .r .given .1, l .inv .1, l .inv .2) at (d .row-of .ensures) in (
       search needs,
-      held-frame _ _ _ whole .next ∙ omega arith,
-      last-on groups _ _ (d .before .loop-test .taken) _ whole,
+      held-frame _ _ _ _ whole .next ∙ omega arith,
+      held-frame _ _ _ _ whole .key ∙ sym (last-row _ _),
       l .inv .3
-          ∙ going-on _ _ _ (d .before .loop-test .taken) _ whole
-          (rw (l .inv .2) at (c .before .before .if1 .left))
-          (rw (c .if2 .left) at (c .before .bit-above .ensures)),
+          ∙ going-on _ _ _ (d .before .loop-test .taken) _ whole (rw (c .if1 .left) at (c .before .bit-above .ensures)),
     )
 
-returns-5 : tie.Need-returns-5 Inv-loop μ-loop
+returns-4 : tie.Need-returns-4 Inv-loop μ-loop
 unfolding membershipBytes
-returns-5 c =
+returns-4 c =
     let l = c .before .before .loop in
     let full : l .row ≡ rowLimit = omega arith in
     sym (l .inv .3 ∙ (rw full (going-over _ _ (omega arith))))
 
-returns-6 : tie.Need-returns-6 Inv-loop μ-loop
+returns-5 : tie.Need-returns-5 Inv-loop μ-loop
 unfolding membershipBytes
-returns-6 c =
+returns-5 c =
     let l = c .before .before .loop in
     let full : l .row ≡ rowLimit = omega arith in
     sym (l .inv .3 ∙ (rw full (going-full _ _ (omega arith))))
@@ -131,11 +118,10 @@ read-rows-spec =
     enum-known-n
     returns-2
     enum-known-r
-    returns-3
     bit-above-requires
-    returns-4
+    returns-3
     add-row
     loop-less
     loop-again
-    returns-5
-    returns-6)
+    returns-4
+    returns-5)
