@@ -2,22 +2,19 @@
 -- the ones of the columns are the counts.
 use Prim.Native.Nat.{ℕ, _*_, _≤_, _<_}
 use mathlib.Core.Path.{_≡_, refl, _∙_}
-use mathlib.Core.Bool.{Bool, true, false}
 use mathlib.Core.List.{List}
 use native.Mathlib.Omega.{arith}
-use borrow.Author.Tests.{lt-ltb, le-ltb, eq-eqb, ne-eqb}
+use borrow.Author.Tests.{lt-ltb, le-ltb}
 use lib.ListN.{length, getD, replicate, length-replicate, getD-replicate, List·getD-eq-default}
-use lib.Dec.{eqb}
-use Rattle.laws.specs.Sum.{bit}
+use Rattle.laws.specs.SumLaws.{bit-eq}
 use Rattle.wire.specs.Edition.{edition1}
 use Rattle.wire.specs.Limits.{rowLimit}
 use Rattle.wire.specs.Record.{Reading, read, refused}
-use Rattle.wire.specs.Member.{noMember}
 use Rattle.wire.specs.RegisterFormat.{Row, readRegister}
 use Rattle.meaning.specs.Sheet.{Sheet}
 use Rattle.meaning.specs.Tree.{Tree}
-use Rattle.meaning.specs.OfRecords.{members, listed, listedSets}
-use Rattle.meaning.specs.ReadableRows.{distinct-of-readable}
+use Rattle.meaning.specs.OfRecords.{members, listedSets}
+use Rattle.meaning.specs.ReadableRows.{memberIn, distinct-of-readable}
 use Rattle.laws.specs.Cases.{compare-le}
 use Rattle.rows.specs.RowsRead.{wordBits, rowGroups, rowsBefore}
 use Rattle.rows.proofs.RowLaws.{rows-most}
@@ -28,6 +25,7 @@ use Rattle.registers.specs.Agree.{Agree, answered-agree, count-agree}
 use Rattle.registers.specs.Checked.{AnswerTo, Checked, Tallied}
 use Rattle.registers.specs.declared.check.Check.{Check}
 use Rattle.registers.specs.declared.check.Check.the-variants as check
+use Rattle.registers.proofs.ColumnLaws.{bit-column}
 use Rattle.registers.proofs.PutLaws.{members-within}
 use Rattle.registers.proofs.CountLaws.{column-count}
 
@@ -68,19 +66,15 @@ members-most groups b rows w f = omega (arith, members-within b rows f, rows-mos
 module _ (s : Sheet) (z : s .size ≤ rowGroups) (groups : ℕ) (b : List ℕ) (rows : ℕ) (w : read (rowsBefore b rows) ≡ readRegister edition1 groups b)
     {t : List ℕ} {n : ℕ} (f : ColumnsFilled (rowsBefore b rows) n t) where
   columns-agree : (rs : List Row) → rowsBefore b rows ≡ rs → Agree s (columnSets t n) (listedSets rs)
-  unfolding inColumn
   columns-agree rs e =
       let f′ = rw e at f in
       record {
         bound = f′ .number;
         groups = λ i g l y.
             let here = f′ .each g i (y .first) (omega (arith, y .last)) (omega (arith, members-most groups b rows w f)) in
-            rw here (rw (lt-ltb i (length (members rs)) (omega (arith, f′ .number))) (one (listed rs g (getD (members rs) i noMember))));
+            bit-eq (inColumn t g i) (memberIn rs i g) (bit-column t g i ∙ here)
+            ∙ (rw (lt-ltb i (length (members rs)) (omega (arith, f′ .number))));
       }
-    where
-      one : (a : Bool) → eqb (bit a) 1 ≡ a
-      one true = eq-eqb 1 1 refl
-      one false = ne-eqb 0 1 (λ e. omega arith)
 
   -- the answer to the columns is the answer to the rows
   pub checked-columns : (r : Check) → Tree s → AnswerTo s (columnSets t n) r → Checked s (readRegister edition1 groups b) r

@@ -30,12 +30,12 @@ unfolding columnDigit
 column-le t g i = digit-le (getD t (columnWord g (i / wordBits)) 0) (i % wordBits)
 
 -- a digit as a test, and back
+pub digit-bit : (d : ℕ) → d ≤ 1 → bit (eqb d 1) ≡ d
+digit-bit d l = compare-eq d 1 (λ e. rw (eq-eqb d 1 e) (sym e)) (λ e. rw (ne-eqb d 1 e) (omega arith))
+
 pub bit-column : (t : List ℕ) (g i : ℕ) → bit (inColumn t g i) ≡ columnDigit t g i
 unfolding inColumn
-bit-column t g i =
-    compare-eq (columnDigit t g i) 1
-    (λ e. rw (eq-eqb (columnDigit t g i) 1 e) (sym e))
-    (λ e. rw (ne-eqb (columnDigit t g i) 1 e) (omega (arith, column-le t g i)))
+bit-column t g i = digit-bit (columnDigit t g i) (column-le t g i)
 
 pub column-one : (t : List ℕ) (g i : ℕ) → inColumn t g i ≡ true → columnDigit t g i ≡ 1
 unfolding inColumn

@@ -22,6 +22,7 @@ use Rattle.rows.specs.RowsRead.{wordBits, rowGroups, fromRow, rowsBefore, bitsP
 use Rattle.rows.specs.declared.decode.RowFound.{RowFound}
 use Rattle.rows.proofs.RowLaws.{in-group-bit, length-rowsBefore, Stands}
 use Rattle.registers.specs.Columns.{columnDigit, ColumnsFilled}
+use Rattle.registers.proofs.ColumnLaws.{digit-bit}
 use Rattle.registers.specs.ColumnSteps.{LowestGroup, Put, GroupPut, wordBit, WordPut, RowPut, Empty}
 
 -- what is put depends on the groups' bits alone; what is put in two steps
@@ -174,9 +175,7 @@ module _ {b : List ℕ} {row : ℕ} {v : RowFound} (s : Stands b row v) (o : Ord
   unfolding bitAt
   bit-of g l =
       rw (in-group-bit b (rowBytes edition1 * row) g l, s .bits)
-      (compare-eq (bitAt b (bitsPlace row) (g - 1)) 1
-      (λ e. rw (eq-eqb (bitAt b (bitsPlace row) (g - 1)) 1 e) (sym e))
-      (λ e. rw (ne-eqb (bitAt b (bitsPlace row) (g - 1)) 1 e) (omega (arith, digit-le (getD b (bitsPlace row + (g - 1) / 8) 0) ((g - 1) % 8)))))
+      (digit-bit (bitAt b (bitsPlace row) (g - 1)) (digit-le (getD b (bitsPlace row + (g - 1) / 8) 0) ((g - 1) % 8)))
 
   is-joined : v .joined ≡ true → lastKey rs ≡ memberKey (r .member)
   is-joined e = sym (eqb-true (v .key) (lastKey rs) (sym (s .joined) ∙ e)) ∙ s .key
