@@ -5,7 +5,7 @@
 const MAX_G: usize = 128;
 const MAX_S: usize = 128;
 const MAX_Q: usize = 64;
-const MAX_SIDE: usize = 8;
+const MAX_LIST: usize = 8;
 const MAX_ROWS: usize = 2048;
 const ENDLESS: u32 = u32::MAX;
 const NO_UPPER: u32 = 65535;
@@ -156,7 +156,7 @@ pub fn read(s: &[u8], t: &mut Tables) -> Result<(), Refusal> {
                     return Err((3, no));
                 }
                 let (m, n) = (get16(s, at + 4) as usize, get16(s, at + 6) as usize);
-                if m == 0 || m > MAX_SIDE || n == 0 || n > MAX_SIDE || 6 + 2 * (m + n) != len {
+                if m == 0 || m > MAX_LIST || n == 0 || n > MAX_LIST || 6 + 2 * (m + n) != len {
                     return Err((4, no));
                 }
                 for k in 0..m + n {
@@ -550,18 +550,18 @@ fn shows(s: &[u8], t: &Tables, at: usize, f: &mut Marked, out: &mut Shown) -> bo
         }
         return false;
     }
-    // The groups of each side; names of the empty set are left out.
-    let mut groups = [[0; MAX_SIDE]; 2];
+    // The groups of each list; names of the empty set are left out.
+    let mut groups = [[0; MAX_LIST]; 2];
     let mut many = [0; 2];
     let mut k = at + 8;
-    for side in 0..2 {
-        for _ in 0..get16(s, at + 4 + 2 * side) {
+    for list in 0..2 {
+        for _ in 0..get16(s, at + 4 + 2 * list) {
             let g = t.named[get16(s, k) as usize] as usize;
             k += 2;
             if g != 0 {
-                groups[side][many[side]] = g;
-                many[side] += 1;
-            } else if kind == 7 && side == 0 {
+                groups[list][many[list]] = g;
+                many[list] += 1;
+            } else if kind == 7 && list == 0 {
                 return false;
             }
         }
@@ -612,25 +612,28 @@ pub fn claim(sheet: &[u8], claim: u32, reply: &mut [u8]) -> u64 {
     pack(0, size as u32)
 }
 
-const ROW: usize = 24;
+const ROW: usize = 26; // length, kind, member, side, 16 bytes of membership
+const LEFT: u16 = 1;
+const RIGHT: u16 = 2;
 const WORDS: usize = MAX_ROWS.div_ceil(64); // of a column: 64 members each
 
 fn get64(row: &[u8; ROW], at: usize) -> u64 {
     u64::from_le_bytes(row[at..at + 8].try_into().unwrap())
 }
 
-fn member_of(row: &[u8; ROW]) -> u32 {
-    u32::from_le_bytes(row[4..8].try_into().unwrap())
+// Number, kind and side in one: rows of one kind rise by it as by number, then side.
+fn ear_of(row: &[u8; ROW]) -> u64 {
+    get64(row, 2).rotate_left(16)
 }
 
-// Reads the rows in order and gives each member, with its groups from 1 to 64 and from 65 of all its rows, to 'take'; how
-// many members there are. A row is its member's last where the next one has another.
+// Reads the rows in order and gives each member, an ear, with its groups from 1 to 64 and from 65 of all its rows, to 'take';
+// how many members there are. A row is its member's last where the next one has another.
 #[inline(always)]
 fn each_member(reg: &[u8], groups: usize, mut take: impl FnMut(usize, u64, u64)) -> Result<usize, Refusal> {
     let (rows, cut) = reg.as_chunks::<ROW>();
     let too_high = u128::MAX.checked_shl(groups as u32).unwrap_or(0);
     let (too_high_low, too_high_high) = (too_high as u64, (too_high >> 64) as u64);
-    let mut last = 0u32;
+    let mut last = 1 << 32; // below every ear of number 1
     let mut members = 0;
     let (mut low, mut high) = (0, 0); // groups of the member so far
     for (r, row) in rows.iter().enumerate() {
@@ -638,21 +641,18 @@ fn each_member(reg: &[u8], groups: usize, mut take: impl FnMut(usize, u64, u64))
         if r == MAX_ROWS {
             return Err((10, no));
         }
-        let start = get64(row, 0);
-        if start as u32 != 22 | 32 << 16 {
-            return Err((11, no));
+        let ear = ear_of(row);
+        let here = (get64(row, 10), get64(row, 18));
+        let framed = get64(row, 0) as u32 == 24 | 33 << 16;
+        let sided = (LEFT..=RIGHT).contains(&(ear as u16));
+        let rises = ear >= last;
+        let clear = here.0 & too_high_low | here.1 & too_high_high == 0;
+        if !(framed & sided & rises & clear) {
+            return Err((if !framed { 11 } else if !sided { 15 } else if !rises { 12 } else { 13 }, no));
         }
-        let member = (start >> 32) as u32;
-        if member == 0 || member < last {
-            return Err((12, no));
-        }
-        let here = (get64(row, 8), get64(row, 16));
-        if here.0 & too_high_low | here.1 & too_high_high != 0 {
-            return Err((13, no));
-        }
-        (low, high) = if member == last { (low | here.0, high | here.1) } else { here };
-        last = member;
-        if rows.get(r + 1).is_none_or(|next| member_of(next) != member) {
+        (low, high) = if ear == last { (low | here.0, high | here.1) } else { here };
+        last = ear;
+        if rows.get(r + 1).is_none_or(|next| ear_of(next) != ear) {
             take(members, low, high);
             members += 1;
         }

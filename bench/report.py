@@ -1,6 +1,7 @@
 """Makes the sheets and registers, runs the measurements and prints them as Markdown.
 
     report.py FOLDER OPS STACK DRIVER FLAGS     FOLDER for both; FLAGS are shown as they are"""
+import itertools
 import os
 import random
 import statistics
@@ -37,12 +38,19 @@ def longest(sheet, label):
     return out
 
 
+def ears(many):
+    """So many ears, number and side (1 left, 2 right): of eight recipients six have both, one the left, one the right."""
+    of = ((number, side) for number in itertools.count(1) for side in {3: [1], 7: [2]}.get(number % 8, [1, 2]))
+    return list(itertools.islice(of, many))
+
+
 def register(shape, rows_each):
     """A register of 2,048 rows and two sheets of 128 groups: one that it fits, one that it breaks at group 128 alone.
 
     A member goes from a group up to the root, and down again where that has to be: under 'same' into all sons, under 'cover'
-    into one, and without 'disjoint' often into a second. Modes and bounds are on most groups. A member has one row, or two:
-    then the root is in both, and any other of its groups in the first, in the second or in both."""
+    into one, and without 'disjoint' often into a second. Modes and bounds are on most groups. Members are ears, and most
+    recipients have two. A member has one row, or two: then the root is in both, and any other of its groups in the first, in
+    the second or in both."""
     rng, parts = random.Random(shape), random.Random('parts')
     groups = range(1, 129)
     parent = {g: {'star': 1, 'bushy': (g + 2) // 4, 'caterpillar': g - 1 if g % 2 == 0 else g - 2,
@@ -58,8 +66,8 @@ def register(shape, rows_each):
         else:
             mode[g] = {3: DISJOINT, 5: COVER, 7: COVER + SAME, 9: DISJOINT, 13: 0, 15: COVER}.get(g % 16, 3)
     rows, size = b'', dict.fromkeys(groups, 0)
-    for member in range(1, 2048 // rows_each + 1):
-        held = set(way_up([parent[g] for g in groups], member if member <= 128 else rng.randint(1, 128)))
+    for k, (number, side) in enumerate(ears(2048 // rows_each), 1):
+        held = set(way_up([parent[g] for g in groups], k if k <= 128 else rng.randint(1, 128)))
         for g in groups:
             if g in held and sons[g]:
                 if mode[g] & SAME:
@@ -73,8 +81,8 @@ def register(shape, rows_each):
         on = {g: 3 if g == 1 or rows_each == 1 else parts.randint(1, 3) for g in sorted(held)}
         for row in range(rows_each):
             bits = sum(1 << g - 1 for g in held if on[g] >> row & 1)
-            rows += struct.pack('<HHI', 22, 32, member) + bits.to_bytes(16, 'little')
-    assert len(rows) == 2048 * 24
+            rows += struct.pack('<HHIH', 24, 33, number, side) + bits.to_bytes(16, 'little')
+    assert len(rows) == 2048 * 26
     assert min(size.values()) > 0
     sheets = []
     for last in [size[128], size[128] + 1]:
@@ -184,9 +192,10 @@ def main():
         goal = 'none' if parts[-1] == 'columns' or 'two-rows' in label else 'at most ' + goal
         print('| %s | %s | %s | %.2f | %s |' % (label, show(a), show(b), a / b, goal))
     print('\n`walk` takes all rules in one walk over the rows; `columns` makes a column of bits for each group and takes '
-          'the rules by columns. The registers: %s; modes and bounds on most groups, no row and no group empty. '
-          '`two-rows`: 1,024 members, each on two rows, the root in both, any other group in one or both; else a member '
-          'has one row. Reading is a call with an empty register.\n' % ', '.join(REGISTERS))
+          'the rules by columns. The registers: %s; modes and bounds on most groups, no row and no group empty. A member is '
+          'an ear: of eight recipients six have both ears, two members with one number, and two have one. `two-rows`: 1,024 '
+          'members, each on two rows, the root in both, any other group in one or both; else a member has one row. Reading '
+          'is a call with an empty register.\n' % ', '.join(REGISTERS))
 
     print('## Growth\n')
     print('| operation | tree | %s |\n|---|---|%s' % (' | '.join('%d groups' % n for n in SIZES), '---|' * len(SIZES)))

@@ -13,7 +13,8 @@
 
 enum { STACK = 8 << 20, PAINT = 0xa7 };
 
-static uint8_t sheet[8192], places[8192], of_register[8192], rows[24 * SHEET_MAX_ROWS], reply[SHEET_MAX_REPLY], *stack;
+static uint8_t sheet[8192], places[8192], of_register[8192], rows[SHEET_ROW_BYTES * SHEET_MAX_ROWS];
+static uint8_t reply[SHEET_MAX_REPLY], *stack;
 static size_t len, places_len, of_register_len, rows_len;
 static int what;
 static size_t used;

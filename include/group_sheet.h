@@ -14,9 +14,9 @@
    - nothing else. Any content and any length has an answer. No call keeps anything for the next,
      so calls with different reply buffers may run at the same time.
 
-   All fields, of sheets and of replies, are unsigned and have their low byte first. A record is a
-   two-byte length L of all that follows it, a two-byte kind, and a body of L - 2 bytes: it takes
-   L + 2 bytes in all. */
+   All fields, of sheets, registers and replies, are unsigned and have their low byte first. A record
+   is a two-byte length L of all that follows it, a two-byte kind, and a body of L - 2 bytes: it
+   takes L + 2 bytes in all. */
 #ifndef GROUP_SHEET_H
 #define GROUP_SHEET_H
 
@@ -34,12 +34,12 @@ enum {
     SHEET_MAX_NAMES = 128,
     SHEET_MAX_CLAIMS = 64,
     SHEET_MAX_LABEL = 16,
-    SHEET_MAX_LIST = 8,         /* names on one side of a claim of kind 5, 6 or 7 */
+    SHEET_MAX_LIST = 8,         /* names in one list of a claim of kind 5, 6 or 7 */
     SHEET_MAX_BOUND = 65534,    /* greatest lo, and greatest hi that is an end */
     SHEET_NO_UPPER_END = 65535, /* as hi, in a group and in a count claim */
     SHEET_MAX_BYTES = 6924,     /* the longest sheet that can be read */
     SHEET_MAX_ROWS = 2048,
-    SHEET_ROW_BYTES = 24
+    SHEET_ROW_BYTES = 26
 };
 
 /* In a reply of sheet_ranges, for a greatest count that doesn't exist. */
@@ -58,7 +58,8 @@ enum sheet_kind {
     SHEET_KIND_VERDICT = 18,/* reply, L = 4: verdict, two bytes */
     SHEET_KIND_SHOWN = 19,  /* reply, L = 12: first, count (four bytes each), mark (two bytes) */
     SHEET_KIND_RESULT = 20, /* reply, L = 6: group, rule; two bytes each */
-    SHEET_KIND_ROW = 32     /* register, L = 22: member (four bytes), 16 bytes of membership */
+    SHEET_KIND_ROW = 33     /* register, L = 24: member (four bytes), side (two bytes), 16 bytes of
+                               membership */
 };
 
 /* A group's mode is a sum of these. */
@@ -66,6 +67,12 @@ enum sheet_mode {
     SHEET_DISJOINT = 1,
     SHEET_COVER = 2,
     SHEET_SAME = 4
+};
+
+/* The side of a row's member: which ear. */
+enum sheet_side {
+    SHEET_LEFT = 1,
+    SHEET_RIGHT = 2
 };
 
 /* Refusals, in checking order. The record number is the one in brackets. */
@@ -82,9 +89,12 @@ enum sheet_refusal {
     SHEET_TRAILING = 7,          /* bytes follow the last record [G + S + Q + 2] */
     SHEET_IMPOSSIBLE = 8,        /* no finite sets fit [0]; ranges and claim only */
     SHEET_NO_SUCH_CLAIM = 9,     /* the claim number is 0 or above Q [0]; claim only */
-    SHEET_TOO_MANY_ROWS = 10,    /* bytes follow the 2,048th row [2049]; 10 to 13 register only */
+    SHEET_TOO_MANY_ROWS = 10,    /* bytes follow the 2,048th row [2049]; 10 to 13 and 15 register
+                                    only */
     SHEET_BAD_ROW = 11,          /* a row is cut, or its kind or length is wrong [the row] */
-    SHEET_MEMBER_ORDER = 12,     /* a member is 0 or below the row before [the row] */
+    SHEET_BAD_SIDE = 15,         /* a side other than 1 or 2 [the row] */
+    SHEET_MEMBER_ORDER = 12,     /* a row's member is 0, or its member and side are below the
+                                    row before [the row] */
     SHEET_BIT_ABOVE = 13,        /* a bit above G is set [the row] */
     SHEET_REPLY_SHORT = 14       /* the reply buffer is shorter than this reply [0] */
 };
@@ -167,10 +177,13 @@ uint64_t sheet_claim(const uint8_t *sheet, size_t sheet_len, uint32_t claim,
                      uint8_t *reply, size_t reply_len);
 
 /* Whether the sets that a register lists fit the sheet.
-   The members of its rows, 1 upward, rise or stay the same from row to row. Equal members in
-   neighbouring rows are one member, in the groups of either row; SHEET_MAX_ROWS and the row number
-   of a refusal count rows.
-   Refusals 1 to 7 and 10 to 14; a sheet that no sets fit is not refused here. Reply: one record of
+   Its rows are of kind 33 (SHEET_ROW_BYTES each):
+       at 4 member (its number, 1 upward), at 8 side (enum sheet_side), at 10 membership.
+   Group g is bit (g - 1) % 8 of membership byte (g - 1) / 8, bit 0 the lowest. Ears are counted: a
+   member here is a number with a side, so a recipient with two implants is two members. Rows rise
+   by number, then side. Equal pairs in neighbouring rows are one member, in the groups of either
+   row; SHEET_MAX_ROWS and the row number of a refusal count rows.
+   Refusals 1 to 7 and 10 to 15; a sheet that no sets fit is not refused here. Reply: one record of
    kind 20 (8 bytes): at 4 the lowest group with a broken rule, at 6 its first broken rule
    (enum sheet_rule); 0 and 0 when all fits. */
 uint64_t sheet_register(const uint8_t *sheet, size_t sheet_len,

@@ -76,13 +76,15 @@ static void pair_claim(struct bytes *b, uint32_t kind, uint32_t left, uint32_t r
 }
 
 /* groups: bit g - 1 for group g, for the first 32 groups. */
-static void row(struct bytes *b, uint32_t member, uint32_t groups)
+static void row(struct bytes *b, uint32_t member, uint32_t side, uint32_t groups)
 {
-    begin(b, 22, SHEET_KIND_ROW);
+    begin(b, SHEET_ROW_BYTES - 2, SHEET_KIND_ROW);
     sheet_put32(b->at + b->len, member);
-    memset(b->at + b->len + 4, 0, 16);
-    sheet_put32(b->at + b->len + 4, groups);
-    b->len += 20;
+    b->len += 4;
+    word(b, side);
+    memset(b->at + b->len, 0, 16);
+    sheet_put32(b->at + b->len, groups);
+    b->len += 16;
 }
 
 /* The printed case of the paper. */
@@ -250,20 +252,44 @@ int main(void)
     show_claim(&other, 2, reply, SHEET_VERDICT_REPLY);
     show_claim(&other, 2, reply, SHEET_VERDICT_REPLY - 1);
 
-    /* Ten recipients: 1 to 4 in LEFT (of them 1 to 3 in NEW), 5 to 10 in RIGHT. */
-    for (uint32_t m = 1; m <= 10; m++)
-        row(&reg, m, m <= 3 ? 1 + 2 + 8 : m <= 4 ? 1 + 2 : 1 + 4);
+    /* Ten ears of six recipients: the left ears of 1 to 4 in LEFT (of them 1 to 3 in NEW), all right ears in RIGHT, 5 and 6
+       have no other. LEFT and RIGHT share nobody: both ears of 1 are two members. */
+    for (uint32_t m = 1; m <= 6; m++) {
+        if (m <= 4)
+            row(&reg, m, SHEET_LEFT, m <= 3 ? 1 + 2 + 8 : 1 + 2);
+        row(&reg, m, SHEET_RIGHT, 1 + 4);
+    }
     show_register("register", &sheet, &reg, reply, sizeof reply);
     show_register("register, buffer of 7", &sheet, &reg, reply, SHEET_REGISTER_REPLY - 1);
-    /* Recipient 11 on two rows: rehabilitation knows NEW, surgery LEFT, of which NEW is a part. */
-    row(&reg, 11, 8);
-    show_register("register with rehabilitation's row of 11", &sheet, &reg, reply, sizeof reply);
-    row(&reg, 11, 1 + 2);
-    show_register("register with surgery's row of 11 too", &sheet, &reg, reply, sizeof reply);
-    row(&reg, 11, 1 + 4);
-    show_register("register with 11 on a third row, in RIGHT", &sheet, &reg, reply, sizeof reply);
-    row(&reg, 10, 1 + 4);
-    show_register("register with 10 after 11", &sheet, &reg, reply, sizeof reply);
+    /* The left ear of 7 on two rows: rehabilitation knows NEW, surgery LEFT, of which NEW is a part. */
+    row(&reg, 7, SHEET_LEFT, 8);
+    show_register("register with rehabilitation's row of 7, left", &sheet, &reg, reply, sizeof reply);
+    row(&reg, 7, SHEET_LEFT, 1 + 2);
+    show_register("register with surgery's row of 7, left, too", &sheet, &reg, reply, sizeof reply);
+    size_t fits = reg.len;
+    row(&reg, 7, SHEET_LEFT, 1 + 4);
+    show_register("register with 7, left, on a third row, in RIGHT", &sheet, &reg, reply, sizeof reply);
+    /* The other ear is another member, and one more than RIGHT has room for. */
+    reg.len = fits;
+    row(&reg, 7, SHEET_RIGHT, 1 + 4);
+    show_register("register with 7, right, in RIGHT", &sheet, &reg, reply, sizeof reply);
+    size_t both = reg.len;
+    row(&reg, 7, SHEET_LEFT, 1 + 2);
+    show_register("register with 7, left, after 7, right", &sheet, &reg, reply, sizeof reply);
+    reg.len = both;
+    row(&reg, 6, SHEET_RIGHT, 1 + 4);
+    show_register("register with 6 after 7", &sheet, &reg, reply, sizeof reply);
+    reg.len = both;
+    row(&reg, 8, SHEET_LEFT + SHEET_RIGHT, 1 + 2);
+    show_register("register with both sides in one row", &sheet, &reg, reply, sizeof reply);
+    /* A row without a side, as they were once. */
+    reg.len = both;
+    begin(&reg, 22, 32);
+    memset(reg.at + reg.len, 0, 20);
+    sheet_put32(reg.at + reg.len, 8);
+    sheet_put32(reg.at + reg.len + 4, 1 + 2);
+    reg.len += 20;
+    show_register("register with a row of kind 32", &sheet, &reg, reply, sizeof reply);
     reg.len = 0;
     show_register("empty register", &sheet, &reg, reply, sizeof reply);
 

@@ -1,4 +1,4 @@
-// Sheets and registers as document 01 writes them, read in the plainest way.
+// Sheets and registers as documents 01 and 02 write them, read in the plainest way.
 
 use std::collections::BTreeMap;
 
@@ -259,43 +259,62 @@ pub fn read_sheet(bytes: &[u8]) -> Result<Sheet, Refusal> {
     Ok(Sheet { groups, sons, names, claims })
 }
 
+// A member as a row names it: number and side (1 left, 2 right).
+pub type Ear = (u32, u16);
+
+pub const ROW: usize = 26;
+
+pub fn ear(row: &[u8]) -> Ear {
+    (dword(row, 4), word(row, 8))
+}
+
 // The rows of a register as they stand: member and membership.
-pub fn read_register(bytes: &[u8], groups: usize) -> Result<Vec<(u32, u128)>, Refusal> {
-    let mut rows: Vec<(u32, u128)> = Vec::new();
+pub fn read_register(bytes: &[u8], groups: usize) -> Result<Vec<(Ear, u128)>, Refusal> {
+    let mut rows: Vec<(Ear, u128)> = Vec::new();
     let mut rest = bytes;
     while !rest.is_empty() {
         let no = rows.len() as u32 + 1;
         if no == 2049 {
             return Err((10, no));
         }
-        if rest.len() < 24 || word(rest, 0) != 22 || word(rest, 2) != 32 {
+        if rest.len() < ROW || word(rest, 0) != 24 || word(rest, 2) != 33 {
             return Err((11, no));
         }
-        let member = dword(rest, 4);
-        let before = rows.last().map_or(0, |r| r.0);
-        if member == 0 || member < before {
+        let (number, side) = ear(rest);
+        if side != 1 && side != 2 {
+            return Err((15, no));
+        }
+        // By number, then by side.
+        let falls = rows.last().is_some_and(|(before, _)| number < before.0 || number == before.0 && side < before.1);
+        if number == 0 || falls {
             return Err((12, no));
         }
         let mut bits = 0u128;
         for g in 0..128 {
-            if rest[8 + g / 8] >> (g % 8) & 1 == 1 {
+            if rest[10 + g / 8] >> (g % 8) & 1 == 1 {
                 if g >= groups {
                     return Err((13, no));
                 }
                 bits |= 1 << g;
             }
         }
-        rows.push((member, bits));
-        rest = &rest[24..];
+        rows.push(((number, side), bits));
+        rest = &rest[ROW..];
     }
     Ok(rows)
 }
 
-// The members that rows name, each with weight 1: one is in a group where any of its rows is (document 02, card 2).
-pub fn members(rows: &[(u32, u128)]) -> Vec<(u128, u64)> {
+// The members that rows name, each with weight 1: one is in a group where any of its rows is (document 02, card 2), and
+// both ears of a number are two (card 4).
+pub fn members(rows: &[(Ear, u128)]) -> Vec<(u128, u64)> {
+    joined(rows, |ear| ear)
+}
+
+// Rows joined where they have the same 'of'.
+pub fn joined<T: Ord>(rows: &[(Ear, u128)], of: impl Fn(Ear) -> T) -> Vec<(u128, u64)> {
     let mut groups_of = BTreeMap::new();
-    for &(member, groups) in rows {
-        *groups_of.entry(member).or_insert(0) |= groups;
+    for &(ear, groups) in rows {
+        *groups_of.entry(of(ear)).or_insert(0) |= groups;
     }
     groups_of.into_values().map(|groups| (groups, 1)).collect()
 }

@@ -1,5 +1,6 @@
 // Sheets, registers and damage by chance, from one seed.
 
+use crate::format::{dword, ROW};
 use std::collections::HashSet;
 
 pub struct Rng(u64);
@@ -340,7 +341,7 @@ pub fn draft(rng: &mut Rng) -> Draft {
                     right.push(tree.near(rng, g));
                 }
             }
-            // All sons of one group, mostly with nobody on the other side.
+            // All sons of one group, mostly with nobody in the other list.
             3 if !sons.is_empty() => {
                 left.extend(sons.iter().take(8));
                 right.push(tree.near(rng, g));
@@ -351,9 +352,9 @@ pub fn draft(rng: &mut Rng) -> Draft {
             4 => {
                 let set = tree.member(rng);
                 let (within, without): (Vec<usize>, Vec<usize>) = (0..n).partition(|&x| set >> x & 1 == 1);
-                for (side, many, from) in [(&mut left, m, within), (&mut right, k, without)] {
+                for (names, many, from) in [(&mut left, m, within), (&mut right, k, without)] {
                     for _ in 0..many {
-                        side.push(if from.is_empty() { tree.near(rng, g) } else { rng.pick(&from) });
+                        names.push(if from.is_empty() { tree.near(rng, g) } else { rng.pick(&from) });
                     }
                 }
             }
@@ -370,10 +371,10 @@ pub fn draft(rng: &mut Rng) -> Draft {
         if rng.chance(4) {
             right[rng.index(k)] = left[rng.index(m)];
         }
-        // Names of the empty set: one here and there, at times all of the right side.
+        // Names of the empty set: one here and there, at times all of the right list.
         let mut list = vec![m as u16, k as u16];
-        for (side, empty) in [(left, 3), (right, if rng.chance(right_empty) { 100 } else { 3 })] {
-            for x in side {
+        for (groups, empty) in [(left, 3), (right, if rng.chance(right_empty) { 100 } else { 3 })] {
+            for x in groups {
                 let group = if rng.chance(empty) { 0 } else { x as u16 + 1 };
                 list.push(namer.name(rng, group));
             }
@@ -696,7 +697,15 @@ pub fn full(rng: &mut Rng, turn: u64) -> (Vec<u8>, Vec<Vec<u8>>) {
         rng.pick(&[63, 64, 65, 127, 128, 129, 1984, 1985, 2016, 2017])
     };
     let tight = rng.below(3);
-    around(rng, n, taken, many, tight)
+    let (sheet, mut registers) = around(rng, n, taken, many, tight);
+    // And the first register with one row turned back, the last or another.
+    for way in [BAD_KIND, BAD_SIDE, NUMBER_0, BIT_ABOVE] {
+        let mut bytes = registers[0].clone();
+        let r = rng.pick(&[many - 1, many - 1, many - 1, 63, 64, 2039, 0]).min(many - 1);
+        damage_row(rng, &mut bytes, ROW * r, n, way);
+        registers.push(bytes);
+    }
+    (sheet, registers)
 }
 
 // A small sheet, mostly with few bounds, and registers of few rows, most of them of members on several rows.
@@ -708,7 +717,7 @@ pub fn joined(rng: &mut Rng) -> (Vec<u8>, Vec<Vec<u8>>) {
 }
 
 // A sheet of groups alone and registers of so many rows: one that mostly fits it, some with rows spoilt, some damaged. A
-// group has bounds around what the first one has: all groups where tight is 0, the fewer the greater it is.
+// group has bounds around what the first one's members have: all groups where tight is 0, the fewer the greater it is.
 fn around(rng: &mut Rng, n: usize, taken: Taken, many: usize, tight: u64) -> (Vec<u8>, Vec<Vec<u8>>) {
     let tree = Tree::new(rng, n);
     // A member's groups are spread over its rows, or each row could be a member; then bounds are at times drawn around rows.
@@ -761,7 +770,7 @@ fn around(rng: &mut Rng, n: usize, taken: Taken, many: usize, tight: u64) -> (Ve
             now.splice(first..end, spread(rng, set, end - first));
         }
         let mut bytes = written(rng, &now);
-        if k == 4 && rng.chance(50) {
+        if k == 4 && rng.chance(75) {
             damage_rows(rng, &mut bytes, n);
         }
         registers.push(bytes);
@@ -769,15 +778,16 @@ fn around(rng: &mut Rng, n: usize, taken: Taken, many: usize, tight: u64) -> (Ve
     (sheet, registers)
 }
 
-// Another set than one that fits: out of a parent, out of all sons, in one more son, out of a son of a 'same' group, or
-// one group other.
+// Another set than one that fits: out of a parent, out of all sons, in one more son, out of a son of a 'same' group, in two
+// sons of a 'disjoint' group, or one group other.
 fn spoil(rng: &mut Rng, tree: &Tree, set: &mut u128) {
     let n = tree.parent.len();
     let held: Vec<usize> = (0..n).filter(|&g| *set >> g & 1 == 1).collect();
     let g = if held.is_empty() { rng.index(n) } else { rng.pick(&held) };
     let sons = &tree.sons[g];
     let equal: Vec<usize> = held.iter().copied().filter(|&s| s > 0 && tree.mode[tree.parent[s]] & 4 != 0).collect();
-    match rng.below(8) {
+    let several: Vec<usize> = held.iter().copied().filter(|&g| tree.mode[g] & 1 != 0 && tree.sons[g].len() > 1).collect();
+    match rng.below(10) {
         0 => *set &= !(1 << tree.parent[g]),
         1 => sons.iter().for_each(|&s| *set &= !(1 << s)),
         2 if !sons.is_empty() => *set |= 1 << rng.pick(sons),
@@ -787,52 +797,114 @@ fn spoil(rng: &mut Rng, tree: &Tree, set: &mut u128) {
         }
         4 => *set = tree.member(rng),
         5 | 6 if !equal.is_empty() => *set &= !(1 << rng.pick(&equal)),
+        7 | 8 if !several.is_empty() => {
+            let sons = &tree.sons[rng.pick(&several)];
+            *set |= 1 << sons[0] | 1 << sons[sons.len() - 1];
+        }
         _ => *set ^= 1 << rng.index(n),
     }
 }
 
+// Rows as bytes, with a number and a side for each member. A right ear has at times the number of the left one before it;
+// and at times a member's rows are taken for rows of both ears.
 fn written(rng: &mut Rng, rows: &[Row]) -> Vec<u8> {
-    let mut member = 0u32;
+    let (mut number, mut side) = (0u32, RIGHT);
     let mut bytes: Vec<u8> = Vec::new();
     let step = rng.pick(&[1u64, 2, 1000, 1_000_000]);
+    let (starts_left, both) = (rng.pick(&[0, 60, 100, 100]), rng.pick(&[0, 50, 100, 100]));
+    let split = rng.pick(&[0, 0, 10, 100, 100]);
     for (again, set) in rows {
-        // At times with the same low bytes.
-        if !again {
-            member += if rng.chance(2) { rng.pick(&[256, 65536, 1 << 24]) } else { 1 + rng.below(step) as u32 };
+        if side == LEFT && rng.chance(if *again { split } else { both }) {
+            side = RIGHT;
+        } else if !again {
+            // At times with the same low bytes.
+            number += if rng.chance(2) { rng.pick(&[256, 65536, 1 << 24]) } else { 1 + rng.below(step) as u32 };
+            side = if rng.chance(starts_left) { LEFT } else { RIGHT };
         }
-        let mut body = member.to_le_bytes().to_vec();
+        let mut body = number.to_le_bytes().to_vec();
+        body.extend(side.to_le_bytes());
         body.extend(set.to_le_bytes());
-        bytes.extend(record(32, &body));
+        bytes.extend(record(33, &body));
     }
     bytes
 }
 
-// One change to the bytes of rows, mostly one that is turned back.
+const LEFT: u16 = 1;
+const RIGHT: u16 = 2;
+
+// Sides other than left and right; of some the low byte is one of them.
+const BAD_SIDES: [u16; 14] = [0, 0, 3, 3, 4, 255, 256, 257, 258, 512, 513, 0x8002, 0xff01, 65535];
+
+// A row as it was before sides: kind 32, 24 bytes.
+fn old_row(row: &[u8]) -> Vec<u8> {
+    record(32, &[&row[4..8], &row[10..]].concat())
+}
+
+// One change to the bytes of rows, or several, to one row or to some; mostly such as are turned back.
 fn damage_rows(rng: &mut Rng, bytes: &mut Vec<u8>, n: usize) {
-    let count = bytes.len() / 24;
-    let r = match rng.below(3) {
+    let mut r = some_row(rng, bytes);
+    for _ in 0..rng.pick(&[1, 1, 1, 2, 2, 3, 3]) {
+        let way = rng.below(WAYS);
+        damage_row(rng, bytes, r, n, way);
+        if rng.chance(50) {
+            r = some_row(rng, bytes);
+        }
+    }
+}
+
+// Where the first, a middle or the last row begins, or one at a word's edge, or any; 0 where there is none.
+fn some_row(rng: &mut Rng, bytes: &[u8]) -> usize {
+    let count = bytes.len() / ROW;
+    let r = match rng.below(6) {
         0 => 0,
         1 => count / 2,
-        _ => count.saturating_sub(1),
-    } * 24;
-    match rng.below(11) {
-        0 => bytes.truncate(rng.index(bytes.len() + 1)),
-        1 => bytes.push(rng.next() as u8),
-        2 => bytes.extend([22, 0, 32]),
-        3 if count > 0 => set_word(bytes, r, rng.pick(&[0, 1, 21, 23, 278, 65535])),
-        4 if count > 0 => set_word(bytes, r + 2, rng.pick(&[0, 31, 33, 288, 2])),
-        5 if count > 0 => bytes[r + 4..r + 8].fill(0),
-        // The member of the row before, or a lower one.
-        k @ (6 | 10) if count > 1 && r > 0 => {
-            let before = u32::from_le_bytes(bytes[r - 20..r - 16].try_into().unwrap());
-            let member = if k == 6 { before } else { before - 1 - rng.below(before as u64) as u32 };
-            bytes[r + 4..r + 8].copy_from_slice(&member.to_le_bytes());
-        }
-        7 if count > 0 && n < 128 => {
+        2 | 3 => count.saturating_sub(1),
+        4 => rng.pick(&[1, 63, 64]),
+        _ => rng.index(count),
+    };
+    ROW * if r < count { r } else { 0 }
+}
+
+const BAD_KIND: u64 = 0;
+const BAD_SIDE: u64 = 1;
+const NUMBER_0: u64 = 2;
+const BIT_ABOVE: u64 = 3;
+const WAYS: u64 = 18;
+
+fn damage_row(rng: &mut Rng, bytes: &mut Vec<u8>, r: usize, n: usize, way: u64) {
+    let whole = r + ROW <= bytes.len();
+    match way {
+        BAD_KIND if whole => set_word(bytes, r + 2, rng.pick(&[0, 31, 32, 32, 34, 289, 2])),
+        BAD_SIDE | 4 | 5 if whole => set_word(bytes, r + 8, rng.pick(&BAD_SIDES)),
+        NUMBER_0 if whole => bytes[r + 4..r + 8].fill(0),
+        BIT_ABOVE if whole && n < 128 => {
             let g = n + rng.index(128 - n);
-            bytes[r + 8 + g / 8] |= 1 << (g % 8);
+            bytes[r + 10 + g / 8] |= 1 << (g % 8);
         }
-        8 if count > 0 => bytes[r + 4..r + 8].fill(255),
+        6 if whole => set_word(bytes, r, rng.pick(&[0, 1, 22, 23, 25, 280, 65535])),
+        7 => bytes.truncate(rng.index(bytes.len() + 1)),
+        8 => bytes.push(rng.next() as u8),
+        9 => bytes.extend([24, 0, 33]),
+        // The number of the row before, or a lower one.
+        10 | 11 if whole && r > 0 => {
+            let before = dword(bytes, r - ROW + 4);
+            let number = if way == 10 { before } else { before.saturating_sub(1 + rng.below(before as u64) as u32) };
+            bytes[r + 4..r + 8].copy_from_slice(&number.to_le_bytes());
+        }
+        12 if whole => bytes[r + 4..r + 8].fill(255),
+        // The other ear.
+        13 if whole => bytes[r + 8] ^= (LEFT ^ RIGHT) as u8,
+        // The right ear, then the left one of its number.
+        14 if whole && r > 0 => {
+            bytes.copy_within(r - ROW + 4..r - ROW + 8, r + 4);
+            set_word(bytes, r - ROW + 8, RIGHT);
+            set_word(bytes, r + 8, LEFT);
+        }
+        15 if whole => {
+            let old = old_row(&bytes[r..r + ROW]);
+            bytes.splice(r..r + ROW, old);
+        }
+        16 => *bytes = bytes.chunks_exact(ROW).flat_map(old_row).collect(),
         _ => {
             if !bytes.is_empty() {
                 let k = rng.index(bytes.len());

@@ -215,7 +215,7 @@ impl Run {
         };
         if let Want::Refused(n, _) = want {
             self.met(&format!("{op}: refusal {n:2}"));
-            // A refusal by 1 to 13 doesn't ask how long the buffer is.
+            // No refusal but 14 asks how long the buffer is.
             let len = rng.pick(&[0, 1, 5, 6, 7, 8, 9, 20, 26, 2560, 4000]);
             self.try_one(sheet, ask, len, &want);
             return;
@@ -300,21 +300,7 @@ impl Run {
     fn register(&mut self, rng: &mut Rng, bytes: &[u8], sheet: &Sheet, reg: &[u8]) {
         let want = match read_register(reg, sheet.groups.len()) {
             Err((n, r)) => {
-                if r >= 2040 {
-                    self.met(&format!("register: refusal {n} at row 2,040 or later"));
-                }
-                // The members of the rows before, and of the row itself where there is one.
-                let named: Vec<u32> = reg.chunks_exact(24).take(r as usize).map(|row| dword(row, 4)).collect();
-                let (before, own) = named.split_at(named.len().min(r as usize - 1));
-                if before.windows(2).any(|m| m[0] == m[1]) {
-                    self.met(&format!("register: refusal {n} after joined rows"));
-                }
-                if n == 12 {
-                    self.met(if own == [0] { ZERO } else { FALLS });
-                }
-                if n == 13 && before.last() == own.first() {
-                    self.met(BIT_IN_JOINED);
-                }
+                self.refused(sheet, reg, n, r);
                 Want::Refused(n, r)
             }
             Ok(rows) => {
@@ -324,23 +310,36 @@ impl Run {
                 if rows.len() >= 2040 {
                     self.met(&format!("register: rule {rule}, 2,040 rows or more"));
                 }
+                // Rows r and r + 1 are so; any two neighbours are.
+                let two = |r: usize, so: fn(Ear, Ear) -> bool| rows.len() > r && so(rows[r - 1].0, rows[r].0);
+                let any = |so: fn(Ear, Ear) -> bool| rows.windows(2).any(|r| so(r[0].0, r[1].0));
                 if members.len() < rows.len() {
                     self.met(&format!("register: joined rows, rule {rule}"));
                     let apart: Vec<(u128, u64)> = rows.iter().map(|r| (r.1, 1)).collect();
-                    let by_rows = broken_rule(sheet, &apart).1;
-                    if (rule == 0) != (by_rows == 0) {
-                        self.met(&by_rows_other(rule, by_rows));
-                    }
+                    self.other(rule, broken_rule(sheet, &apart).1, ROW_BY_ROW);
                     for (what, met) in [
                         (THREE_ROWS, rows.windows(3).any(|r| r[0].0 == r[2].0)),
-                        (AT_WORD, rows.len() > 64 && rows[63].0 == rows[64].0),
-                        (AT_END, rows.len() == 2048 && rows[2046].0 == rows[2047].0),
+                        (AT_WORD, two(64, |a, b| a == b)),
+                        (AT_END, rows.len() == 2048 && two(2047, |a, b| a == b)),
                         (ALL_ROWS, rows.len() == 2048 && members.len() == 1),
+                        (BOTH_JOINED, rows.windows(4).any(|r| r[0].0 == r[1].0 && both(r[1].0, r[2].0) && r[2].0 == r[3].0)),
                     ] {
                         if met {
                             self.met(what);
                         }
                     }
+                }
+                if any(both) {
+                    self.met(&format!("register: both ears, rule {rule}"));
+                    self.other(rule, broken_rule(sheet, &joined(&rows, |ear| ear.0)).1, BY_NUMBERS);
+                    for (what, met) in [(BOTH_AT_WORD, two(64, both)), (BOTH_AT_END, rows.len() == 2048 && two(2047, both))] {
+                        if met {
+                            self.met(what);
+                        }
+                    }
+                }
+                if any(|a, b| a.0 < b.0 && a.1 > b.1) {
+                    self.met(SIDE_FALLS);
                 }
                 let mut b = vec![6, 0, 20, 0];
                 b.extend(g.to_le_bytes());
@@ -349,6 +348,58 @@ impl Run {
             }
         };
         self.case(rng, bytes, &Ask::Register(reg), want);
+    }
+
+    // Another way of taking members would pass what is broken, or break what passes.
+    fn other(&mut self, rule: u16, there: u16, way: &str) {
+        if (rule == 0) != (there == 0) {
+            self.met(&otherwise(rule, there, way));
+        }
+    }
+
+    // What is met where row r is turned back by n.
+    fn refused(&mut self, sheet: &Sheet, reg: &[u8], n: u32, r: u32) {
+        if r >= 2040 {
+            self.met(&format!("register: refusal {n} at row 2,040 or later"));
+        }
+        // The row, as much of it as there is, and the ears of the rows before.
+        let (before, row) = reg.split_at(ROW * (r as usize - 1));
+        let before: Vec<Ear> = before.chunks(ROW).map(ear).collect();
+        if before.windows(2).any(|m| m[0] == m[1]) {
+            self.met(&format!("register: refusal {n} after joined rows"));
+        }
+        if n == 11 && row.len() >= 4 && word(row, 2) == 32 {
+            self.met(if word(row, 0) == 22 { OLD_ROW } else { OLD_KIND });
+        }
+        if row.len() < ROW {
+            return;
+        }
+        let (number, side) = ear(row);
+        let last = before.last().copied().unwrap_or((0, 0));
+        for (what, met) in [
+            (ZERO, n == 12 && number == 0),
+            (FALLS, n == 12 && number > 0 && number < last.0 && side == last.1),
+            (FALLS_AS_SIDE_RISES, n == 12 && number > 0 && number < last.0 && side > last.1),
+            (RIGHT_THEN_LEFT, n == 12 && number == last.0),
+            (BIT_IN_JOINED, n == 13 && (number, side) == last),
+            (SIDE_IN_BAD_ROW, n == 11 && side != 1 && side != 2),
+            (SIDE_OF_ZERO, n == 15 && number == 0),
+            (SIDE_FALLING, n == 15 && number > 0 && (number, side) < last),
+            (SIDE_WITH_BIT, n == 15 && (sheet.groups.len()..128).any(|g| row[10 + g / 8] >> (g % 8) & 1 == 1)),
+            (SIDE_0, n == 15 && side == 0),
+            (SIDE_3, n == 15 && side == 3),
+            (SIDE_BY_HIGH_BYTE, n == 15 && (row[8] == 1 || row[8] == 2)),
+            (SIDE_AT_END, n == 15 && r == 2048),
+        ] {
+            if met {
+                self.met(what);
+            }
+        }
+        // What the rows after it would meet.
+        match read_register(&row[ROW..], sheet.groups.len()) {
+            Err((later, _)) if n == 15 || later == 15 => self.met(&then(n, later)),
+            _ => {}
+        }
     }
 
     fn ranges_and_claims(&mut self, rng: &mut Rng, bytes: &[u8], sheet: &Sheet) {
@@ -486,26 +537,37 @@ fn wanted() -> Vec<String> {
         refusals("claim", &[1, 2, 3, 4, 5, 6, 7, 8, 9, 14]);
     }
     if HAS_REGISTER {
-        refusals("register", &[1, 2, 3, 4, 5, 6, 7, 10, 11, 12, 13, 14]);
+        refusals("register", &[1, 2, 3, 4, 5, 6, 7, 10, 11, 12, 13, 14, 15]);
         for rule in 0..7 {
             all.push(format!("register: rule {rule}"));
             all.push(format!("register: rule {rule}, 2,040 rows or more"));
         }
-        all.push("register: refusal 10 at row 2,040 or later".to_string());
         for rule in 0..7 {
             all.push(format!("register: joined rows, rule {rule}"));
+            all.push(format!("register: both ears, rule {rule}"));
         }
-        for n in 10..14 {
+        for n in [10, 11, 12, 13, 15] {
+            all.push(format!("register: refusal {n} at row 2,040 or later"));
             all.push(format!("register: refusal {n} after joined rows"));
         }
-        // A member on several rows can break 4 and 5 where none of its rows does, and they 1, 2, 3 and 6 where it doesn't.
+        // Two rows as one member can break 4 and 5 where as two they don't; as two 1, 2, 3 and 6 where as one they don't.
         for rule in [4, 5] {
-            all.push(by_rows_other(rule, 0));
+            all.push(otherwise(rule, 0, ROW_BY_ROW));
+            all.push(otherwise(0, rule, BY_NUMBERS));
         }
-        for by_rows in [1, 2, 3, 6] {
-            all.push(by_rows_other(0, by_rows));
+        for rule in [1, 2, 3, 6] {
+            all.push(otherwise(0, rule, ROW_BY_ROW));
+            all.push(otherwise(rule, 0, BY_NUMBERS));
         }
-        all.extend([THREE_ROWS, AT_WORD, AT_END, ALL_ROWS, ZERO, FALLS, BIT_IN_JOINED].map(str::to_string));
+        for n in 11..14 {
+            all.extend([then(n, 15), then(15, n)]);
+        }
+        let rest = [
+            [THREE_ROWS, AT_WORD, AT_END, ALL_ROWS, ZERO, FALLS, BIT_IN_JOINED].as_slice(),
+            &[BOTH_JOINED, BOTH_AT_WORD, BOTH_AT_END, SIDE_FALLS, FALLS_AS_SIDE_RISES, RIGHT_THEN_LEFT, OLD_ROW, OLD_KIND],
+            &[SIDE_IN_BAD_ROW, SIDE_OF_ZERO, SIDE_FALLING, SIDE_WITH_BIT, SIDE_0, SIDE_3, SIDE_BY_HIGH_BYTE, SIDE_AT_END],
+        ];
+        all.extend(rest.concat().into_iter().map(str::to_string));
     }
     if HAS_CLAIM {
         for kind in ["count"].into_iter().chain(LIST_KINDS.map(ListKind::word)) {
@@ -534,17 +596,44 @@ fn wanted() -> Vec<String> {
     all
 }
 
-// Document 02, card 2: where rows of one member decide.
-fn by_rows_other(rule: u16, by_rows: u16) -> String {
-    format!("register: rule {rule}, but {by_rows} row by row")
+// Where it decides which rows are one member (document 02, cards 2 and 4).
+fn otherwise(rule: u16, there: u16, way: &str) -> String {
+    format!("register: rule {rule}, but {there} {way}")
 }
+const ROW_BY_ROW: &str = "row by row";
+const BY_NUMBERS: &str = "by numbers alone";
 const THREE_ROWS: &str = "register: a member on three rows";
 const AT_WORD: &str = "register: a member on rows 64 and 65";
 const AT_END: &str = "register: a member on rows 2,047 and 2,048, the last";
 const ALL_ROWS: &str = "register: one member on 2,048 rows";
-const ZERO: &str = "register: refusal 12, member 0";
-const FALLS: &str = "register: refusal 12, a member falls";
+
+fn both(a: Ear, b: Ear) -> bool {
+    a.0 == b.0 && a.1 < b.1
+}
+const BOTH_JOINED: &str = "register: both ears on two rows or more";
+const BOTH_AT_WORD: &str = "register: both ears on rows 64 and 65";
+const BOTH_AT_END: &str = "register: both ears on rows 2,047 and 2,048, the last";
+const SIDE_FALLS: &str = "register: the number rises and the side falls";
+
+const ZERO: &str = "register: refusal 12, number 0";
+const FALLS: &str = "register: refusal 12, the number falls";
+const FALLS_AS_SIDE_RISES: &str = "register: refusal 12, the number falls and the side rises";
+const RIGHT_THEN_LEFT: &str = "register: refusal 12, right and then left of one number";
 const BIT_IN_JOINED: &str = "register: refusal 13 in a row that goes on with its member";
+const OLD_ROW: &str = "register: refusal 11, kind 32 and its length";
+const OLD_KIND: &str = "register: refusal 11, kind 32 and another length";
+const SIDE_IN_BAD_ROW: &str = "register: refusal 11, a bad side too";
+const SIDE_OF_ZERO: &str = "register: refusal 15, number 0 too";
+const SIDE_FALLING: &str = "register: refusal 15, below the row before too";
+const SIDE_WITH_BIT: &str = "register: refusal 15, a bit above G too";
+const SIDE_0: &str = "register: refusal 15, side 0";
+const SIDE_3: &str = "register: refusal 15, side 3";
+const SIDE_BY_HIGH_BYTE: &str = "register: refusal 15, by the high byte alone";
+const SIDE_AT_END: &str = "register: refusal 15 at row 2,048";
+
+fn then(n: u32, later: u32) -> String {
+    format!("register: refusal {n}, and {later} in a later row")
+}
 
 // A place is one member's, not a pair of sets at a time.
 const PAIRS_ONLY: &str = "claim: place denied, where any two left sets have it";

@@ -82,7 +82,7 @@ fn random_sheet(rng: &mut Rng, n: usize, most: u64, endless: u64) -> Sheet {
     }
     let sons = make_sons(&groups);
     let mut claims = Vec::new();
-    // The right side is more often empty; otherwise few members are in no set of it.
+    // The right list is more often empty; otherwise few members are in no set of it.
     let set = |rng: &mut Rng, empty: u64| if rng.chance(empty) { None } else { Some(rng.index(n)) };
     for _ in 0..8 {
         let list = |rng: &mut Rng, empty: u64| -> Vec<Named> {
@@ -148,34 +148,44 @@ fn broken(sheet: &Sheet, family: &[u32]) -> (u16, u16) {
     (0, 0)
 }
 
-// All registers of up to three rows under three groups, with members 0 to 3: 12 is met where one is 0 or falls, and all
-// others are judged by the sets that they list.
+// All registers of up to three rows under three groups, with numbers 0 to 2 and sides 0 to 3: the first row is refused that
+// has another side than 1 or 2 (15), the number 0 or an earlier row above it (12); all others are judged by the sets that
+// they list, of four members.
 fn registers() {
-    let (mut refused, mut kept) = (0u64, Vec::new());
+    let (mut refused, mut read, mut kept) = (BTreeMap::new(), 0u64, BTreeMap::new());
     for many in 0..4u32 {
-        for code in 0..32u32.pow(many) {
-            let rows: Vec<(u32, u128)> = (0..many).map(|r| code >> (5 * r) & 31).map(|c| (c / 8, (c % 8) as u128)).collect();
+        for code in 0..96u32.pow(many) {
+            let of = |c: u32| ((c / 8 % 3, (c / 24) as u16), (c % 8) as u128);
+            let rows: Vec<(Ear, u128)> = (0..many).map(|r| of(code / 96u32.pow(r) % 96)).collect();
             let mut bytes = Vec::new();
-            for (member, set) in &rows {
-                bytes.extend([22, 0, 32, 0]);
-                bytes.extend(member.to_le_bytes());
+            for ((number, side), set) in &rows {
+                bytes.extend([24, 0, 33, 0]);
+                bytes.extend(number.to_le_bytes());
+                bytes.extend(side.to_le_bytes());
                 bytes.extend(set.to_le_bytes());
             }
-            let bad = (0..rows.len()).find(|&r| rows[r].0 == 0 || (0..r).any(|q| rows[q].0 > rows[r].0));
-            match bad {
-                Some(r) => {
-                    refused += 1;
-                    assert_eq!(Err((12, r as u32 + 1)), read_register(&bytes, 3), "{rows:?}");
-                }
-                None => {
-                    assert_eq!(Ok(rows.clone()), read_register(&bytes, 3), "{rows:?}");
-                    let mut family = vec![0u32; 3];
-                    for (member, set) in &rows {
-                        (0..3).filter(|g| set >> g & 1 == 1).for_each(|g| family[g] |= 1 << member);
-                    }
-                    kept.push((rows, family));
-                }
+            // One after another: 1 left, 1 right, 2 left, 2 right.
+            let place = |r: usize| 2 * rows[r].0.0 + rows[r].0.1 as u32 - 3;
+            let bad = (0..rows.len()).find_map(|r| match rows[r].0 {
+                (_, 0 | 3) => Some((15, r as u32 + 1)),
+                (number, _) if number == 0 || (0..r).any(|q| place(q) > place(r)) => Some((12, r as u32 + 1)),
+                _ => None,
+            });
+            if let Some(bad) = bad {
+                *refused.entry(bad).or_insert(0) += 1;
+                assert_eq!(Err(bad), read_register(&bytes, 3), "{rows:?}");
+                continue;
             }
+            read += 1;
+            assert_eq!(Ok(rows.clone()), read_register(&bytes, 3), "{rows:?}");
+            let mut family = vec![0u32; 3];
+            for (r, (_, set)) in rows.iter().enumerate() {
+                (0..3).filter(|g| set >> g & 1 == 1).for_each(|g| family[g] |= 1 << place(r));
+            }
+            // Registers of the same members and sets are judged once.
+            let members = members(&rows);
+            let joined = members.len() < rows.len();
+            *kept.entry((members, family, joined)).or_insert(0) += 1;
         }
     }
     let (mut sheets, mut answers) = (0u64, [[0u64; 2]; 7]);
@@ -190,19 +200,21 @@ fn registers() {
             let groups: Vec<Group> = (0..3).map(group).collect();
             let sheet = Sheet { sons: make_sons(&groups), groups, names: Vec::new(), claims: Vec::new() };
             sheets += 1;
-            for (rows, family) in &kept {
-                let members = members(rows);
+            for ((members, family, joined), many) in &kept {
                 let want = broken(&sheet, family);
-                assert_eq!(want == (0, 0), fits(&sheet, family), "{rows:?}\n{}", show(&sheet));
-                assert_eq!(want, broken_rule(&sheet, &members), "{rows:?}\n{}", show(&sheet));
-                answers[want.1 as usize][(members.len() < rows.len()) as usize] += 1;
+                assert_eq!(want == (0, 0), fits(&sheet, family), "{members:?}\n{}", show(&sheet));
+                assert_eq!(want, broken_rule(&sheet, members), "{members:?}\n{}", show(&sheet));
+                answers[want.1 as usize][*joined as usize] += many;
             }
         }
     }
     assert!(answers.iter().flatten().all(|&n| n > 0), "some answer was never met");
+    let by = |n: u32| refused.iter().filter(|((m, _), _)| *m == n).map(|(_, many)| many).sum::<u64>();
+    assert_eq!(6, refused.len(), "a row was never refused");
     println!(
-        "self-test, registers: {refused} refused, {} read under {sheets} sheets, {} fit ({} with joined rows)",
-        kept.len(),
+        "self-test, registers: {} refused by 12, {} by 15, {read} read under {sheets} sheets, {} fit ({} with joined rows)",
+        by(12),
+        by(15),
         answers[0][0] + answers[0][1],
         answers[0][1]
     );
@@ -304,10 +316,10 @@ pub fn run(seed: u64) {
 
     // All places under a root and three sons, hi up to 2 and a son's lo up to 1: two people are enough.
     let (mut sheets, mut possible, mut held, mut pairs_only) = (0u64, 0u64, 0u64, 0u64);
-    let sides: Vec<Vec<Named>> = (0..16)
+    let lists: Vec<Vec<Named>> = (0..16)
         .map(|s: u32| if s == 0 { vec![None] } else { (0..4).filter(|g| s >> g & 1 == 1).map(Some).collect() })
         .collect();
-    let claim = |l: usize, r: usize| Claim::Lists { kind: ListKind::Place, left: sides[l].clone(), right: sides[r].clone() };
+    let claim = |l: usize, r: usize| Claim::Lists { kind: ListKind::Place, left: lists[l].clone(), right: lists[r].clone() };
     let claims: Vec<Claim> = (0..256).map(|c| claim(c / 16, c % 16)).collect();
     for code in 0..72 * 216u64 {
         let son = |k: u64| Group { parent: Some(0), lo: k % 2, hi: Some(k / 2 % 3), mode: 0 };

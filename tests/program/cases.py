@@ -64,7 +64,7 @@ for c in range(8):
     largest += place([2] * 8, other)         # holds
     largest += place([1] * 8, eight)         # holds: the root has others
     largest += place(eight, other)           # denied: the sons are disjoint
-    largest += place([2] * 8, other[:7] + [2]) # denied: on both sides
+    largest += place([2] * 8, other[:7] + [2]) # denied: in both lists
 assert len(largest) == 6924
 largest_lines = b'1 127 127 1 127\n'
 largest_lines += b''.join(b'%d 1 1 %d 1\n' % (g, g - 1) for g in range(2, 129))

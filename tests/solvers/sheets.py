@@ -302,7 +302,7 @@ def largest(n, shape, rng):
 
 
 def largest_places(n, shape, rng):
-    """With 64 places of 8 names a side, the left ones by turns on one way up and anywhere; the first is a yes."""
+    """With 64 places of 8 names a list, the left ones by turns on one way up and anywhere; the first is a yes."""
     parents, groups, _ = large_tree(n, shape)
     asked = []
     for c in range(64):

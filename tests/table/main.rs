@@ -5,6 +5,7 @@
 #[path = "../oracle/format.rs"]
 mod format;
 
+use format::Ear;
 use std::process::exit;
 
 extern "C" {
@@ -85,15 +86,45 @@ fn place(left: &[u16], right: &[u16]) -> Bytes {
     lists(7, left, right)
 }
 
-fn row(member: u32, groups: &[usize]) -> Bytes {
-    let mut b = member.to_le_bytes().to_vec();
+const ROW: usize = format::ROW;
+const LEFT: u16 = 1;
+const RIGHT: u16 = 2;
+
+// A row of an ear: number and side.
+fn row_of((number, side): Ear, groups: &[usize]) -> Bytes {
+    let mut b = number.to_le_bytes().to_vec();
+    b.extend(side.to_le_bytes());
+    b.extend(membership(groups));
+    record(33, &b)
+}
+
+fn membership(groups: &[usize]) -> [u8; 16] {
     let mut bits = [0u8; 16];
     for g in groups {
         bits[(g - 1) / 8] |= 1 << ((g - 1) % 8);
     }
-    b.extend(bits);
-    record(32, &b)
+    bits
 }
+
+// A row of the k-th ear, where everybody has two: 1 left, 1 right, 2 left and so on. Of 0 the number is 0.
+fn row(k: u32, groups: &[usize]) -> Bytes {
+    row_of(ear(k), groups)
+}
+
+fn ear(k: u32) -> Ear {
+    (k.div_ceil(2), if k % 2 == 1 { LEFT } else { RIGHT })
+}
+
+// The same row with another length and kind in its frame.
+fn reframed(row: &[u8], length: u16, kind: u16) -> Bytes {
+    framed(length, kind, &row[4..])
+}
+
+// Lengths and kinds that a row may not have: kind 32 has L = 22 (document 01), kind 34 L = 40 (document 02, card 5).
+const WRONG_FRAMES: [(u16, u16); 17] = [
+    (23, 33), (25, 33), (22, 33), (0, 33), (1, 33), (2, 33), (280, 33), (65535, 33),
+    (24, 32), (22, 32), (24, 34), (40, 34), (24, 31), (24, 0), (24, 289), (24, 8448), (33, 24),
+];
 
 // A sheet of groups alone, or with a name for each group (A, B, ..) and claims.
 fn groups(list: &[(u16, u16, u16, u16)]) -> Bytes {
@@ -254,7 +285,16 @@ impl Table {
         }
     }
 
-    // The same with fewer buffers, for the many registers by size.
+    // Of all values of a two-byte field of the only row, these pass and the others are turned back by n.
+    fn every(&mut self, what: &str, sheet: &[u8], row: impl Fn(u16) -> Bytes, allowed: &[u16], n: u64) {
+        if REGISTER {
+            let wanted = |x: u16| if allowed.contains(&x) { 8 } else { n * 4_294_967_296 + 1 };
+            let wrong: Vec<u16> = (0..=65535).filter(|&x| call(Op::Register(&row(x)), sheet, &mut [0; 8]) != wanted(x)).collect();
+            self.note(&format!("every {what}"), wrong.is_empty(), format!("another answer for {wrong:?}"));
+        }
+    }
+
+    // The same as 'register' with fewer buffers, for the many registers by size.
     fn checked(&mut self, what: &str, sheet: &[u8], reg: &[u8], group: u16, rule: u16) {
         if REGISTER {
             self.turned(&format!("{what}, 7 bytes"), Op::Register(reg), sheet, 7, 14, 0);
@@ -365,6 +405,12 @@ fn main() {
     joined_families(&mut t);
     joined_counts(&mut t);
     joined_refusals(&mut t);
+    ears(&mut t);
+    ears_judged(&mut t);
+    ears_by_place(&mut t);
+    ear_order(&mut t);
+    sides(&mut t);
+    old_rows(&mut t);
     ranges(&mut t);
     planners(&mut t);
     claims(&mut t);
@@ -514,6 +560,8 @@ fn reading(t: &mut Table) {
     let at = 12 + 128 * 12 + 127 * 22 + 6;
     last_label[at..at + 16].copy_from_slice(b"LONGLABEL-000001");
     t.sheet("the 128th label as the first", &last_label, 6, 257);
+    last_label[at..at + 16].copy_from_slice(b"LONGLABEL-000127");
+    t.sheet("the 128th label as the one before", &last_label, 6, 257);
     large.push(0);
     t.sheet("the largest sheet and a byte", &large, 7, 322);
 }
@@ -570,30 +618,23 @@ fn registers(t: &mut Table) {
     t.register_refused("2,049 rows", &s, &rows(2049), 10, 2049);
     t.register_refused("2,050 rows", &s, &rows(2050), 10, 2049);
     t.register_refused("10+11: a byte after 2,048 rows", &s, &join(&[rows(2048), vec![1]]), 10, 2049);
-    t.register_refused("10+11: a wrong row after 2,048", &s, &join(&[rows(2048), vec![0; 24]]), 10, 2049);
-    t.register_refused("11 before 10", &s, &join(&[rows(1000), vec![0; 24], rows(1500)]), 11, 1001);
-    t.register_refused("11 at row 2,048", &s, &join(&[rows(2047), vec![22, 0, 32]]), 11, 2048);
+    t.register_refused("10+11: a wrong row after 2,048", &s, &join(&[rows(2048), vec![0; ROW]]), 10, 2049);
+    t.register_refused("11 before 10", &s, &join(&[rows(1000), vec![0; ROW], rows(1500)]), 11, 1001);
+    t.register_refused("11 at row 2,048", &s, &join(&[rows(2047), vec![24, 0, 33]]), 11, 2048);
     t.register_refused("12 at row 2,048", &s, &join(&[rows(2047), row(2046, &[])]), 12, 2048);
     t.register_refused("13 at row 2,048", &s, &join(&[rows(2047), row(2048, &[4])]), 13, 2048);
 
     // 11: first, middle, last.
-    let bad: Vec<(&str, Bytes)> = vec![
-        ("length 21", framed(21, 32, &row(2, &[])[4..])),
-        ("length 23", framed(23, 32, &row(2, &[])[4..])),
-        ("length 0", framed(0, 32, &row(2, &[])[4..])),
-        ("length 1", framed(1, 32, &row(2, &[])[4..])),
-        ("length 65535", framed(65535, 32, &row(2, &[])[4..])),
-        ("length 278", framed(278, 32, &row(2, &[])[4..])),
-        ("kind 33", framed(22, 33, &row(2, &[])[4..])),
-        ("kind 0", framed(22, 0, &row(2, &[])[4..])),
-        ("kind 288", framed(22, 288, &row(2, &[])[4..])),
-    ];
-    for (what, b) in &bad {
+    for (length, kind) in WRONG_FRAMES {
+        let b = reframed(&row(2, &[]), length, kind);
+        let what = format!("length {length} and kind {kind}");
         t.register_refused(&format!("first row: {what}"), &s, &join(&[b.clone(), row(3, &[])]), 11, 1);
         t.register_refused(&format!("middle row: {what}"), &s, &join(&[row(1, &[]), b.clone(), row(3, &[])]), 11, 2);
-        t.register_refused(&format!("last row: {what}"), &s, &join(&[row(1, &[]), b.clone()]), 11, 2);
+        t.register_refused(&format!("last row: {what}"), &s, &join(&[row(1, &[]), b]), 11, 2);
     }
-    for keep in [1, 3, 4, 8, 23] {
+    t.every("length", &s, |length| reframed(&row(9, &[]), length, 33), &[24], 11);
+    t.every("kind", &s, |kind| reframed(&row(9, &[]), 24, kind), &[33], 11);
+    for keep in 1..ROW {
         let piece = row(9, &[])[..keep].to_vec();
         t.register_refused(&format!("only row: {keep} bytes"), &s, &piece, 11, 1);
         t.register_refused(&format!("last row: {keep} bytes"), &s, &join(&[rows(5), piece]), 11, 6);
@@ -604,10 +645,11 @@ fn registers(t: &mut Table) {
     t.register_refused("middle member falls", &s, &join(&[row(5, &[]), row(4, &[]), row(6, &[])]), 12, 2);
     t.register_refused("last member falls", &s, &join(&[row(5, &[]), row(6, &[]), row(3, &[])]), 12, 3);
     t.register_refused("last member 0", &s, &join(&[row(5, &[]), row(0, &[])]), 12, 2);
-    t.register_refused("after the greatest", &s, &join(&[row(NONE, &[]), row(NONE - 1, &[])]), 12, 2);
-    t.register_refused("1 after the greatest", &s, &join(&[row(NONE, &[]), row(1, &[])]), 12, 2);
-    t.register_refused("256 after 511", &s, &join(&[row(511, &[]), row(256, &[])]), 12, 2);
-    t.register("members 255, 256, 65536, greatest", &s, &join(&[row(255, &[]), row(256, &[]), row(65536, &[]), row(NONE, &[])]), 0, 0);
+    let numbers = |list: &[u32]| -> Bytes { list.iter().flat_map(|&n| row_of((n, LEFT), &[])).collect() };
+    t.register_refused("after the greatest", &s, &numbers(&[NONE, NONE - 1]), 12, 2);
+    t.register_refused("1 after the greatest", &s, &numbers(&[NONE, 1]), 12, 2);
+    t.register_refused("256 after 511", &s, &numbers(&[511, 256]), 12, 2);
+    t.register("numbers 255, 256, 65536, greatest", &s, &numbers(&[255, 256, 65536, NONE]), 0, 0);
 
     // 13.
     t.register_refused("bit 4 in the first row", &s, &join(&[row(1, &[4]), row(2, &[])]), 13, 1);
@@ -618,13 +660,13 @@ fn registers(t: &mut Table) {
     t.register("bit 65 of 65", &star(65, 0), &row(1, &[1, 65]), 0, 0);
     t.register("bit 128 of 128", &star(128, 0), &row(1, &[1, 128]), 0, 0);
 
-    // Pairs.
-    t.register_refused("11+12", &s, &framed(22, 31, &row(0, &[])[4..]), 11, 1);
-    t.register_refused("11+12 last", &s, &join(&[row(7, &[]), framed(21, 32, &row(6, &[])[4..])]), 11, 2);
+    // Two at once.
+    t.register_refused("11+12", &s, &reframed(&row(0, &[]), 24, 32), 11, 1);
+    t.register_refused("11+12 last", &s, &join(&[row(7, &[]), reframed(&row(6, &[]), 23, 33)]), 11, 2);
     t.register_refused("12+13", &s, &row(0, &[4]), 12, 1);
     t.register_refused("12+13 last", &s, &join(&[row(7, &[]), row(6, &[100])]), 12, 2);
     t.register_refused("13+14", &s, &row(1, &[4]), 13, 1);
-    t.register_refused("13 before 11", &s, &join(&[row(1, &[4]), vec![0; 24]]), 13, 1);
+    t.register_refused("13 before 11", &s, &join(&[row(1, &[4]), vec![0; ROW]]), 13, 1);
     t.register_refused("12 before 11", &s, &join(&[row(0, &[]), vec![0; 3]]), 12, 1);
     t.register_refused("13 before 12", &s, &join(&[row(5, &[4]), row(4, &[])]), 13, 1);
     // A refusal in the sheet and one in the register.
@@ -633,7 +675,7 @@ fn registers(t: &mut Table) {
     t.register_refused("5 and 13", &with(4, group(3, 0, 9, 0)), &row(1, &[128]), 5, 4);
     t.register_refused("7 and 10", &join(&[s.clone(), vec![0]]), &rows(2049), 7, 11);
     // All rows are read before a rule is named.
-    t.register_refused("a broken rule, then a bad row", &s, &join(&[row(1, &[2]), vec![0; 24]]), 11, 2);
+    t.register_refused("a broken rule, then a bad row", &s, &join(&[row(1, &[2]), vec![0; ROW]]), 11, 2);
 
     // Rules. Groups: 1 root 0 to 3; 2 (parent 1, 'same', 0 up); 3 and 4 (parent 2); 5 (parent 1,
     // 'disjoint' and 'cover', 0 to 2); 6 and 7 (parent 5, 6 with lo 1).
@@ -798,7 +840,7 @@ fn sons(t: &mut Table) {
 // Numbers of rows around 64, 128 and the most there may be.
 const SIZES: [usize; 10] = [0, 1, 63, 64, 65, 127, 128, 129, 2047, 2048];
 
-// Rows 1 to n, each with its own number for member and the groups that 'held' says.
+// Rows 1 to n, each of its own ear, with the groups that 'held' says.
 fn rows(n: usize, held: impl Fn(usize) -> Vec<usize>) -> Bytes {
     (1..=n).flat_map(|r| row(r as u32, &held(r))).collect()
 }
@@ -996,7 +1038,7 @@ fn first_broken(t: &mut Table) {
     }
 }
 
-// Refusals by 10 to 13 at a late row, after rows that break rules; a refusal is named before any rule.
+// Refusals by 10 to 13 and 15 at a late row, after rows that break rules; a refusal is named before any rule.
 fn late_refusals(t: &mut Table) {
     let s = family(2);
     for r in [1, 64, 65, 2048, 2049] {
@@ -1005,19 +1047,27 @@ fn late_refusals(t: &mut Table) {
         let no = r as u32;
         // 11: a wrong kind or length, a row that is cut.
         let mut bad = vec![
-            (11, "a kind of 33", framed(22, 33, &row(no, &[])[4..])),
-            (11, "a length of 21", framed(21, 32, &row(no, &[])[4..])),
-            (11, "a length of 278", framed(278, 32, &row(no, &[])[4..])),
+            (11, "a kind of 32", reframed(&row(no, &[]), 24, 32)),
+            (11, "a length of 22", reframed(&row(no, &[]), 22, 33)),
+            (11, "a length of 280", reframed(&row(no, &[]), 280, 33)),
+            (15, "side 0", row_of((no, 0), &[1])),
+            (15, "side 3", row_of((no, 3), &[1])),
+            (15, "side 257", row_of((no, 257), &[1])),
             (12, "member 0", row(0, &[1])),
             (13, "a bit above G", row(no, &[1, 7])),
             (13, "bit 65", row(no, &[1, 65])),
             (13, "bit 128", row(no, &[128])),
             (12, "member 0 and a bit above G", row(0, &[7])),
-            (11, "a wrong kind, member 0 and a bit above G", framed(22, 31, &row(0, &[7])[4..])),
+            (15, "side 3 and a bit above G", row_of((no, 3), &[7])),
+            (15, "side 3 and number 0", row_of((0, 3), &[1])),
+            (15, "side 3, number 0 and a bit above G", row_of((0, 3), &[7])),
+            (11, "a wrong kind, side 3, number 0 and a bit above G", reframed(&row_of((0, 3), &[7]), 24, 32)),
         ];
         if r > 1 {
             bad.push((12, "the member before that of the row before", row(no - 2, &[1])));
             bad.push((12, "member 1", row(1, &[1])));
+            bad.push((15, "side 3 of number 1", row_of((1, 3), &[1])));
+            bad.push((15, "side 0 of the row before's number", row_of((ear(no - 1).0, 0), &[1])));
         }
         for (n, what, b) in bad {
             let n = if r == 2049 { 10 } else { n };
@@ -1025,21 +1075,21 @@ fn late_refusals(t: &mut Table) {
             t.register_refused(&format!("{what} at row {r}, the last"), &s, &start, n, r as u64);
             t.register_refused(&format!("{what} at row {r}, others follow"), &s, &[start, after.clone()].concat(), n, r as u64);
         }
-        for keep in [1, 3, 4, 8, 16, 23] {
+        for keep in [1, 3, 4, 8, 9, 10, 16, 24, 25] {
             let cut = [before(r - 1), row(no, &[1])[..keep].to_vec()].concat();
             t.register_refused(&format!("{keep} bytes for row {r}"), &s, &cut, if r == 2049 { 10 } else { 11 }, r as u64);
         }
     }
-    // 12: the row before decides, not an earlier one. Row k has member 10 k.
+    // 12: the row before decides, not an earlier one. Row k has ear 10 k.
     for r in [2, 64, 65, 66, 128, 129, 2047, 2048] {
         let tens = |n: usize| -> Bytes { (1..=n).flat_map(|k| row(10 * k as u32, if k == 1 { &[1, 2] } else { &[1] })).collect() };
         let last = 10 * (r as u32 - 1);
-        for member in [last - 1, last - 9, 1] {
-            t.register_refused(&format!("member {member} at row {r}, after {last}"), &s, &[tens(r - 1), row(member, &[1])].concat(), 12, r as u64);
+        for k in [last - 1, last - 9, 1] {
+            t.register_refused(&format!("ear {k} at row {r}, after {last}"), &s, &[tens(r - 1), row(k, &[1])].concat(), 12, r as u64);
         }
-        t.checked(&format!("member {last} again at row {r}"), &s, &[tens(r - 1), row(last, &[1])].concat(), 2, 3);
-        t.checked(&format!("member {} at row {r}", last + 1), &s, &[tens(r - 1), row(last + 1, &[1])].concat(), 2, 3);
-        t.checked(&format!("the greatest member at row {r}"), &s, &[tens(r - 1), row(NONE, &[1])].concat(), 2, 3);
+        t.checked(&format!("ear {last} again at row {r}"), &s, &[tens(r - 1), row(last, &[1])].concat(), 2, 3);
+        t.checked(&format!("ear {} at row {r}", last + 1), &s, &[tens(r - 1), row(last + 1, &[1])].concat(), 2, 3);
+        t.checked(&format!("the greatest at row {r}"), &s, &[tens(r - 1), row_of((NONE, RIGHT), &[1])].concat(), 2, 3);
     }
     // 13: the bit just above G.
     for g in [1, 63, 64, 65, 127] {
@@ -1059,9 +1109,9 @@ fn late_refusals(t: &mut Table) {
     }
 }
 
-// Rows in this order: member and groups.
+// Rows in this order: which ear, and the groups.
 fn listed(list: &[(u32, Vec<usize>)]) -> Bytes {
-    list.iter().flat_map(|(member, held)| row(*member, held)).collect()
+    list.iter().flat_map(|(k, held)| row(*k, held)).collect()
 }
 
 // One member on rows with these groups.
@@ -1080,7 +1130,7 @@ fn joined_rows(t: &mut Table) {
         t.checked(&format!("{what}, lo 2"), &root(2, NO_END), &all, 1, 5);
         t.checked(&format!("{what}, {n} to {n}"), &root(n as u16, n as u16), &all, 1, 5);
         t.checked(&format!("{what}, hi 0"), &root(0, 0), &all, 1, 6);
-        t.checked(&format!("{what} and another, 2 to 2"), &root(2, 2), &[row(8, &[1]), all[24..].to_vec()].concat(), 0, 0);
+        t.checked(&format!("{what} and another, 2 to 2"), &root(2, 2), &[row(8, &[1]), all[ROW..].to_vec()].concat(), 0, 0);
         for r in edges(n) {
             let mut parts = vec![vec![]; n];
             parts[r - 1] = vec![1];
@@ -1158,13 +1208,16 @@ fn joined_rows(t: &mut Table) {
     let six = listed(&[(1, vec![1]), (1, vec![]), (2, vec![1]), (2, vec![1]), (3, vec![]), (3, vec![1])]);
     t.register("an impossible sheet, three members on six rows", &impossible, &six, 1, 6);
     // Whole numbers are compared.
-    let one = |m: u32| (m, vec![1]);
-    for m in [1, 255, 256, 65535, 65536, 16777216, 4294967294, NONE] {
-        t.register(&format!("member {m} on two rows"), &root(1, 1), &listed(&[one(m), one(m)]), 0, 0);
-    }
-    for (a, b) in [(1, 257), (1, 65537), (1, 16777217), (255, 511), (256, 512), (65536, 131072), (4294967294, NONE)] {
-        t.register(&format!("members {a} and {b}"), &root(2, 2), &listed(&[one(a), one(b)]), 0, 0);
-        t.register(&format!("members {a} and {b} on two rows each"), &root(2, 2), &listed(&[one(a), one(a), one(b), one(b)]), 0, 0);
+    for side in [LEFT, RIGHT] {
+        let one = |n: u32| row_of((n, side), &[1]);
+        for n in [1, 255, 256, 65535, 65536, 16777216, 4294967294, NONE] {
+            t.register(&format!("number {n}, side {side}, on two rows"), &root(1, 1), &[one(n), one(n)].concat(), 0, 0);
+        }
+        for (a, b) in [(1, 257), (1, 65537), (1, 16777217), (255, 511), (256, 512), (65536, 131072), (4294967294, NONE)] {
+            t.register(&format!("numbers {a} and {b}, side {side}"), &root(2, 2), &[one(a), one(b)].concat(), 0, 0);
+            let both = [one(a), one(a), one(b), one(b)].concat();
+            t.register(&format!("numbers {a} and {b}, side {side}, on two rows each"), &root(2, 2), &both, 0, 0);
+        }
     }
 }
 
@@ -1319,10 +1372,10 @@ fn joined_counts(t: &mut Table) {
     }
 }
 
-// Refusals 10 to 13 beside rows of one member; the row given counts rows.
+// Refusals 10 to 13 and 15 beside rows of one member; the row given counts rows.
 fn joined_refusals(t: &mut Table) {
     let s = base().concat();
-    // 12 is kept for 0 and for a falling number.
+    // 12 is kept for 0 and for a falling pair.
     t.register("5, 5, 6", &s, &listed(&[(5, vec![]), (5, vec![]), (6, vec![])]), 0, 0);
     t.register("5, 6, 6", &s, &listed(&[(5, vec![]), (6, vec![1]), (6, vec![2])]), 0, 0);
     for (members, r) in [
@@ -1333,7 +1386,7 @@ fn joined_refusals(t: &mut Table) {
         (vec![5, 5, 6, 5], 4),
         (vec![5, 6, 5], 3),
         (vec![5, 5, 1], 3),
-        (vec![256, 256, 255], 3),
+        (vec![511, 511, 510], 3),
         (vec![NONE, NONE, NONE - 1], 3),
         (vec![NONE, NONE, 1], 3),
         (vec![0, 0], 1),
@@ -1344,7 +1397,7 @@ fn joined_refusals(t: &mut Table) {
         (vec![NONE, NONE, 0], 3),
     ] {
         let list: Vec<(u32, Vec<usize>)> = members.iter().map(|&m| (m, vec![1])).collect();
-        t.register_refused(&format!("members {members:?}"), &s, &listed(&list), 12, r);
+        t.register_refused(&format!("ears {members:?}"), &s, &listed(&list), 12, r);
     }
     // 13 in the first, the second and the third of them; then what comes first.
     t.register_refused("bit 4 in the first of two", &s, &one_member(&[vec![4], vec![1]]), 13, 1);
@@ -1355,17 +1408,17 @@ fn joined_refusals(t: &mut Table) {
     t.register_refused("bit 65 in the second of two, 64 groups", &star(64, 0), &one_member(&[vec![1, 64], vec![1, 65]]), 13, 2);
     t.register_refused("12+13 after two of one member", &s, &listed(&[(5, vec![]), (5, vec![]), (4, vec![4])]), 12, 3);
     t.register_refused("13 in the second of two, then 12", &s, &listed(&[(5, vec![]), (5, vec![4]), (4, vec![])]), 13, 2);
-    t.register_refused("13 in the second of two, then 11", &s, &[one_member(&[vec![1], vec![4]]), vec![0; 24]].concat(), 13, 2);
+    t.register_refused("13 in the second of two, then 11", &s, &[one_member(&[vec![1], vec![4]]), vec![0; ROW]].concat(), 13, 2);
     t.register_refused("a broken rule, then 13 in the same member", &s, &one_member(&[vec![2], vec![4]]), 13, 2);
     t.register_refused("a broken rule, then 12", &s, &listed(&[(9, vec![2]), (9, vec![3]), (8, vec![1])]), 12, 3);
     // 11: the second of two rows of one member is cut, or of wrong kind or length.
     let second = row(9, &[1]);
-    for keep in [1, 3, 4, 7, 8, 16, 23] {
+    for keep in 1..ROW {
         t.register_refused(&format!("{keep} bytes for the second of two"), &s, &[row(9, &[1]), second[..keep].to_vec()].concat(), 11, 2);
         t.register_refused(&format!("{keep} bytes for the third of three"), &s, &[one_member(&[vec![1], vec![2]]), second[..keep].to_vec()].concat(), 11, 3);
     }
-    for (length, kind) in [(21, 32), (23, 32), (0, 32), (278, 32), (22, 31), (22, 33), (22, 0), (22, 288)] {
-        let wrong = framed(length, kind, &second[4..]);
+    for (length, kind) in WRONG_FRAMES {
+        let wrong = reframed(&second, length, kind);
         let what = format!("length {length} and kind {kind}");
         t.register_refused(&format!("{what} in the first of two"), &s, &[wrong.clone(), second.clone()].concat(), 11, 1);
         t.register_refused(&format!("{what} in the second of two"), &s, &[second.clone(), wrong.clone()].concat(), 11, 2);
@@ -1385,15 +1438,21 @@ fn joined_refusals(t: &mut Table) {
                 (13, "the same member and a bit above G", row(last, &[1, 4])),
                 (13, "the same member and bit 128", row(last, &[128])),
                 (13, "another member and a bit above G", row(last + 1, &[1, 4])),
-                (11, "the same member, kind 33", framed(22, 33, &row(last, &[1])[4..])),
-                (11, "the same member, length 21", framed(21, 32, &row(last, &[1])[4..])),
+                (15, "the same number, side 0", row_of((ear(last).0, 0), &[1])),
+                (15, "the same number, side 3", row_of((ear(last).0, 3), &[1])),
+                (15, "the same number, its side and 256", row_of((ear(last).0, ear(last).1 + 256), &[1])),
+                (15, "the same number, side 3 and a bit above G", row_of((ear(last).0, 3), &[1, 4])),
+                (15, "number 0 and side 3", row_of((0, 3), &[1])),
+                (15, "a number that falls and side 3", row_of((ear(last).0 - 1, 3), &[1])),
+                (11, "the same member, kind 32", reframed(&row(last, &[1]), 24, 32)),
+                (11, "the same member, length 22", reframed(&row(last, &[1]), 22, 33)),
             ];
-            bad.extend([1, 4, 8, 23].map(|keep| (11, "the same member, cut", row(last, &[1])[..keep].to_vec())));
+            bad.extend([1, 4, 8, 10, 25].map(|keep| (11, "the same member, cut", row(last, &[1])[..keep].to_vec())));
             for (n, what, b) in bad {
                 let n = if r == 2049 { 10 } else { n };
                 let start = [listed(&before), b].concat();
                 t.register_refused(&format!("{what} at row {r} after {how}"), &s, &start, n, r as u64);
-                if start.len() % 24 == 0 {
+                if start.len() % ROW == 0 {
                     t.register_refused(&format!("{what} at row {r} after {how}, others follow"), &s, &[start, row(last, &[1])].concat(), n, r as u64);
                 }
             }
@@ -1417,7 +1476,391 @@ fn joined_refusals(t: &mut Table) {
         t.register(&format!("2,048 rows, {each} for a member"), &s, &rows_of(2048, each), 0, 0);
         t.register_refused(&format!("2,049 rows, {each} for a member"), &s, &rows_of(2049, each), 10, 2049);
         t.register_refused(&format!("2,050 rows, {each} for a member"), &s, &rows_of(2050, each), 10, 2049);
-        t.register_refused(&format!("2,048 rows, {each} for a member, and a byte"), &s, &[rows_of(2048, each), vec![22]].concat(), 10, 2049);
+        t.register_refused(&format!("2,048 rows, {each} for a member, and a byte"), &s, &[rows_of(2048, each), vec![24]].concat(), 10, 2049);
+    }
+}
+
+// Rows in this order: ear and groups.
+fn of_ears(list: &[(Ear, Vec<usize>)]) -> Bytes {
+    list.iter().flat_map(|(ear, held)| row_of(*ear, held)).collect()
+}
+
+// Document 02, card 4: a member is a number and a side, so that both ears of one number count two.
+fn ears(t: &mut Table) {
+    let root = |lo: usize, hi: usize| groups(&[(0, lo as u16, hi as u16, 0)]);
+    let any = NO_END as usize;
+    let (l, r) = (LEFT, RIGHT);
+    let mut exactly = |what: &str, list: &[Ear], n: usize| {
+        let reg: Bytes = list.iter().flat_map(|&ear| row_of(ear, &[1])).collect();
+        t.register(&format!("{what}, {n} to {n}"), &root(n, n), &reg, 0, 0);
+        t.register(&format!("{what}, lo {}", n + 1), &root(n + 1, any), &reg, 1, 5);
+        t.register(&format!("{what}, hi {}", n - 1), &root(0, n - 1), &reg, 1, 6);
+    };
+    for n in [1, 255, 256, 257, 65535, 65536, 16777216, 4294967294, NONE] {
+        exactly(&format!("the left ear of {n}"), &[(n, l)], 1);
+        exactly(&format!("the right ear of {n}"), &[(n, r)], 1);
+        exactly(&format!("both ears of {n}"), &[(n, l), (n, r)], 2);
+        exactly(&format!("both ears of {n}, the left on two rows"), &[(n, l), (n, l), (n, r)], 2);
+        exactly(&format!("both ears of {n}, the right on two rows"), &[(n, l), (n, r), (n, r)], 2);
+        exactly(&format!("both ears of {n} on two rows each"), &[(n, l), (n, l), (n, r), (n, r)], 2);
+    }
+    for (a, b) in [(1, 2), (1, 257), (255, 256), (1, 65537), (65535, 65536), (1, 16777217), (4294967294, NONE)] {
+        exactly(&format!("both ears of {a} and {b}"), &[(a, l), (a, r), (b, l), (b, r)], 4);
+        exactly(&format!("left ears of {a} and {b}"), &[(a, l), (b, l)], 2);
+        exactly(&format!("right ears of {a} and {b}"), &[(a, r), (b, r)], 2);
+        exactly(&format!("the right ear of {a}, the left of {b}"), &[(a, r), (b, l)], 2);
+        exactly(&format!("the left ear of {a}, the right of {b}"), &[(a, l), (b, r)], 2);
+        exactly(&format!("both ears of {a}, the right of {b} on two rows"), &[(a, l), (a, r), (b, r), (b, r)], 3);
+    }
+}
+
+// Both ears of one number, judged each for itself by every rule.
+fn ears_judged(t: &mut Table) {
+    // Groups 1 root; 2 'disjoint' and 'cover' with sons 3 and 4; 5 'same' with son 6.
+    let s = family(2);
+    for (left, right, group, rule) in [
+        (vec![1, 2, 3], vec![1, 2, 3], 0, 0),
+        (vec![1, 2, 3], vec![], 0, 0),
+        (vec![], vec![1, 2, 3], 0, 0),
+        // 'Disjoint': one ear in each son, or one in both.
+        (vec![1, 2, 3], vec![1, 2, 4], 0, 0),
+        (vec![1, 2, 4], vec![1, 2, 3], 0, 0),
+        (vec![1, 2, 3, 4], vec![1, 2, 3], 2, 4),
+        (vec![1, 2, 3], vec![1, 2, 3, 4], 2, 4),
+        (vec![3, 4], vec![1, 2, 3], 2, 4),
+        // The other ear is in the parent.
+        (vec![1], vec![2, 3], 2, 1),
+        (vec![2, 3], vec![1], 2, 1),
+        (vec![1, 2, 3], vec![1, 3], 3, 1),
+        (vec![1, 4], vec![1, 2, 4], 4, 1),
+        (vec![1, 3], vec![1, 4], 3, 1),
+        (vec![1, 5, 6], vec![1, 6], 6, 1),
+        (vec![1, 6], vec![1, 5, 6], 6, 1),
+        (vec![3], vec![4], 3, 1),
+        // The other ear is in the son: 'same' and 'cover'.
+        (vec![1, 5], vec![1, 5, 6], 6, 2),
+        (vec![1, 5, 6], vec![1, 5], 6, 2),
+        (vec![1, 5], vec![1, 6], 6, 1),
+        (vec![1, 5, 6], vec![1, 5, 6], 0, 0),
+        (vec![1, 2], vec![1, 2, 3], 2, 3),
+        (vec![1, 2, 4], vec![1, 2], 2, 3),
+        (vec![1, 2], vec![1, 4], 2, 3),
+        // All at once.
+        (vec![1, 2, 3, 5, 6], vec![1, 2, 4, 5, 6], 0, 0),
+        (vec![1, 2, 3, 5], vec![1, 2, 4, 6], 6, 1),
+        (vec![1, 2, 3, 5, 6], vec![1, 2, 5, 6], 2, 3),
+    ] {
+        let what = format!("left {left:?}, right {right:?}");
+        let ears = [(9, LEFT), (9, RIGHT)];
+        t.register(&what, &s, &of_ears(&[(ears[0], left.clone()), (ears[1], right.clone())]), group, rule);
+        // Each ear on two rows: a part on each, or nothing on one.
+        let halves = |held: &[usize]| {
+            let (a, b): (Vec<usize>, Vec<usize>) = held.iter().partition(|&g| g % 2 == 0);
+            [(a.clone(), b.clone()), (b, a), (held.to_vec(), vec![]), (vec![], held.to_vec())]
+        };
+        for (a, b) in halves(&left) {
+            for (c, d) in halves(&right) {
+                let reg = of_ears(&[(ears[0], a.clone()), (ears[0], b.clone()), (ears[1], c.clone()), (ears[1], d)]);
+                t.checked(&format!("{what}, in parts {a:?} and {c:?}"), &s, &reg, group, rule);
+            }
+        }
+        // The same of two numbers: sides don't matter.
+        for (a, b) in [(LEFT, LEFT), (LEFT, RIGHT), (RIGHT, LEFT), (RIGHT, RIGHT)] {
+            let reg = of_ears(&[((8, a), left.clone()), ((9, b), right.clone())]);
+            t.checked(&format!("{what}, as sides {a} of 8 and {b} of 9"), &s, &reg, group, rule);
+        }
+    }
+    // Neither ear's rows join the other's.
+    for (list, group, rule) in [
+        (vec![(LEFT, vec![1, 2]), (LEFT, vec![3]), (RIGHT, vec![1, 2]), (RIGHT, vec![4])], 0, 0),
+        (vec![(LEFT, vec![1, 2]), (RIGHT, vec![3]), (RIGHT, vec![1, 2])], 2, 3),
+        (vec![(LEFT, vec![1, 2]), (LEFT, vec![3]), (RIGHT, vec![4])], 4, 1),
+        (vec![(LEFT, vec![3]), (RIGHT, vec![1, 2]), (RIGHT, vec![3])], 3, 1),
+        (vec![(LEFT, vec![1, 2, 3]), (LEFT, vec![4]), (RIGHT, vec![])], 2, 4),
+        (vec![(LEFT, vec![]), (RIGHT, vec![1, 2, 3]), (RIGHT, vec![4])], 2, 4),
+        (vec![(LEFT, vec![1, 2, 3]), (RIGHT, vec![1, 2, 4]), (RIGHT, vec![1, 2, 4])], 0, 0),
+        (vec![(LEFT, vec![1, 5]), (RIGHT, vec![1, 5]), (RIGHT, vec![6])], 6, 2),
+        (vec![(LEFT, vec![1, 5]), (LEFT, vec![6]), (RIGHT, vec![1, 5])], 6, 2),
+    ] {
+        let rows: Vec<(Ear, Vec<usize>)> = list.iter().map(|(side, held)| ((9, *side), held.clone())).collect();
+        t.register(&format!("rows of both ears {list:?}"), &s, &of_ears(&rows), group, rule);
+    }
+    // Bounds on a son.
+    let son = |lo: u16, hi: u16| groups(&[(0, 0, NO_END, 0), (1, lo, hi, 0)]);
+    for (left, right, n) in [(vec![1, 2], vec![1, 2], 2), (vec![1, 2], vec![1], 1), (vec![1], vec![1, 2], 1), (vec![1], vec![1], 0)] {
+        let reg = of_ears(&[((9, LEFT), left.clone()), ((9, RIGHT), right.clone())]);
+        let what = format!("group 2 of 1 to 1, left {left:?}, right {right:?}");
+        let (group, rule) = [(2, 5), (0, 0), (2, 6)][n];
+        t.register(&what, &son(1, 1), &reg, group, rule);
+    }
+    // An impossible sheet counts ears too.
+    let both = of_ears(&[((1, LEFT), vec![1]), ((1, RIGHT), vec![1])]);
+    t.register("an impossible sheet, both ears below lo", &groups(&[(0, 3, 1, 0)]), &both, 1, 5);
+    t.register("an impossible sheet, both ears above hi", &groups(&[(0, 2, 1, 0)]), &both, 1, 6);
+}
+
+// Both ears at the rows around 64, 128 and the last, all other rows of one ear each.
+fn ears_by_place(t: &mut Table) {
+    for at in [2, 63, 124] {
+        let s = family(at);
+        let g = at as usize;
+        for (left, right, group, rule) in [
+            (vec![1, g, g + 1], vec![1, g, g + 2], 0, 0),
+            (vec![g, g + 1], vec![1], at, 1),
+            (vec![1, g], vec![1, g + 1], at, 3),
+            (vec![1, g, g + 2], vec![1, g], at, 3),
+            (vec![1, g + 3], vec![1, g + 3, g + 4], at + 4, 2),
+            (vec![1, g + 1], vec![1, g, g + 1], at + 1, 1),
+            (vec![1, g, g + 1, g + 2], vec![], at, 4),
+            (vec![], vec![1, g, g + 1, g + 2], at, 4),
+        ] {
+            for r in [1, 62, 63, 64, 65, 127, 128, 2046, 2047] {
+                let mut sizes = vec![r + 1, r + 2, 2048];
+                sizes.dedup();
+                for n in sizes.into_iter().filter(|&n| n <= 2048) {
+                    let reg: Bytes = (1..=n)
+                        .flat_map(|k| {
+                            if k == r {
+                                row_of((r as u32, LEFT), &left)
+                            } else if k == r + 1 {
+                                row_of((r as u32, RIGHT), &right)
+                            } else {
+                                row_of((k as u32, if k % 3 == 0 { LEFT } else { RIGHT }), &fitting(g, k))
+                            }
+                        })
+                        .collect();
+                    t.checked(&format!("family at {at}, left {left:?} on row {r} and right {right:?} after it, {n} rows"), &s, &reg, group, rule);
+                }
+            }
+        }
+    }
+    // Counts: n ears, of each number one or both.
+    let root = |n: usize| groups(&[(0, n as u16, n as u16, 0)]);
+    for n in SIZES.into_iter().filter(|&n| n > 0) {
+        for (how, of) in [
+            ("left ears", (|k| (k, LEFT)) as fn(u32) -> Ear),
+            ("right ears", |k| (k, RIGHT)),
+            ("both ears of each", ear),
+            ("both ears of each but the first", |k| ear(k + 1)),
+        ] {
+            let reg: Bytes = (1..=n as u32).flat_map(|k| row_of(of(k), &[1])).collect();
+            t.checked(&format!("{n} rows, {how}, {n} to {n}"), &root(n), &reg, 0, 0);
+            t.checked(&format!("{n} rows, {how}, {} to {}", n + 1, n + 1), &root(n + 1), &reg, 1, 5);
+            t.checked(&format!("{n} rows, {how}, {} to {}", n - 1, n - 1), &root(n - 1), &reg, 1, 6);
+        }
+    }
+    // One number on n rows, its left ear on the first k of them.
+    for n in [2, 64, 65, 128, 129, 2047, 2048] {
+        for k in [0, 1, 63, 64, 65, n / 2, n - 1, n] {
+            if k > n {
+                continue;
+            }
+            let reg: Bytes = (1..=n).flat_map(|r| row_of((7, if r <= k { LEFT } else { RIGHT }), if r == 1 || r == n { &[1] } else { &[] })).collect();
+            let many = if k == 0 || k == n { 1 } else { 2 };
+            t.checked(&format!("one number on {n} rows, {k} of the left ear"), &root(many), &reg, 0, 0);
+            t.checked(&format!("one number on {n} rows, {k} of the left ear, one more"), &root(many + 1), &reg, 1, 5);
+            t.checked(&format!("one number on {n} rows, {k} of the left ear, one less"), &root(many - 1), &reg, 1, 6);
+        }
+    }
+}
+
+// Rows rise by number, then by side (12); what rises passes, and equal pairs join.
+fn ear_order(t: &mut Table) {
+    let s = base().concat();
+    let (l, r) = (LEFT, RIGHT);
+    let rows = |list: &[Ear]| -> Bytes { list.iter().flat_map(|&ear| row_of(ear, &[1])).collect() };
+    for (list, members) in [
+        (vec![(1, l), (1, r)], 2),
+        (vec![(1, r), (2, l)], 2),
+        (vec![(1, l), (2, l)], 2),
+        (vec![(1, l), (2, r)], 2),
+        (vec![(1, r), (2, r)], 2),
+        (vec![(1, l), (1, l)], 1),
+        (vec![(1, r), (1, r)], 1),
+        (vec![(1, l), (1, l), (1, r), (1, r)], 2),
+        (vec![(1, l), (1, r), (2, l), (2, r)], 4),
+        (vec![(1, r), (1, r), (2, l), (2, l), (2, r)], 3),
+        (vec![(255, r), (256, l)], 2),
+        (vec![(255, l), (256, r)], 2),
+        (vec![(256, r), (257, l)], 2),
+        (vec![(511, r), (512, l)], 2),
+        (vec![(65535, r), (65536, l)], 2),
+        (vec![(65536, r), (65537, l)], 2),
+        (vec![(131071, r), (131072, l)], 2),
+        (vec![(16777215, r), (16777216, l)], 2),
+        (vec![(1, r), (NONE, l)], 2),
+        (vec![(NONE - 1, r), (NONE, l), (NONE, r)], 3),
+        (vec![(NONE, l), (NONE, r), (NONE, r)], 2),
+    ] {
+        t.register(&format!("ears {list:?}"), &groups(&[(0, members, members, 0)]), &rows(&list), 0, 0);
+    }
+    for (list, at) in [
+        (vec![(1, r), (1, l)], 2),
+        (vec![(2, l), (1, r)], 2),
+        (vec![(2, r), (1, l)], 2),
+        (vec![(2, l), (1, l)], 2),
+        (vec![(2, r), (1, r)], 2),
+        (vec![(1, l), (1, r), (1, l)], 3),
+        (vec![(1, l), (1, l), (1, r), (1, l)], 4),
+        (vec![(1, r), (1, r), (1, l)], 3),
+        (vec![(1, l), (2, r), (2, l)], 3),
+        (vec![(1, l), (2, l), (1, r)], 3),
+        (vec![(1, r), (2, l), (1, r)], 3),
+        (vec![(256, l), (255, r)], 2),
+        (vec![(256, r), (255, l)], 2),
+        (vec![(512, l), (511, r)], 2),
+        (vec![(65536, l), (65535, r)], 2),
+        (vec![(65537, l), (65536, r)], 2),
+        (vec![(131072, l), (131071, r)], 2),
+        (vec![(16777216, l), (16777215, r)], 2),
+        (vec![(NONE, r), (NONE, l)], 2),
+        (vec![(NONE, l), (NONE - 1, r)], 2),
+        (vec![(NONE, l), (1, r)], 2),
+        // The number 0, on either side.
+        (vec![(0, l)], 1),
+        (vec![(0, r)], 1),
+        (vec![(0, l), (0, r)], 1),
+        (vec![(0, r), (1, l)], 1),
+        (vec![(1, l), (0, r)], 2),
+        (vec![(1, r), (0, r)], 2),
+        (vec![(1, l), (1, r), (0, l)], 3),
+        (vec![(NONE, r), (0, r)], 2),
+    ] {
+        t.register_refused(&format!("ears {list:?}"), &s, &rows(&list), 12, at);
+    }
+    // At the rows around 64 and at the last, after both ears of each number.
+    for at in [64, 65, 66, 128, 129, 2047, 2048] {
+        let before = |k: u32| rows(&(1..at as u32).map(|r| ear(k + r)).collect::<Vec<Ear>>());
+        for k in [0, 1] {
+            let last = ear(k + at as u32 - 1);
+            let lower = if last.1 == RIGHT { (last.0, LEFT) } else { (last.0 - 1, RIGHT) };
+            t.register_refused(&format!("{lower:?} at row {at} after {last:?}"), &s, &[before(k), row_of(lower, &[1])].concat(), 12, at);
+            t.register_refused(&format!("left of 1 at row {at} after {last:?}"), &s, &[before(k), row_of((1, LEFT), &[1])].concat(), 12, at);
+            // Group 1 has at most nine: all are read.
+            for next in [last, ear(k + at as u32), (last.0 + 1, RIGHT)] {
+                t.checked(&format!("{next:?} at row {at} after {last:?}"), &s, &[before(k), row_of(next, &[1])].concat(), 1, 6);
+            }
+        }
+    }
+}
+
+// 15: a side other than 1 or 2, whole fields compared; after 11, before 12 and 13, and before any reply.
+fn sides(t: &mut Table) {
+    let s = base().concat();
+    let good = |k: u32| row(k, &[1]);
+    let others = [
+        0, 3, 4, 5, 127, 128, 129, 254, 255, 256, 257, 258, 259, 511, 512, 513, 514, 769, 4096, 4097, 32768, 32769, 32770, 65281,
+        65282, 65534, 65535,
+    ];
+    for side in others {
+        let what = format!("side {side}");
+        let bad = |number: u32, held: &[usize]| row_of((number, side), held);
+        t.register_refused(&format!("{what} in the only row"), &s, &bad(5, &[1]), 15, 1);
+        t.register_refused(&format!("{what} of the greatest number"), &s, &bad(NONE, &[1]), 15, 1);
+        t.register_refused(&format!("{what} in the first row"), &s, &[bad(1, &[1]), good(3)].concat(), 15, 1);
+        t.register_refused(&format!("{what} in the middle"), &s, &[good(1), bad(2, &[1]), good(7)].concat(), 15, 2);
+        t.register_refused(&format!("{what} in the last row"), &s, &[good(1), good(2), bad(2, &[])].concat(), 15, 3);
+        t.register_refused(&format!("{what} in every row"), &s, &[bad(1, &[]), bad(1, &[]), bad(2, &[])].concat(), 15, 1);
+        // With what comes after it in checking order, in one row.
+        t.register_refused(&format!("{what}, number 0"), &s, &bad(0, &[1]), 15, 1);
+        t.register_refused(&format!("{what}, number 0 in the last row"), &s, &[good(3), bad(0, &[1])].concat(), 15, 2);
+        t.register_refused(&format!("{what}, the number falls"), &s, &[good(9), bad(4, &[1])].concat(), 15, 2);
+        t.register_refused(&format!("{what} after the left ear of its number"), &s, &[row_of((5, LEFT), &[]), bad(5, &[1])].concat(), 15, 2);
+        t.register_refused(&format!("{what} after the right ear of its number"), &s, &[row_of((5, RIGHT), &[]), bad(5, &[1])].concat(), 15, 2);
+        t.register_refused(&format!("{what}, a bit above G"), &s, &bad(5, &[4]), 15, 1);
+        t.register_refused(&format!("{what}, bit 128"), &s, &[good(1), bad(5, &[1, 128])].concat(), 15, 2);
+        t.register_refused(&format!("{what}, number 0 and a bit above G"), &s, &bad(0, &[4]), 15, 1);
+        t.register_refused(&format!("{what}, the number falls, a bit above G"), &s, &[good(9), bad(4, &[65])].concat(), 15, 2);
+        // With what comes before it.
+        for (length, kind) in WRONG_FRAMES {
+            t.register_refused(&format!("{what}, length {length} and kind {kind}"), &s, &[good(1), reframed(&bad(5, &[1]), length, kind)].concat(), 11, 2);
+        }
+        t.register_refused(&format!("{what}, number 0, a bit above G and kind 32"), &s, &reframed(&bad(0, &[4]), 24, 32), 11, 1);
+        for keep in [1, 8, 9, 10, 25] {
+            t.register_refused(&format!("{what}, {keep} bytes"), &s, &[good(1), bad(5, &[1])[..keep].to_vec()].concat(), 11, 2);
+        }
+        // Of two rows the earlier one counts.
+        for (n, how, row) in [
+            (11, "a wrong kind", reframed(&row_of((5, LEFT), &[1]), 24, 32)),
+            (12, "number 0", row_of((0, LEFT), &[1])),
+            (13, "a bit above G", row_of((5, LEFT), &[1, 4])),
+        ] {
+            t.register_refused(&format!("{what}, then {how}"), &s, &[bad(5, &[1]), row.clone()].concat(), 15, 1);
+            t.register_refused(&format!("{how}, then {what}"), &s, &[row, bad(5, &[1])].concat(), n, 1);
+        }
+        t.register_refused(&format!("{what}, then a cut row"), &s, &[bad(5, &[1]), vec![24, 0]].concat(), 15, 1);
+        t.register_refused(&format!("{what}, then a number that falls"), &s, &[bad(5, &[1]), row_of((4, LEFT), &[1])].concat(), 15, 1);
+        t.register_refused(&format!("a number that falls, then {what}"), &s, &[good(9), good(7), bad(5, &[1])].concat(), 12, 2);
+        // A broken rule before it and after it.
+        t.register_refused(&format!("a broken rule, then {what}"), &s, &[row_of((1, LEFT), &[2]), bad(5, &[2]), row_of((6, LEFT), &[3])].concat(), 15, 2);
+        // A sheet that is turned back, and one that nothing fits.
+        t.register_refused(&format!("7 and {what}"), &[s.clone(), vec![0]].concat(), &bad(5, &[1]), 7, 11);
+        t.register_refused(&format!("6 and {what}"), &with(6, name(2, "A")), &bad(5, &[1]), 6, 6);
+        t.register_refused(&format!("an impossible sheet and {what}"), &groups(&[(0, 3, 2, 0)]), &bad(5, &[1]), 15, 1);
+    }
+    t.every("side", &s, |side| row_of((5, side), &[1]), &[LEFT, RIGHT], 15);
+    // The number and the membership are not looked at.
+    for number in [1, 2, 256, 257, 258, 512, 65536, 65537, 131072, NONE] {
+        t.register_refused(&format!("side 0 of {number}"), &s, &row_of((number, 0), &[1, 2]), 15, 1);
+        for side in [LEFT, RIGHT] {
+            t.register(&format!("side {side} of {number}"), &s, &row_of((number, side), &[1, 2]), 0, 0);
+        }
+    }
+    // At the rows around 64 and at the last, after rows that break rules.
+    let broken = family(2);
+    for at in [1, 2, 63, 64, 65, 127, 128, 2047, 2048, 2049] {
+        let before = rows_but(at - 1, |k| fitting(2, k), &[(1, vec![1, 2]), (at / 2, vec![3, 4]), (at - 1, vec![1, 5])]);
+        let joined: Bytes = (1..at).flat_map(|_| row(1, &[1, 2])).collect();
+        for side in [0, 3, 256, 257, 258, 514, 65535] {
+            for (start, how) in [(&before, "rows that break rules"), (&joined, "rows of one ear")] {
+                let n = if at == 2049 { 10 } else { 15 };
+                let reg = [start.clone(), row_of((5000, side), &[1])].concat();
+                t.register_refused(&format!("side {side} at row {at} after {how}"), &broken, &reg, n, at as u64);
+                t.register_refused(&format!("side {side} at row {at} after {how}, others follow"), &broken, &[reg, row_of((5000, LEFT), &[1])].concat(), n, at as u64);
+            }
+        }
+        if at < 2049 {
+            for side in [LEFT, RIGHT] {
+                let (group, rule) = if at == 1 { (0, 0) } else { (2, 3) };
+                t.checked(&format!("side {side} at row {at} after rows of one ear"), &broken, &[joined.clone(), row_of((5000, side), &[1])].concat(), group, rule);
+            }
+        }
+    }
+}
+
+// 11: rows as they were before sides, and rows of other lengths, alone and among others.
+fn old_rows(t: &mut Table) {
+    let s = base().concat();
+    let body = |number: u32, side: &[u8], groups: &[usize]| [&number.to_le_bytes(), side, &membership(groups)].concat();
+    let old = |number: u32| record(32, &body(number, &[], &[1]));
+    assert_eq!(old(1).len(), 24);
+    t.register_refused("an old row", &s, &old(1), 11, 1);
+    t.register_refused("two old rows", &s, &[old(1), old(2)].concat(), 11, 1);
+    t.register_refused("thirteen old rows, as long as twelve", &s, &(1..=13).flat_map(old).collect::<Bytes>(), 11, 1);
+    t.register_refused("2,048 old rows", &s, &(1..=2048).flat_map(old).collect::<Bytes>(), 11, 1);
+    t.register_refused("an old row of number 0", &s, &old(0), 11, 1);
+    t.register_refused("an old row after another", &s, &[row(1, &[1]), old(2)].concat(), 11, 2);
+    t.register_refused("an old row before another", &s, &[old(1), row(3, &[1])].concat(), 11, 1);
+    t.register_refused("an old row between others", &s, &[row(1, &[1]), old(2), row(7, &[1])].concat(), 11, 2);
+    t.register_refused("an old row at row 2,048", &s, &[rows(2047, |_| vec![]), old(5000)].concat(), 11, 2048);
+    t.register_refused("an old row after 2,048", &s, &[rows(2048, |_| vec![]), old(5000)].concat(), 10, 2049);
+    let left = LEFT.to_le_bytes();
+    for (what, b) in [
+        ("kind 33 without a side", record(33, &body(5, &[], &[1]))),
+        ("kind 32 with a side", record(32, &body(5, &left, &[1]))),
+        ("kind 34 with a side", record(34, &body(5, &left, &[1]))),
+        ("kind 34 with 32 bytes of membership", record(34, &[body(5, &left, &[1]), vec![0; 16]].concat())),
+        ("kind 33 with 32 bytes of membership", record(33, &[body(5, &left, &[1]), vec![0; 16]].concat())),
+        ("kind 33 with a side of one byte", record(33, &body(5, &left[..1], &[1]))),
+        ("kind 33 with a byte more", record(33, &[body(5, &left, &[1]), vec![0]].concat())),
+        ("kind 33 without membership", record(33, &[5, 0, 0, 0, 1, 0])),
+        ("the frame alone, of length 2", record(33, &[])),
+        ("a group's record", group(1, 0, 9, 0)),
+    ] {
+        t.register_refused(&format!("{what}, the only row"), &s, &b, 11, 1);
+        t.register_refused(&format!("{what}, the first row"), &s, &[b.clone(), row(21, &[1])].concat(), 11, 1);
+        t.register_refused(&format!("{what}, the last row"), &s, &[row(1, &[1]), row(2, &[1]), b.clone()].concat(), 11, 3);
+        t.register_refused(&format!("{what}, then side 0"), &s, &[b, row_of((9, 0), &[1])].concat(), 11, 1);
     }
 }
 
@@ -1829,7 +2272,7 @@ fn places(t: &mut Table) {
     );
     // Names 2 and 5 both mean group 2.
     t.verdicts(
-        "places with repeated names, and a group on both sides",
+        "places with repeated names, and a group in both lists",
         &sheet(
             &[(0, 0, 4, 2), (1, 0, 4, 0), (1, 0, 4, 0)],
             &[1, 2, 3, 0, 2],
@@ -1857,27 +2300,27 @@ fn places(t: &mut Table) {
     let (low, high): (Vec<u16>, Vec<u16>) = ((2..=9).collect(), (10..=17).collect());
     let any = (0, NO_END);
     t.verdicts(
-        "8 names a side",
+        "8 names a list",
         &eight((0, 0, NO_END, 0), any, any, &[place(&low, &high), place(&high, &low), place(&low, &[10, 11, 12, 13, 14, 15, 16, 9])]),
         &[Holds, Holds, Denied],
     );
     t.verdicts(
-        "8 names a side, disjoint sons",
+        "8 names a list, disjoint sons",
         &eight((0, 0, NO_END, 1), any, any, &[place(&[2; 8], &high), place(&low, &high), place(&[1, 1, 1, 1, 1, 1, 1, 9], &high)]),
         &[Holds, Denied, Holds],
     );
     t.verdicts(
-        "8 names a side, the last left set empty",
+        "8 names a list, the last left set empty",
         &eight((0, 0, NO_END, 0), (0, 0), any, &[place(&low, &high), place(&[2, 3, 4, 5, 6, 7, 8, 8], &high)]),
         &[Denied, Holds],
     );
     t.verdicts(
-        "8 names a side, the last right set the root's",
+        "8 names a list, the last right set the root's",
         &eight((0, 3, 3, 0), any, (3, 3), &[place(&low, &high), place(&low, &[10, 11, 12, 13, 14, 15, 16, 16])]),
         &[Denied, Holds],
     );
     t.verdicts(
-        "8 names a side, the last right set one short of the root's",
+        "8 names a list, the last right set one short of the root's",
         &eight((0, 3, 3, 0), any, (2, 2), &[place(&low, &high), place(&[17; 8], &low)]),
         &[Holds, Holds],
     );

@@ -58,7 +58,7 @@ abbrev pub AskableLists : List ℕ → Lists → List ℕ → ℕ → Type 0
 AskableLists sheet l names size = AskableBy (λ n. ListsHeld sheet n l) names size
 
 -- n name numbers stand at the place of the sheet
-pub record Side (sheet : List ℕ) (from n : ℕ) (names : List ℕ) : Type 0 where
+pub record NamesAt (sheet : List ℕ) (from n : ℕ) (names : List ℕ) : Type 0 where
   pub long : from + 2 * n ≤ length sheet
   pub name : (j : ℕ) → j < n → (1 ≤ u16At sheet (from + 2 * j)) × (u16At sheet (from + 2 * j) ≤ length names)
 
@@ -115,15 +115,15 @@ module _ {sheet : List ℕ} {l : Lists} {names : List ℕ} {size : ℕ} (w : Ask
   pub right-named : (x : ℕ) → List·Memᴰ x (rightNames sheet l) → (1 ≤ x) × (x ≤ w .count)
   right-named = fields-all (λ x. (1 ≤ x) × (x ≤ w .count)) sheet (l .at + 2 * l .m) (l .n) (w .held .right)
 
-  side : (from n : ℕ) → from + 2 * n ≤ length sheet
-      → ((j : ℕ) → j < n → (1 ≤ u16At sheet (from + 2 * j)) × (u16At sheet (from + 2 * j) ≤ w .count)) → Side sheet from n names
-  side from n a h = record { long = a; name = λ j i. let x = h j i in (x .0, omega (arith, x .1, w .long)) }
+  names-at : (from n : ℕ) → from + 2 * n ≤ length sheet
+      → ((j : ℕ) → j < n → (1 ≤ u16At sheet (from + 2 * j)) × (u16At sheet (from + 2 * j) ≤ w .count)) → NamesAt sheet from n names
+  names-at from n a h = record { long = a; name = λ j i. let x = h j i in (x .0, omega (arith, x .1, w .long)) }
 
-  pub left-side : Side sheet (l .at) (l .m) names
-  left-side = side (l .at) (l .m) (omega (arith, w .held .long)) (w .held .left)
+  pub left-list : NamesAt sheet (l .at) (l .m) names
+  left-list = names-at (l .at) (l .m) (omega (arith, w .held .long)) (w .held .left)
 
-  pub right-side : Side sheet (l .at + 2 * l .m) (l .n) names
-  right-side = side (l .at + 2 * l .m) (l .n) (omega (arith, w .held .long)) (w .held .right)
+  pub right-list : NamesAt sheet (l .at + 2 * l .m) (l .n) names
+  right-list = names-at (l .at + 2 * l .m) (l .n) (omega (arith, w .held .long)) (w .held .right)
 
   -- what they speak of, and that name records which agree with the table mean the same
   pub lists-speak : AllUpTo size (meanings names (leftNames sheet l)) × AllUpTo size (meanings names (rightNames sheet l))

@@ -11,7 +11,7 @@ ghost use Rattle.wire.specs.Bytes.{u16At};
 ghost use Rattle.wire.specs.SheetFormat.{u16s};
 ghost use Rattle.reading.specs.Meant.{meantNumber, Numbered};
 ghost use Rattle.claims.specs.Groups.{groupsAmong};
-ghost use Rattle.claims.specs.Named.{meanings, Side};
+ghost use Rattle.claims.specs.Named.{meanings, NamesAt};
 
 // the name whose number stands at a place of the sheet
 fn name_at(sheet: &[u8], at: usize) -> NameNo
@@ -38,7 +38,7 @@ fn add_meant(list: &mut [u16], k: usize, m: Meant) -> usize
 
 // The groups that the n names at a place of the sheet mean, as a list. How many they are.
 pub fn groups_meant(sheet: &[u8], from: usize, n: u16, names: &[u16], list: &mut [u16]) -> usize
-    requires { ⌜ Side (now sheet) from n (now names) × (n ≤ length (now list)) ⌝ }
+    requires { ⌜ NamesAt (now sheet) from n (now names) × (n ≤ length (now list)) ⌝ }
     ensures { λ r. ⌜ r ≤ n ⌝ }
     ensures { λ r. ⌜ take r (now (list .exit)) ≡ groupsAmong (meanings (now (names .entry)) (u16s (now (sheet .entry)) from n)) ⌝ }
     ensures { λ r. ⌜ r ≡ length (groupsAmong (meanings (now (names .entry)) (u16s (now (sheet .entry)) from n))) ⌝ }

@@ -1,5 +1,5 @@
--- The worked sheets that are shown by proof, those of document 01 and some for document 02, cards 1 and 3, and two worked registers
--- for card 2, in one list: `worked`. They speak of the meaning alone.
+-- The worked sheets that are shown by proof, those of document 01 and some for document 02, cards 1 and 3, and worked registers for
+-- cards 2 and 4, in one list: `worked`. They speak of the meaning alone.
 use Prim.Native.Nat.{ℕ, zero, suc, _+_, _-_, _≤_, _<_, zero-le}
 use mathlib.Core.Path.{_≡_, refl, sym, ap, _∙_, subst}
 use mathlib.Core.Bool.{Bool, true, false, cond, _&&_, _||_, false≢true}
@@ -7,7 +7,8 @@ use mathlib.Core.List.{List, [], _∷_}
 use mathlib.Core.Logic.{_↔_}
 use native.Mathlib.Omega.{arith}
 use lib.Dec.{leb, ltb, eqb}
-use Rattle.wire.specs.Member.{Member, memberKey}
+use Rattle.wire.specs.Member.{Side, left, right, sideNumber, oneMember}
+use Rattle.wire.specs.Ears.{ear}
 use Rattle.wire.specs.RegisterFormat.{Row, inGroup}
 use Rattle.wire.specs.SheetFormat.{GroupRecord, NameRecord, count, lists, inside, apart, place}
 use Rattle.laws.specs.Sum.{sum, bit}
@@ -90,29 +91,36 @@ Denied s (somePlace l r) = Possible s × (Fillable s l r → ⊥)
 abbrev together : List ℕ → Question
 together l = claimed names (lists place l (5 ∷ []))
 
--- a row that names a member, with its first membership byte
-abbrev named : ℕ → Member
-named n = record { number = n }
+-- a row that names an ear, with its first membership byte
+abbrev row : ℕ → Side → ℕ → Row
+row n s b = record { member = ear n s; bits = b ∷ [] }
 
-abbrev row : ℕ → ℕ → Row
-row n b = record { member = named n; bits = b ∷ [] }
-
--- Surgery and rehabilitation each have a row for member 7, in the root and one of its sons; member 9 has one row, in the root.
+-- Surgery and rehabilitation each have a row for the left ear of recipient 7, in the root and one of its sons; the left ear of
+-- recipient 9 has one row, in the root.
 abbrev pub visits : List Row
-visits = row 7 3 ∷ row 7 5 ∷ row 9 1 ∷ []
+visits = row 7 left 3 ∷ row 7 left 5 ∷ row 9 left 1 ∷ []
+
+-- Two such rows, for the left and the right ear of recipient 7.
+abbrev pub ears : List Row
+ears = row 7 left 3 ∷ row 7 right 5 ∷ []
 
 -- Disjoint root, two sons.
 abbrev pub wards : Sheet
 wards = sheetOf (group 0 0 65535 1 ∷ group 1 0 65535 0 ∷ group 1 0 65535 0 ∷ [])
 
--- One row for the son, one for the root; and a root and its son with one member each.
-abbrev pub spread : List Row
-spread = row 7 2 ∷ row 7 1 ∷ []
-
+-- A root and its son, with one member each.
 abbrev pub alike : Sheet
 alike = sheetOf (group 0 1 1 0 ∷ group 1 1 1 0 ∷ [])
 
--- the worked sheets: each as document 01 has it, `trio` for document 02, card 1, and `family` for card 3
+-- One row for the son and one for the root, of one ear; and of two ears of one recipient.
+abbrev pub spread : List Row
+spread = row 7 left 2 ∷ row 7 left 1 ∷ []
+
+abbrev pub astray : List Row
+astray = row 7 left 1 ∷ row 7 right 2 ∷ []
+
+-- the worked sheets: each as document 01 has it, `trio` for document 02, card 1, and `family` for card 3; the worked registers are
+-- for cards 2 (`visits`, `spread`) and 4 (`ears`, `astray`)
 pub record Worked : Type 0 where
   pub pair-three : Possible (pair 3) → ⊥
   pub pair-four : Possible (pair 4)
@@ -135,11 +143,17 @@ pub record Worked : Type 0 where
   -- exactly the sons, in number order, also where another group's number lies between
   pub family-sons : (sonList family 1 ≡ 2 ∷ 3 ∷ 5 ∷ []) × (sonList family 2 ≡ 4 ∷ []) × (sonList family 3 ≡ [])
   -- two rows of one member: two members in all, a group in both rows counts one, and the sons share the member
-  pub visits-members : members visits ≡ named 7 ∷ named 9 ∷ []
+  pub visits-members : members visits ≡ ear 7 left ∷ ear 9 left ∷ []
   pub visits-counts : (sets.count (listedSets visits) 1 ≡ 2) × (sets.count (listedSets visits) 2 ≡ 1) × (sets.count (listedSets visits) 3 ≡ 1)
   pub visits-shared : Broken wards (listedSets visits) 1 rule.shared
   -- the son's bit in one row, its parent's in the other: nothing is broken
   pub spread-fits : Fits alike (listedSets spread)
+  -- two ears of one recipient: two members, both in the root, each in a son of its own, which share nobody
+  pub ears-members : members ears ≡ ear 7 left ∷ ear 7 right ∷ []
+  pub ears-counts : (sets.count (listedSets ears) 1 ≡ 2) × (sets.count (listedSets ears) 2 ≡ 1) × (sets.count (listedSets ears) 3 ≡ 1)
+  pub ears-fit : Fits wards (listedSets ears)
+  -- one ear in the root does not stand for the other
+  pub astray-outside : Broken alike (listedSets astray) 2 rule.outside
 
 -- P of each of the n numbers from k on
 abbrev From : (ℕ → Type 0) → ℕ → ℕ → Type 0
@@ -391,7 +405,7 @@ alone b e = or-true b false e (λ x. x) (λ x. absurd (false≢true x))
 
 -- the one member of `spread` is in both groups
 spread-alike : Fits alike (listedSets spread)
-unfolding endOf digit members listed inGroup memberKey sum sets.count
+unfolding endOf digit members listed inGroup sideNumber oneMember sum sets.count
 spread-alike = record {
   distinct = record { once = λ i j k l e. omega arith };
   rules = λ i l. let first : i ≡ 0 = omega arith in rw first meets;
@@ -416,8 +430,46 @@ spread-alike = record {
       apart = λ p g h k o e x y. only-son p g k ∙ sym (only-son p h o);
     }
 
+-- of who is in the root, and not in both sons, `wards` asks no more
+meets-wards : (M : ℕ → Bool) → M 1 ≡ true → (M 2 ≡ true → M 3 ≡ true → ⊥) → Meets wards M
+unfolding digit
+meets-wards M root two = record {
+  inside = each-son (λ p g. M g ≡ true → M p ≡ true) wards refl ((λ e. root), ((λ e. root), tt));
+  equal = each-son (λ p g. wards .same p ≡ true → M p ≡ true → M g ≡ true) wards refl
+      ((λ e m. absurd (false≢true e)), ((λ e m. absurd (false≢true e)), tt));
+  covered = λ p k e m. absurd (no-cover p k e);
+  apart = λ p g h k o e x y. alone-in p g k h o x y;
+}
+  where
+    no-cover : (p : ℕ) → Group wards p → wards .cover p ≡ true → ⊥
+    no-cover = each (λ p. wards .cover p ≡ true → ⊥) wards (false≢true, (false≢true, (false≢true, tt)))
+
+    alone-in : (p g : ℕ) → Son wards p g → (h : ℕ) → Son wards p h → M g ≡ true → M h ≡ true → g ≡ h
+    alone-in = each-son (λ p g. (h : ℕ) → Son wards p h → M g ≡ true → M h ≡ true → g ≡ h) wards refl (
+      (λ h o x y. each-son (λ p h. M h ≡ true → 2 ≡ h) wards refl ((λ z. refl), ((λ z. absurd (two x z)), tt)) 1 h o y),
+      ((λ h o x y. each-son (λ p h. M h ≡ true → 3 ≡ h) wards refl ((λ z. absurd (two z x)), ((λ z. refl), tt)) 1 h o y), tt),
+    )
+
+-- each ear is a member by itself
+ears-apart : Fits wards (listedSets ears)
+unfolding endOf digit members listed inGroup sideNumber oneMember sum sets.count
+ears-apart = record {
+  distinct = record {
+    once = λ i j k l e.
+        compare-eq i j (λ z. z)
+        (λ z. absurd (compare-eq i 0
+        (λ x. let y : j ≡ 1 = omega arith in omega (arith, ap (λ m. sideNumber (m .side)) (rw (x, y) at e)))
+        (λ x. let w : i ≡ 1 = omega arith in let y : j ≡ 0 = omega arith in omega (arith, ap (λ m. sideNumber (m .side)) (rw (w, y) at e)))));
+  };
+  rules = λ i l. compare-eq i 0
+      (λ e. rw e (meets-wards (groupsOf (listedSets ears) 0) refl (λ x y. false≢true y)))
+      (λ e. let f : i ≡ 1 = omega arith in rw f (meets-wards (groupsOf (listedSets ears) 1) refl (λ x y. false≢true x)));
+  least = each (λ g. wards .lo g ≤ sets.count (listedSets ears) g) wards (omega arith, (omega arith, (omega arith, tt)));
+  most = each (λ g. AtMost (sets.count (listedSets ears) g) (wards .hi g)) wards (tt, (tt, (tt, tt)));
+}
+
 pub worked : Worked
-unfolding claimed overlap everybody endOf digit sons isSon passing members listed inGroup memberKey sum sets.count
+unfolding claimed overlap everybody endOf digit sons isSon passing members listed inGroup sideNumber oneMember sum sets.count
 worked = record {
   pair-three = no-pair;
   pair-four = (overlap 3 4 2 2, fits-by (omega arith));
@@ -464,4 +516,8 @@ worked = record {
   visits-counts = (refl, refl, refl);
   visits-shared = (2, 3, 0, refl, omega arith, omega arith, omega arith, omega arith, refl, refl);
   spread-fits = spread-alike;
+  ears-members = refl;
+  ears-counts = (refl, refl, refl);
+  ears-fit = ears-apart;
+  astray-outside = (1, 1, omega arith, omega arith, refl, refl);
 }

@@ -1,5 +1,5 @@
 -- What records mean: the sheet of its group records, the question of a claim record, the sets that a register lists.
--- Document 01, "Records of a sheet", "Meaning" and "Registers"; document 02, cards 1 and 2.
+-- Document 01, "Records of a sheet", "Meaning" and "Registers"; document 02, cards 1, 2 and 4.
 use Prim.Native.Nat.{ℕ, _-_}
 use mathlib.Core.Bool.{Bool, false, cond, _&&_, _||_}
 use mathlib.Core.List.{List, [], _∷_, map}
@@ -44,7 +44,7 @@ claimed ns (lists k l r) = listsAsk k (map (nameGroup ns) l) (map (nameGroup ns)
 abbrev pub claimAt : Records → ℕ → Question
 claimAt d k = claimed (d .names) (getD (d .claims) (k - 1) (count 0 0 0))
 
--- "Equal member numbers in neighbouring rows are now one member": so a row is passed over where the next one names its member
+-- "equal pairs join", in neighbouring rows: a row is passed over where the next one names its member
 unfoldable pub members : List Row → List Member
 members [] = []
 members (r ∷ []) = r .member ∷ []

@@ -13,18 +13,21 @@ use Rattle.laws.specs.Sum.{bit}
 use Rattle.laws.specs.Cases.{split, compare-le, compare-eq}
 use Rattle.wire.specs.Edition.{Edition}
 use Rattle.wire.specs.Record.{read}
-use Rattle.wire.specs.Member.{Member, memberKey, oneMember, noMember}
-use Rattle.wire.specs.RegisterFormat.{Row, inGroup, lastKey, readRegister}
+use Rattle.wire.specs.Member.{Member, precedes, oneMember, noMember}
+use Rattle.wire.specs.MemberKey.{memberKey, one-true, one-false, one-same, precedes-true, rises-or-one}
+use Rattle.wire.specs.RegisterFormat.{Row, inGroup, lastMember, readRegister}
 use Rattle.wire.specs.Encoding.{Each, none, more, RowRight}
-use Rattle.wire.specs.MemberFacts.{key-once}
-use Rattle.wire.specs.RowFacts.{last-key-behind}
+use Rattle.wire.specs.RowFacts.{last-member-behind}
 use Rattle.wire.specs.RoundTripRegister.{register-read}
 use Rattle.meaning.specs.Sets.{Distinct}
 use Rattle.meaning.specs.OfRecords.{members, listed, listedSets}
 
--- the key of member i
+-- the key of member i, and of the last row's
 abbrev keyAt : List Row → ℕ → ℕ
 keyAt rs i = memberKey (getD (members rs) i noMember)
+
+abbrev lastKey : List Row → ℕ
+lastKey rs = memberKey (lastMember rs)
 
 -- there are no more members than rows
 pub members-few : (rs : List Row) → length (members rs) ≤ length rs
@@ -36,13 +39,13 @@ members-few (r ∷ (q ∷ rs)) =
 
 -- of rows that do not fall the members rise; the last one is the last row's, and who is above it has no row
 pub record Ordered (rs : List Row) : Type 0 where
-  pub some : 1 ≤ lastKey rs → 1 ≤ length (members rs)
+  pub some : 0 < lastMember rs .number → 1 ≤ length (members rs)
   pub rise : (i j : ℕ) → i < j → j < length (members rs) → keyAt rs i < keyAt rs j
   pub last : 1 ≤ length (members rs) → keyAt rs (length (members rs) - 1) ≡ lastKey rs
   pub above : (g : ℕ) (x : Member) → lastKey rs < memberKey x → listed rs g x ≡ false
 
 pub ordered-none : Ordered []
-unfolding members listed lastKey
+unfolding members listed lastMember
 ordered-none =
     record {
       some = λ l. absurd (omega arith);
@@ -74,17 +77,16 @@ listed-behind (q ∷ rs) r g x =
     either false b c n e = e
 
 -- it goes on with the last member, or names one more
-pub members-joined : (rs : List Row) (r : Row) → lastKey rs ≡ memberKey (r .member) → 1 ≤ lastKey rs → members (rs ++ (r ∷ [])) ≡ members rs
-unfolding members lastKey
-members-joined [] r e l = absurd (omega arith)
-members-joined (q ∷ []) r e l =
-    rw (eq-eqb (memberKey (q .member)) (memberKey (r .member)) e) (ap (λ m. m ∷ []) (key-once (r .member) (q .member) (omega arith) (sym e)))
+pub members-joined : (rs : List Row) (r : Row) → lastMember rs ≡ r .member → 0 < r .member .number → members (rs ++ (r ∷ [])) ≡ members rs
+unfolding members lastMember
+members-joined [] r e l = absurd (omega (arith, ap (λ m. m .number) e))
+members-joined (q ∷ []) r e l = rw (one-true (q .member) (r .member) (ap memberKey e)) (ap (λ m. m ∷ []) (sym e))
 members-joined (q ∷ (p ∷ rs)) r e l = rw (members-joined (p ∷ rs) r e l)
 
-pub members-new : (rs : List Row) (r : Row) → lastKey rs < memberKey (r .member) → members (rs ++ (r ∷ [])) ≡ members rs ++ (r .member ∷ [])
-unfolding members lastKey
+pub members-new : (rs : List Row) (r : Row) → precedes (lastMember rs) (r .member) ≡ true → members (rs ++ (r ∷ [])) ≡ members rs ++ (r .member ∷ [])
+unfolding members lastMember
 members-new [] r l = refl
-members-new (q ∷ []) r l = rw (ne-eqb (memberKey (q .member)) (memberKey (r .member)) (λ e. omega arith))
+members-new (q ∷ []) r l = rw (one-false (q .member) (r .member) (λ e. omega (arith, precedes-true (q .member) (r .member) l)))
 members-new (q ∷ (p ∷ rs)) r l =
     rw (members-new (p ∷ rs) r l) (split (oneMember (q .member) (p .member)) (λ e. rw e) (λ e. rw e))
 
@@ -98,21 +100,24 @@ module _ (rs : List Row) (r : Row) (o : Ordered rs) where
   none-above : (g : ℕ) (x : Member) → lastKey rs < memberKey x → memberKey (r .member) < memberKey x
       → listed (rs ++ (r ∷ [])) g x ≡ false
   none-above g x l h =
-      let y = rw (o .above g x l, ne-eqb (memberKey (r .member)) (memberKey x) (λ z. omega arith)) at (listed-behind rs r g x) in
+      let y = rw (o .above g x l, one-false (r .member) x (λ z. omega arith)) at (listed-behind rs r g x) in
       zero-bit (listed (rs ++ (r ∷ [])) g x) (omega arith)
 
   -- the row goes on with the last member
-  module _ (e : lastKey rs ≡ memberKey (r .member)) (l : 1 ≤ lastKey rs) where
+  module _ (e : lastMember rs ≡ r .member) (l : 0 < r .member .number) where
+    some-before : 1 ≤ length (members rs)
+    some-before = o .some (rw e l)
+
     same : members (rs ++ (r ∷ [])) ≡ members rs
     same = members-joined rs r e l
 
     joined-ordered : Ordered (rs ++ (r ∷ []))
     joined-ordered =
         record {
-          some = λ h. rw same (o .some l);
+          some = λ h. rw same some-before;
           rise = rw same (o .rise);
-          last = λ h. rw (same, last-key-behind rs r) (o .last (o .some l) ∙ e);
-          above = λ g x h. let k = rw (last-key-behind rs r) at h in none-above g x (omega arith) k;
+          last = λ h. rw (same, last-member-behind rs r) (o .last some-before ∙ ap memberKey e);
+          above = λ g x h. let k = rw (last-member-behind rs r) at h in none-above g x (omega (arith, ap memberKey e)) k;
         }
 
     pub joined-in : (i g : ℕ)
@@ -120,22 +125,26 @@ module _ (rs : List Row) (r : Row) (o : Ordered rs) where
     joined-in i g =
         rw same
         (compare-le (length (members rs)) i
-        (λ h. rw (le-ltb i (length (members rs)) h, ne-eqb i (length (members rs) - 1) (λ z. omega (arith, o .some l))) (omega arith))
+        (λ h. rw (le-ltb i (length (members rs)) h, ne-eqb i (length (members rs) - 1) (λ z. omega (arith, some-before))) (omega arith))
         (λ h. rw (lt-ltb i (length (members rs)) h) (listed-behind rs r g (getD (members rs) i noMember) ∙ (rw (named i h)))))
       where
         named : (i : ℕ) → i < length (members rs) → oneMember (r .member) (getD (members rs) i noMember) ≡ eqb i (length (members rs) - 1)
         named i h =
-            let z = o .last (o .some l) in
+            let z = o .last some-before in
             compare-eq i (length (members rs) - 1)
             (λ x. let y = rw (← x) at z in
-            rw (eq-eqb i (length (members rs) - 1) x) (eq-eqb (memberKey (r .member)) (keyAt rs i) (omega arith)))
+            rw (eq-eqb i (length (members rs) - 1) x) (one-true (r .member) (getD (members rs) i noMember) (omega (arith, ap memberKey e))))
             (λ x. rw (ne-eqb i (length (members rs) - 1) x)
-            (ne-eqb (memberKey (r .member)) (keyAt rs i) (λ y. omega (arith, o .rise i (length (members rs) - 1) (omega arith) (omega arith)))))
+            (one-false (r .member) (getD (members rs) i noMember)
+            (λ y. omega (arith, ap memberKey e, o .rise i (length (members rs) - 1) (omega arith) (omega arith)))))
 
   -- the row names one member more
-  module _ (l : lastKey rs < memberKey (r .member)) where
+  module _ (f : precedes (lastMember rs) (r .member) ≡ true) where
+    last-below : lastKey rs < memberKey (r .member)
+    last-below = precedes-true (lastMember rs) (r .member) f
+
     one-more : members (rs ++ (r ∷ [])) ≡ members rs ++ (r .member ∷ [])
-    one-more = members-new rs r l
+    one-more = members-new rs r f
 
     count-new : length (members rs ++ (r .member ∷ [])) ≡ length (members rs) + 1
     count-new = length-append (members rs) (r .member ∷ [])
@@ -147,12 +156,12 @@ module _ (rs : List Row) (r : Row) (o : Ordered rs) where
     at-end = getD-at (members rs) (r .member) [] noMember (length (members rs)) refl
 
     -- members before are below
-    below : (i : ℕ) → i < length (members rs) → keyAt rs i < memberKey (r .member)
-    below i h =
+    below-new : (i : ℕ) → i < length (members rs) → keyAt rs i < memberKey (r .member)
+    below-new i h =
         let z = o .last (omega arith) in
         compare-eq i (length (members rs) - 1)
-        (λ x. let y = rw (← x) at z in omega arith)
-        (λ x. omega (arith, o .rise i (length (members rs) - 1) (omega arith) (omega arith)))
+        (λ x. let y = rw (← x) at z in omega (arith, last-below))
+        (λ x. omega (arith, last-below, o .rise i (length (members rs) - 1) (omega arith) (omega arith)))
 
     new-ordered : Ordered (rs ++ (r ∷ []))
     new-ordered =
@@ -161,12 +170,12 @@ module _ (rs : List Row) (r : Row) (o : Ordered rs) where
           rise = rw one-more (λ i j h m.
               let n = rw count-new at m in
               compare-eq j (length (members rs))
-              (λ x. rw (x, at-end, before i (omega arith)) (below i (omega arith)))
+              (λ x. rw (x, at-end, before i (omega arith)) (below-new i (omega arith)))
               (λ x. rw (before i (omega arith), before j (omega arith)) (o .rise i j h (omega arith))));
           last = λ h.
               let n : length (members rs) + 1 - 1 ≡ length (members rs) = omega arith in
-              rw (one-more, count-new, n, at-end, last-key-behind rs r);
-          above = λ g x h. let k = rw (last-key-behind rs r) at h in none-above g x (omega arith) k;
+              rw (one-more, count-new, n, at-end, last-member-behind rs r);
+          above = λ g x h. let k = rw (last-member-behind rs r) at h in none-above g x (omega (arith, last-below)) k;
         }
 
     pub new-in : (i g : ℕ)
@@ -175,7 +184,7 @@ module _ (rs : List Row) (r : Row) (o : Ordered rs) where
         rw (one-more, count-new)
         (compare-eq i (length (members rs))
         (λ x. let d = listed-behind rs r g (r .member) in
-        let y = rw (o .above g (r .member) l, eq-eqb (memberKey (r .member)) (memberKey (r .member)) refl) at d in
+        let y = rw (o .above g (r .member) last-below, one-true (r .member) (r .member) refl) at d in
         rw (
           x,
           lt-ltb (length (members rs)) (length (members rs) + 1) (omega arith),
@@ -186,16 +195,16 @@ module _ (rs : List Row) (r : Row) (o : Ordered rs) where
         (λ x. compare-le (length (members rs)) i
         (λ h. rw (le-ltb i (length (members rs) + 1) (omega arith), le-ltb i (length (members rs)) h, ne-eqb i (length (members rs)) x) (omega arith))
         (λ h. let d = listed-behind rs r g (getD (members rs) i noMember) in
-        let y = rw (ne-eqb (memberKey (r .member)) (keyAt rs i) (λ z. omega (arith, below i h))) at d in
+        let y = rw (one-false (r .member) (getD (members rs) i noMember) (λ z. omega (arith, below-new i h))) at d in
         rw (lt-ltb i (length (members rs) + 1) (omega arith), lt-ltb i (length (members rs)) h, ne-eqb i (length (members rs)) x, before i h) y)))
 
 -- a row more that does not fall
-pub ordered-after : (rs : List Row) (r : Row) → Ordered rs → 1 ≤ memberKey (r .member) → lastKey rs ≤ memberKey (r .member)
+pub ordered-after : (rs : List Row) (r : Row) → Ordered rs → 0 < r .member .number → precedes (r .member) (lastMember rs) ≡ false
     → Ordered (rs ++ (r ∷ []))
 ordered-after rs r o l f =
-    compare-eq (lastKey rs) (memberKey (r .member))
-    (λ z. joined-ordered rs r o z (omega arith))
-    (λ z. new-ordered rs r o (omega arith))
+    split (oneMember (r .member) (lastMember rs))
+    (λ z. joined-ordered rs r o (sym (one-same (r .member) (lastMember rs) z)) l)
+    (λ z. new-ordered rs r o (rises-or-one (lastMember rs) (r .member) f z))
 
 -- the rows of a readable register do not fall
 ordered-each : {e : Edition} {groups : ℕ} {rs qs : List Row} → Ordered rs → Each (RowRight e groups) rs qs → Ordered (rs ++ qs)

@@ -119,9 +119,9 @@ pub claim-past : (names : ℕ) {s : List ℕ} {at len : ℕ} → Led s at 4 last
 unfolding refusal claimTests claimBody
 claim-past names w = simp (w .frame, le-leb _ _ (w .least), le-leb _ _ (w .most))
 
-pub sides-end : (m n len : ℕ) → (leb 1 m && leb m 8 && leb 1 n && leb n 8 && eqb (6 + 2 * (m + n)) len) ≡ true →
+pub lists-end : (m n len : ℕ) → (leb 1 m && leb m 8 && leb 1 n && leb n 8 && eqb (6 + 2 * (m + n)) len) ≡ true →
     6 + 2 * (m + n) ≡ len
-sides-end m n len e =
+lists-end m n len e =
     eqb-true (6 + 2 * (m + n)) len (and-true (leb 1 m && leb m 8 && leb 1 n && leb n 8) (eqb (6 + 2 * (m + n)) len) e .1)
 
 -- what a record that passed its tests shows

@@ -14,7 +14,7 @@ use Rattle.wire.specs.SheetFormat.{listNumber, u16s, allWithin, leftOf, rightOf
 use Rattle.laws.specs.Cases.{and-true}
 use Rattle.wire.specs.Passing.{Pass, passed}
 use Rattle.wire.specs.Facts.{within-at}
-use Rattle.wire.specs.Sorts.{SidesFrame, list-within, claim-nonzero, claim-frame, claim-cases, claim-count, claim-lists}
+use Rattle.wire.specs.Sorts.{ListsFrame, list-within, claim-nonzero, claim-frame, claim-cases, claim-count, claim-lists}
 use Rattle.reading.specs.ClaimHeld.{listAs, ListsHeld}
 use Rattle.reading.specs.Answers.{recordAs, ClaimTaken, ClaimAnswer}
 use Rattle.reading.specs.declared.claim.ListKind.{ListKind}
@@ -70,9 +70,9 @@ module _ (s : List ℕ) (at : ℕ) (k : ListKind) (m n : ℕ) (a : m ≡ u16At s
   unfolding rightOf
   right-at = rw (read-at s at 4 m a, read-at s at 6 n b, fields-at s at (8 + 2 * m) n, add-assoc at 8 (2 * m))
 
-  sides-held : (names : ℕ) → Pass (claimTests names [] (drop at s)) → SidesFrame names (drop at s) →
+  list-pair-held : (names : ℕ) → Pass (claimTests names [] (drop at s)) → ListsFrame names (drop at s) →
       ListsHeld s names (record { kind = k; m = m; n = n; at = at + 8 })
-  sides-held names p f =
+  list-pair-held names p f =
       let w = claim-frame names [] (drop at s) p in
       let x = read-at s at 4 m a in
       let y = read-at s at 6 n b in
@@ -91,7 +91,7 @@ module _ (s : List ℕ) (at : ℕ) (k : ListKind) (m n : ℕ) (a : m ≡ u16At s
   lists-held o names e =
       let p = passed _ (claim-nonzero names [] (drop at s)) e in
       claim-cases names [] (drop at s) p (λ four f. absurd (o (sym (field-at s at 2) ∙ four)))
-      (λ j e f. sides-held names p f)
+      (λ j e f. list-pair-held names p f)
 
   pub lists-taken : u16At s (at + 2) ≡ listNumber (listAs k)
       → ClaimTaken s at (claim-of.Lists (record { kind = k; m = m; n = n; at = at + 8 }))

@@ -3,7 +3,7 @@
 use Prim.Native.Nat.{ℕ, _+_, _*_, _≤_, _<_}
 use mathlib.Core.List.{List}
 use lib.ListN.{length}
-use Rattle.wire.specs.Limits.{sideLimit}
+use Rattle.wire.specs.Limits.{listLimit}
 use Rattle.wire.specs.Bytes.{u16At}
 use Rattle.wire.specs.SheetFormat.{ListKind, inside, apart, place, listNumber, ClaimRecord, count, lists, u16s}
 use Rattle.reading.specs.declared.claim.ListKind.{ListKind as ListKindRead}
@@ -44,9 +44,9 @@ claimRecord s (claim.Lists l) = lists (listAs (l .kind)) (leftNames s l) (rightN
 pub record ListsHeld (s : List ℕ) (names : ℕ) (l : Lists) : Type 0 where
   pub long : l .at + 2 * (l .m + l .n) ≤ length s
   pub someLeft : 1 ≤ l .m
-  pub fewLeft : l .m ≤ sideLimit
+  pub fewLeft : l .m ≤ listLimit
   pub someRight : 1 ≤ l .n
-  pub fewRight : l .n ≤ sideLimit
+  pub fewRight : l .n ≤ listLimit
   pub left : (j : ℕ) → j < l .m → (1 ≤ u16At s (l .at + 2 * j)) × (u16At s (l .at + 2 * j) ≤ names)
   pub right : (j : ℕ) → j < l .n → (1 ≤ u16At s (l .at + 2 * l .m + 2 * j)) × (u16At s (l .at + 2 * l .m + 2 * j) ≤ names)
 

@@ -4,8 +4,8 @@ use crate::claim::Count;
 use crate::claim::Lists;
 use crate::claim::list_kind;
 use crate::tables::BOUND;
+use crate::tables::LIST;
 use crate::tables::NameNo;
-use crate::tables::SIDE;
 use wire::bytes;
 ghost use mathlib.Core.Path.{_≡_};
 ghost use mathlib.Core.Bool.{_&&_};
@@ -13,7 +13,7 @@ ghost use Prim.Native.Nat.{_+_, _*_, _≤_};
 ghost use lib.ListN.{length, drop};
 ghost use lib.Dec.{leb, eqb};
 ghost use Rattle.wire.specs.Bytes.{u16At};
-ghost use Rattle.wire.specs.Limits.{sideLimit};
+ghost use Rattle.wire.specs.Limits.{listLimit};
 ghost use Rattle.wire.specs.Record.{refusal};
 ghost use Rattle.wire.specs.SheetFormat.{lastClaim, allWithin, u16s};
 ghost use Rattle.reading.specs.Answers.{Whole, claimBody, ClaimTaken};
@@ -51,25 +51,25 @@ fn count_refusal(s: &[u8], at: usize, len: u16, names: u16) -> u32
     0
 }
 
-fn sides_allowed(m: u16, n: u16, len: u16) -> bool
-    ensures { λ r. ⌜ r ≡ (leb 1 m && leb m sideLimit && leb 1 n && leb n sideLimit && eqb (6 + 2 * (m + n)) len) ⌝ }
+fn lists_allowed(m: u16, n: u16, len: u16) -> bool
+    ensures { λ r. ⌜ r ≡ (leb 1 m && leb m listLimit && leb 1 n && leb n listLimit && eqb (6 + 2 * (m + n)) len) ⌝ }
 {
     if m < 1 {
         return false;
     }
-    if SIDE < m {
+    if LIST < m {
         return false;
     }
     if n < 1 {
         return false;
     }
-    if SIDE < n {
+    if LIST < n {
         return false;
     }
     6 + 2 * (m + n) == len
 }
 
-fn sides_refusal(s: &[u8], at: usize, len: u16, names: u16) -> u32
+fn lists_refusal(s: &[u8], at: usize, len: u16, names: u16) -> u32
     requires { ⌜ Whole (now s) at len × (5 ≤ u16At (now s) (at + 2)) ⌝ }
     ensures { λ r. ⌜ r ≡ refusal (claimBody names (drop at (now (s .entry)))) ⌝ }
 {
@@ -79,12 +79,12 @@ fn sides_refusal(s: &[u8], at: usize, len: u16, names: u16) -> u32
     if len < 10 {
         return 3;
     }
-    if 6 + 2 * (SIDE + SIDE) < len {
+    if 6 + 2 * (LIST + LIST) < len {
         return 3;
     }
     let m = bytes::word(s, at + 4);
     let n = bytes::word(s, at + 6);
-    if !sides_allowed(m, n, len) {
+    if !lists_allowed(m, n, len) {
         return 4;
     }
     if !names_allowed(s, at + 8, m, names) {
@@ -104,7 +104,7 @@ pub fn body_refusal(s: &[u8], at: usize, len: u16, kind: u16, names: u16) -> u32
     if kind == 4 {
         return count_refusal(s, at, len, names);
     }
-    sides_refusal(s, at, len, names)
+    lists_refusal(s, at, len, names)
 }
 
 // the claim of this kind whose record stands at a place

@@ -7,7 +7,7 @@ ghost use lib.ListN.{length, getD, set};
 ghost use lib.Seq.{sets};
 ghost use Rattle.reading.specs.Meant.{meantNumber, Means};
 
-// The limits of the format: the edition, most groups, names and claims of a sheet, most names on one side of a claim, most bytes
+// The limits of the format: the edition, most groups, names and claims of a sheet, most names in one list of a claim, most bytes
 // of a label, the greatest lo and the greatest mode.
 pub const EDITION: u16 = 1;
 
@@ -17,7 +17,7 @@ pub const NAMES: u16 = 128;
 
 pub const CLAIMS: u16 = 64;
 
-pub const SIDE: u16 = 8;
+pub const LIST: u16 = 8;
 
 pub const LABEL: u16 = 16;
 

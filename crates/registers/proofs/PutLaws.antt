@@ -5,7 +5,7 @@ use mathlib.Core.Bool.{Bool, true, false, cond}
 use mathlib.Core.List.{List, [], _∷_, _++_}
 use native.Mathlib.Omega.{arith}
 use native.Mathlib.Numerals.{add-one}
-use borrow.Author.Tests.{lt-ltb, le-ltb, le-leb, lt-leb, eq-eqb, ne-eqb, eqb-true, eqb-false}
+use borrow.Author.Tests.{lt-ltb, le-ltb, le-leb, lt-leb, eq-eqb, ne-eqb}
 use lib.ListN.{length, getD, length-append}
 use lib.Dec.{ltb, eqb}
 use lib.Bits.{bitAnd}
@@ -14,8 +14,9 @@ use Rattle.laws.specs.Cases.{compare-le, compare-eq, split}
 use Rattle.laws.specs.Digits.{digit-le, digit-of-zero, digit-beyond, ones-of-zero, lowest}
 use Rattle.laws.specs.Sum.{bit}
 use Rattle.wire.specs.Edition.{edition1, rowBytes}
-use Rattle.wire.specs.Member.{memberKey}
-use Rattle.wire.specs.RegisterFormat.{Row, rowOf, inGroup, lastKey}
+use Rattle.wire.specs.Member.{precedes}
+use Rattle.wire.specs.MemberKey.{one-same, rises-or-one}
+use Rattle.wire.specs.RegisterFormat.{Row, rowOf, inGroup, lastMember}
 use Rattle.meaning.specs.OfRecords.{members}
 use Rattle.meaning.specs.ReadableRows.{members-few, Ordered, ordered-none, ordered-after, members-joined, members-new, joined-in, new-in}
 use Rattle.rows.specs.RowsRead.{wordBits, rowGroups, fromRow, rowsBefore, bitsPlace, bitAt, WordAt}
@@ -177,19 +178,19 @@ module _ {b : List ℕ} {row : ℕ} {v : RowFound} (s : Stands b row v) (o : Ord
       rw (in-group-bit b (rowBytes edition1 * row) g l, s .bits)
       (digit-bit (bitAt b (bitsPlace row) (g - 1)) (digit-le (getD b (bitsPlace row + (g - 1) / 8) 0) ((g - 1) % 8)))
 
-  is-joined : v .joined ≡ true → lastKey rs ≡ memberKey (r .member)
-  is-joined e = sym (eqb-true (v .key) (lastKey rs) (sym (s .joined) ∙ e)) ∙ s .key
+  is-joined : v .joined ≡ true → lastMember rs ≡ r .member
+  is-joined e = sym (one-same (r .member) (lastMember rs) (sym (s .joined) ∙ e))
 
-  is-new : v .joined ≡ false → lastKey rs < memberKey (r .member)
-  is-new e = let n = eqb-false (v .key) (lastKey rs) (sym (s .joined) ∙ e) in omega (arith, s .follows, s .key)
+  is-new : v .joined ≡ false → precedes (lastMember rs) (r .member) ≡ true
+  is-new e = rises-or-one (lastMember rs) (r .member) (s .follows) (sym (s .joined) ∙ e)
 
   pub ordered-more : Ordered (rowsBefore b (row + 1))
-  ordered-more = rw rows-after (ordered-after rs r o (omega (arith, s .some, s .key)) (omega (arith, s .follows, s .key)))
+  ordered-more = rw rows-after (ordered-after rs r o (s .some) (s .follows))
 
   -- a member is there once a row is
   pub members-some : {n : ℕ} → n ≡ length (members rs) → 1 ≤ cond (v .joined) n (n + 1)
   members-some e =
-      split (v .joined) (λ j. rw j (omega (arith, o .some (omega (arith, is-joined j, s .some, s .key))))) (λ j. rw j (omega arith))
+      split (v .joined) (λ j. rw j (omega (arith, o .some (rw (is-joined j) (s .some))))) (λ j. rw j (omega arith))
 
   pub columns-more : {n m : ℕ} {t u : List ℕ} → ColumnsFilled rs n t → m ≡ cond (v .joined) n (n + 1) → RowPut b (v .bits) (m - 1) t u
       → ColumnsFilled (rowsBefore b (row + 1)) m u
@@ -197,12 +198,11 @@ module _ {b : List ℕ} {row : ℕ} {v : RowFound} (s : Stands b row v) (o : Ord
       rw rows-after
       (split (v .joined)
       (λ j. let same : m ≡ length (members rs) = e ∙ (rw j (f .number)) in
-      let some : 1 ≤ lastKey rs = omega (arith, is-joined j, s .some, s .key) in
       record {
-        number = rw (members-joined rs r (is-joined j) some) same;
+        number = rw (members-joined rs r (is-joined j) (s .some)) same;
         each = λ g i x y l.
             p .each g i x y l
-            ∙ (rw (f .each g i x y l, same, ← bit-of g y) (sym (joined-in rs r o (is-joined j) some i g)));
+            ∙ (rw (f .each g i x y l, same, ← bit-of g y) (sym (joined-in rs r o (is-joined j) (s .some) i g)));
       })
       (λ j. let more : m ≡ length (members rs) + 1 = e ∙ (rw (j, f .number)) in
       let index : length (members rs) + 1 - 1 ≡ length (members rs) = omega arith in

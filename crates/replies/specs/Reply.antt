@@ -34,7 +34,7 @@ pub record Replied (n : ℕ) (c : Call) : Type 0 where
   pub sized : length (c .after) ≡ length (c .before)
   pub rest : drop n (c .after) ≡ drop n (c .before)
 
--- 1 to 7 for a sheet, 10 to 13 for a register: what is turned back is refused so, and what is read goes on
+-- 1 to 7 for a sheet, 10 to 13 and 15 for a register: what is turned back is refused so, and what is read goes on
 pub record OnceRead {A : Type 0} (x : Reading A) (c : Call) (P : A → Type 0) : Type 0 where
   pub turned : (n k : ℕ) → x ≡ refused n k → Refused n k c
   pub passed : (d : A) → x ≡ read d → P d

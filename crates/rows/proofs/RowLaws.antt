@@ -6,26 +6,28 @@ use mathlib.Core.List.{List, [], _∷_, _++_, append-nil, append-assoc}
 use native.Mathlib.Omega.{arith}
 use native.Mathlib.Nat.{le-refl, add-zero}
 use native.Mathlib.Numerals.{add-one}
-use borrow.Author.Tests.{le-leb, lt-leb, eq-eqb, ne-eqb, eqb-true, leb-true, ltb-true, lt-ltb, le-ltb}
+use borrow.Author.Tests.{le-leb, lt-leb, eq-eqb, ne-eqb, eqb-true, eqb-false, leb-true, ltb-true, not-true, lt-ltb, le-ltb}
 use lib.ListN.{length, drop, length-append, length-drop}
 use lib.Seq.{getD-take, getD-drop, drop-drop}
 use lib.Dec.{leb, ltb, eqb}
 use Rattle.laws.specs.Cases.{split, and-true, compare-eq, below-suc}
 use Rattle.wire.specs.Limits.{rowLimit}
 use Rattle.wire.specs.Edition.{edition1, groupLimit, membershipBytes, rowHead, rowBytes, rowKind}
-use Rattle.wire.specs.Member.{memberKey}
+use Rattle.wire.specs.Member.{sideNumber, isSide, sideOf, Member, precedes, oneMember}
+use Rattle.wire.specs.MemberKey.{keyMember, key-of-member, precedes-by-key, one-by-key}
 use Rattle.wire.specs.Bytes.{u16At, u32At}
-use Rattle.wire.specs.Fields.{u16-drop, u32-halves}
+use Rattle.wire.specs.Fields.{u16-drop, u32-drop, u32-halves}
 use Rattle.wire.specs.Encoding.{Bytes}
 use Rattle.wire.specs.Facts.{u16-most}
-use Rattle.wire.specs.Record.{after, Reading, read, refused, onward, refusal}
-use Rattle.wire.specs.RegisterFormat.{Row, memberOf, rowOf, inGroup, lastKey, clearAbove, rowTests, readRows, readRegister}
+use Rattle.wire.specs.Record.{after, Test, Reading, read, refused, onward, refusal}
+use Rattle.wire.specs.Passing.{Pass, refusal-zero, passed, pass-take, refusal-take}
+use Rattle.wire.specs.RegisterFormat.{Row, sideField, memberOf, rowOf, inGroup, lastMember, clearAbove, rowTests, readRows, readRegister}
 use Rattle.wire.specs.Many.{Reads, stop, go}
-use Rattle.wire.specs.RowFacts.{last-key-behind}
+use Rattle.wire.specs.RowFacts.{last-member-behind}
 use Rattle.wire.specs.RoundTripRegister.{testsAfter, register-read}
 use Rattle.rows.specs.declared.decode.RowFound.{RowFound}
 use Rattle.rows.specs.declared.decode.RowAnswer.the-variants as answer
-use Rattle.rows.specs.RowsRead.{rowGroups, Front, ended, held, turned, rowGives, rowHeld, frontAt, fromRow, rowsBefore, bitsPlace, bitAt, Above, RowsReadable}
+use Rattle.rows.specs.RowsRead.{rowGroups, rowFrame, Front, ended, held, turned, rowGives, rowHeld, frontTests, frontAt, fromRow, rowsBefore, bitsPlace, bitAt, Above, RowsReadable}
 
 -- group g of the row at a place is bit g - 1 of its membership bytes
 pub in-group-bit : (b : List ℕ) (at g : ℕ) → g ≤ rowGroups
@@ -69,7 +71,7 @@ clear-bits b at groups false a =
     rw (in-group-bit b at (groups + suc k) (omega arith), f, a .none refl (groups + k) (omega arith) (omega arith))
     (ne-eqb 0 1 (λ e. omega arith)))
 
--- what bytes begin with
+-- what 11 asks: a whole row is left, with its length and kind
 abbrev rowFramed : List ℕ → Bool
 rowFramed b = leb (rowBytes edition1) (length b) && eqb (u16At b 0) (rowBytes edition1 - 2) && eqb (u16At b 2) (rowKind edition1)
 
@@ -79,23 +81,26 @@ frame-of b x =
     let t = and-true (leb (rowBytes edition1) (length b)) (eqb (u16At b 0) (rowBytes edition1 - 2)) (s .0) in
     (leb-true _ _ (t .0), eqb-true _ _ (t .1))
 
--- the order that 12 asks for
-abbrev rowFollows : ℕ → List ℕ → Bool
-rowFollows last b = ltb 0 (memberKey (memberOf b)) && leb last (memberKey (memberOf b))
+-- what the bytes from a place on begin with, where a whole row is left
+frame-at : (b : List ℕ) (at : ℕ) → at + rowBytes edition1 ≤ length b
+    → rowFramed (drop at b) ≡ (eqb (u16At b at) (rowBytes edition1 - 2) && eqb (u16At b (at + 2)) (rowKind edition1))
+frame-at b at l =
+    rw (
+      le-leb (rowBytes edition1) (length (drop at b)) (simp length-drop (omega arith)),
+      u16-drop at b 0,
+      u16-drop at b 2,
+      add-zero at,
+    )
+
+-- bytes are left at a place
+some-at : (b : List ℕ) (at : ℕ) → at < length b → eqb (length (drop at b)) 0 ≡ false
+some-at b at l = ne-eqb (length (drop at b)) 0 (λ e. let z = rw length-drop at e in omega arith)
 
 -- what stands at a place
-module _ (b : List ℕ) (at last : ℕ) where
-  -- the row, once its frame is right
-  abbrev rowInOrder : Front
-  rowInOrder = cond (rowFollows last (drop at b)) (rowHeld b at last) (turned 12)
-
-  front-some : eqb (length (drop at b)) 0 ≡ false → frontAt b at last ≡ cond (rowFramed (drop at b)) rowInOrder (turned 11)
-  unfolding frontAt rowTests refusal
-  front-some e =
-      rw e
-      (split (rowFramed (drop at b))
-      (λ x. rw x (split (rowFollows last (drop at b)) (λ y. rw y) (λ y. rw y)))
-      (λ x. rw x))
+module _ (b : List ℕ) (at : ℕ) (last : Member) where
+  -- the tests that the reader asks of a row there
+  abbrev asked : List Test
+  asked = frontTests last (drop at b)
 
   front-empty : length (drop at b) ≡ 0 → frontAt b at last ≡ ended
   unfolding frontAt
@@ -104,117 +109,154 @@ module _ (b : List ℕ) (at last : ℕ) where
   pub front-none : length b ≤ at → frontAt b at last ≡ ended
   front-none l = front-empty (simp length-drop (omega arith))
 
-  front-more : at < length b → frontAt b at last ≡ cond (rowFramed (drop at b)) rowInOrder (turned 11)
-  front-more l = front-some (ne-eqb (length (drop at b)) 0 (λ e. let z = rw length-drop at e in omega arith))
+  -- some bytes do
+  module _ (some : eqb (length (drop at b)) 0 ≡ false) where
+    front-asked : frontAt b at last ≡ cond (eqb (refusal asked) 0) (rowHeld b at last) (turned (refusal asked))
+    unfolding frontAt
+    front-asked = rw some
+
+    front-passed : Pass asked → frontAt b at last ≡ rowHeld b at last
+    front-passed p = front-asked ∙ (rw (refusal-zero asked p))
+
+    front-turned : (n : ℕ) → refusal asked ≡ n → 1 ≤ n → frontAt b at last ≡ turned n
+    front-turned n e l = front-asked ∙ (rw (e, ne-eqb n 0 (λ z. omega arith)))
+
+  front-unframed : at < length b → rowFramed (drop at b) ≡ false → frontAt b at last ≡ turned 11
+  unfolding rowTests refusal
+  front-unframed l x = front-turned (some-at b at l) 11 (rw x) (omega arith)
 
   pub front-short : at < length b → length b < at + rowBytes edition1 → frontAt b at last ≡ turned 11
-  front-short k l = front-more k ∙ (rw (lt-leb (rowBytes edition1) (length (drop at b)) (simp length-drop (omega arith))))
+  front-short k l = front-unframed k (rw (lt-leb (rowBytes edition1) (length (drop at b)) (simp length-drop (omega arith))))
 
-  module _ (l : at + rowBytes edition1 ≤ length b) where
-    front-long : frontAt b at last
-        ≡ cond (eqb (u16At b at) (rowBytes edition1 - 2) && eqb (u16At b (at + 2)) (rowKind edition1)) rowInOrder (turned 11)
-    front-long =
-        front-more (omega arith)
-        ∙ (rw (
-          le-leb (rowBytes edition1) (length (drop at b)) (simp length-drop (omega arith)),
-          u16-drop at b 0,
-          u16-drop at b 2,
-          add-zero at,
-        ))
-
-    -- length and kind as one field
-    abbrev frame : ℕ
-    frame = rowBytes edition1 - 2 + 65536 * rowKind edition1
-
-    framed-by : Bytes b → u32At b at ≡ frame → (u16At b at ≡ rowBytes edition1 - 2) × (u16At b (at + 2) ≡ rowKind edition1)
-    unfolding membershipBytes rowKind
-    framed-by k e = omega (arith, u32-halves b at, u16-most b k at, u16-most b k (at + 2))
-
-    pub front-frame : (u32At b at ≡ frame → ⊥) → frontAt b at last ≡ turned 11
-    front-frame n =
-        front-long
-        ∙ compare-eq (u16At b at) (rowBytes edition1 - 2)
-        (λ x. compare-eq (u16At b (at + 2)) (rowKind edition1)
-        (λ y. absurd (n (omega (arith, u32-halves b at))))
-        (λ y. rw (eq-eqb (u16At b at) (rowBytes edition1 - 2) x, ne-eqb (u16At b (at + 2)) (rowKind edition1) y)))
-        (λ x. rw (ne-eqb (u16At b at) (rowBytes edition1 - 2) x))
-
-    -- the frame is right, and the member's key is known
-    module _ (k : Bytes b) (e : u32At b at ≡ frame) {key : ℕ} (x : key ≡ memberKey (memberOf (drop at b))) where
-      front-framed : frontAt b at last ≡ cond (ltb 0 key && leb last key) (held key (eqb key last) (at + rowHead) (at + rowBytes edition1)) (turned 12)
-      front-framed =
-          let w = framed-by k e in
-          rw x
-          (front-long
-          ∙ (rw (eq-eqb (u16At b at) (rowBytes edition1 - 2) (w .0), eq-eqb (u16At b (at + 2)) (rowKind edition1) (w .1))))
-
-      front-row : 0 < key → last ≤ key → frontAt b at last ≡ held key (eqb key last) (at + rowHead) (at + rowBytes edition1)
-      front-row l m = front-framed ∙ (rw (lt-ltb 0 key l, le-leb last key m))
-
-      pub front-rises : last < key → frontAt b at last ≡ held key false (at + rowHead) (at + rowBytes edition1)
-      front-rises l = front-row (omega arith) (omega arith) ∙ (rw (ne-eqb key last (λ z. omega arith)))
-
-      pub front-joined : 0 < key → key ≡ last → frontAt b at last ≡ held key true (at + rowHead) (at + rowBytes edition1)
-      front-joined l z = front-row l (omega arith) ∙ (rw (eq-eqb key last z))
-
-      pub front-falls : key < last → turned 12 ≡ frontAt b at last
-      front-falls l = sym (front-framed ∙ (rw (lt-leb last key l) (split (ltb 0 key) (λ y. rw y) (λ y. rw y))))
-
-      pub front-nobody : key ≡ 0 → turned 12 ≡ frontAt b at last
-      front-nobody z = sym (front-framed ∙ (rw (le-ltb 0 key (omega arith))))
+  pub front-frame : at + rowBytes edition1 ≤ length b → (u32At b at ≡ rowFrame → ⊥) → frontAt b at last ≡ turned 11
+  front-frame l n =
+      front-unframed (omega arith)
+      (frame-at b at l
+      ∙ compare-eq (u16At b at) (rowBytes edition1 - 2)
+      (λ x. compare-eq (u16At b (at + 2)) (rowKind edition1)
+      (λ y. absurd (n (omega (arith, u32-halves b at))))
+      (λ y. rw (eq-eqb (u16At b at) (rowBytes edition1 - 2) x, ne-eqb (u16At b (at + 2)) (rowKind edition1) y)))
+      (λ x. rw (ne-eqb (u16At b at) (rowBytes edition1 - 2) x)))
 
   -- what an answer says of the bytes
   end-empty : ended ≡ frontAt b at last → eqb (length (drop at b)) 0 ≡ true
   end-empty e =
       split (eqb (length (drop at b)) 0) (λ x. x)
-      (λ x. let s = e ∙ front-some x in
-      absurd (split (rowFramed (drop at b))
-      (λ y. split (rowFollows last (drop at b))
-      (λ u. let w = rw (y, u) at s in let z : _≡_ {A = ℕ} 0 1 = cc in omega arith)
-      (λ u. let w = rw (y, u) at s in let z : _≡_ {A = ℕ} 0 1 = cc in omega arith))
+      (λ x. let s = e ∙ front-asked x in
+      absurd (split (eqb (refusal asked) 0)
+      (λ y. let w = rw y at s in let z : _≡_ {A = ℕ} 0 1 = cc in omega arith)
       (λ y. let w = rw y at s in let z : _≡_ {A = ℕ} 0 1 = cc in omega arith)))
 
   not-empty : (f : Front) → f ≡ frontAt b at last → (ended ≡ f → ⊥) → eqb (length (drop at b)) 0 ≡ false
   not-empty f e n =
       split (eqb (length (drop at b)) 0) (λ x. absurd (n (sym (front-empty (eqb-true (length (drop at b)) 0 x)) ∙ sym e))) (λ x. x)
 
-  -- a row that was turned back meets 11 or 12, whatever the sheet
+  -- a row that was turned back is refused so, whatever the sheet
   turned-tests : (groups n : ℕ) → turned n ≡ frontAt b at last
       → (eqb (length (drop at b)) 0 ≡ false) × (refusal (rowTests edition1 groups last (drop at b)) ≡ n) × (1 ≤ n)
-  unfolding rowTests refusal
+  unfolding rowTests
   turned-tests groups n e =
       let o = not-empty (turned n) e (λ f. let z : _≡_ {A = ℕ} 0 1 = cc in omega arith) in
-      let s = e ∙ front-some o in
-      split (rowFramed (drop at b))
-      (λ y. split (rowFollows last (drop at b))
-      (λ u. absurd (let w = rw (y, u) at s in let z : _≡_ {A = ℕ} 0 1 = cc in omega arith))
-      (λ u. let w = rw (y, u) at s in let m : n ≡ 12 = cc in (o, rw (y, u) (sym m), omega arith)))
-      (λ y. let w = rw y at s in let m : n ≡ 11 = cc in (o, rw y (sym m), omega arith))
+      let s = e ∙ front-asked o in
+      split (eqb (refusal asked) 0)
+      (λ y. absurd (let w = rw y at s in let z : _≡_ {A = ℕ} 0 1 = cc in omega arith))
+      (λ y. let w = rw y at s in
+      let m : n ≡ refusal asked = cc in
+      let p = eqb-false (refusal asked) 0 y in
+      (o, refusal-take 3 (rowTests edition1 groups last (drop at b)) p ∙ sym m, omega arith))
 
   -- a row that was found
   pub record Held (v : RowFound) : Type 0 where
     pub some : eqb (length (drop at b)) 0 ≡ false
-    pub framed : rowFramed (drop at b) ≡ true
-    pub order : rowFollows last (drop at b) ≡ true
-    pub key : v .key ≡ memberKey (memberOf (drop at b))
+    pub passes : Pass asked
+    pub member : keyMember (v .key) ≡ memberOf (drop at b)
     pub bits : v .bits ≡ at + rowHead
     pub next : v .next ≡ at + rowBytes edition1
 
   pub held-frame : (v : RowFound) → rowGives (answer.Row v) ≡ frontAt b at last → Held v
+  unfolding rowTests
   held-frame v e =
       let o = not-empty (rowGives (answer.Row v)) e (λ f. let z : _≡_ {A = ℕ} 0 1 = cc in omega arith) in
-      let s = e ∙ front-some o in
-      split (rowFramed (drop at b))
-      (λ y. split (rowFollows last (drop at b))
-      (λ u. let w = rw (y, u) at s in record { some = o; framed = y; order = u; key = cc; bits = cc; next = cc })
-      (λ u. absurd (let w = rw (y, u) at s in let z : _≡_ {A = ℕ} 0 1 = cc in omega arith)))
+      let s = e ∙ front-asked o in
+      split (eqb (refusal asked) 0)
+      (λ y. let w = rw y at s in
+      record { some = o; passes = passed asked (omega arith) (eqb-true _ _ y); member = cc; bits = cc; next = cc })
       (λ y. absurd (let w = rw y at s in let z : _≡_ {A = ℕ} 0 1 = cc in omega arith))
 
   -- its membership bytes are within the bytes
   pub held-within : (v : RowFound) → rowGives (answer.Row v) ≡ frontAt b at last → v .bits + membershipBytes edition1 ≤ length b
+  unfolding rowTests
   held-within v e =
       let w = held-frame v e in
-      omega (arith, frame-of (drop at b) (w .framed) .0, length-drop at b, w .bits)
+      omega (arith, frame-of (drop at b) (w .passes .0) .0, length-drop at b, w .bits)
+
+-- the frame of the row at a place is right, and its number and the number of its side are known
+pub record RowFields (b : List ℕ) (at number side : ℕ) : Type 0 where
+  pub whole : at + rowBytes edition1 ≤ length b
+  pub bytes : Bytes b
+  pub frame : u32At b at ≡ rowFrame
+  pub numbered : number ≡ u32At b (at + 4)
+  pub sided : side ≡ u16At b (at + 8)
+
+module _ {b : List ℕ} {at number side : ℕ} (f : RowFields b at number side) where
+  is-framed : rowFramed (drop at b) ≡ true
+  unfolding membershipBytes rowKind
+  is-framed =
+      let e = f .frame in
+      let k = f .bytes in
+      frame-at b at (f .whole)
+      ∙ (rw (
+        eq-eqb (u16At b at) (rowBytes edition1 - 2) (omega (arith, u32-halves b at, u16-most b k at, u16-most b k (at + 2))),
+        eq-eqb (u16At b (at + 2)) (rowKind edition1) (omega (arith, u32-halves b at, u16-most b k at, u16-most b k (at + 2))),
+      ))
+
+  some-framed : eqb (length (drop at b)) 0 ≡ false
+  some-framed = some-at b at (omega (arith, f .whole))
+
+  side-at : sideField (drop at b) ≡ side
+  side-at = u16-drop at b 8 ∙ sym (f .sided)
+
+  member-at : memberOf (drop at b) ≡ record { number = number; side = sideOf side }
+  unfolding memberOf
+  member-at = rw (u32-drop at b 4, side-at, ← f .numbered)
+
+  pub front-no-side : (last : Member) → isSide side ≡ false → turned 15 ≡ frontAt b at last
+  unfolding rowTests refusal
+  front-no-side last s = sym (front-turned b at last some-framed 15 (rw (is-framed, side-at, s)) (omega arith))
+
+  -- its side is one of the two
+  module _ (s : isSide side ≡ true) where
+    pub front-nobody : (last : Member) → number ≡ 0 → turned 12 ≡ frontAt b at last
+    unfolding rowTests refusal
+    front-nobody last z = sym (front-turned b at last some-framed 12 (rw (is-framed, side-at, s, member-at, z)) (omega arith))
+
+    -- it names somebody, and its key and the key of the member before are known
+    module _ (some : 0 < number) (key before : ℕ) (k : keyMember key ≡ record { number = number; side = sideOf side }) where
+      falls-by-key : precedes (memberOf (drop at b)) (keyMember before) ≡ ltb key before
+      falls-by-key = rw (member-at, ← k) (precedes-by-key (keyMember key) (keyMember before) ∙ (rw (key-of-member key, key-of-member before)))
+
+      joined-by-key : oneMember (memberOf (drop at b)) (keyMember before) ≡ eqb key before
+      joined-by-key = rw (member-at, ← k) (one-by-key (keyMember key) (keyMember before) ∙ (rw (key-of-member key, key-of-member before)))
+
+      somebody : ltb 0 (memberOf (drop at b) .number) ≡ true
+      somebody = rw member-at (lt-ltb 0 number some)
+
+      front-row : before ≤ key → frontAt b at (keyMember before) ≡ held (keyMember key) (eqb key before) (at + rowHead) (at + rowBytes edition1)
+      unfolding rowTests
+      front-row o =
+          front-passed b at (keyMember before) some-framed (is-framed, (rw (side-at, s), (rw (somebody, falls-by-key, le-ltb key before o), tt)))
+          ∙ (rw (joined-by-key, member-at, k))
+
+      pub front-rises : before < key → frontAt b at (keyMember before) ≡ held (keyMember key) false (at + rowHead) (at + rowBytes edition1)
+      front-rises o = front-row (omega arith) ∙ (rw (ne-eqb key before (λ z. omega arith)))
+
+      pub front-joined : key ≡ before → frontAt b at (keyMember before) ≡ held (keyMember key) true (at + rowHead) (at + rowBytes edition1)
+      front-joined o = front-row (omega arith) ∙ (rw (eq-eqb key before o))
+
+      pub front-falls : key < before → turned 12 ≡ frontAt b at (keyMember before)
+      unfolding rowTests refusal
+      front-falls o =
+          sym (front-turned b at (keyMember before) some-framed 12 (rw (is-framed, side-at, s, somebody, falls-by-key, lt-ltb key before o)) (omega arith))
 
 -- one step of the reading
 step-end : (groups left : ℕ) (rs : List Row) (b : List ℕ) → eqb (length b) 0 ≡ true → readRows edition1 groups (suc left) rs b ≡ read rs
@@ -222,22 +264,22 @@ unfolding readRows
 step-end groups left rs b x = rw x
 
 step-refused : (groups left n : ℕ) (rs : List Row) (b : List ℕ) → eqb (length b) 0 ≡ false
-    → refusal (rowTests edition1 groups (lastKey rs) b) ≡ n → 1 ≤ n
+    → refusal (rowTests edition1 groups (lastMember rs) b) ≡ n → 1 ≤ n
     → readRows edition1 groups (suc left) rs b ≡ refused n (length rs + 1)
 unfolding readRows onward
 step-refused groups left n rs b x y l = rw (x, y, ne-eqb n 0 (λ z. omega arith))
 
 step-on : (groups left : ℕ) (rs : List Row) (b : List ℕ) → eqb (length b) 0 ≡ false
-    → refusal (rowTests edition1 groups (lastKey rs) b) ≡ 0
+    → refusal (rowTests edition1 groups (lastMember rs) b) ≡ 0
     → readRows edition1 groups (suc left) rs b ≡ readRows edition1 groups left (rs ++ (rowOf edition1 b ∷ [])) (drop (rowBytes edition1) b)
 unfolding readRows onward
 step-on groups left rs b x y = rw (x, y)
 
-tests-rest : (groups last : ℕ) (b : List ℕ) (r : Bool) → rowFramed b ≡ true → rowFollows last b ≡ true
+tests-rest : (groups : ℕ) (last : Member) (b : List ℕ) (r : Bool) → Pass (frontTests last b)
     → clearAbove (rowOf edition1 b) groups (groupLimit edition1 - groups) ≡ not r → refusal (rowTests edition1 groups last b) ≡ cond r 13 0
 unfolding rowTests refusal
-tests-rest groups last b true x l c = rw (x, l, c)
-tests-rest groups last b false x l c = rw (x, l, c)
+tests-rest groups last b true p c = rw (p .0, p .1 .0, p .1 .1 .0, c)
+tests-rest groups last b false p c = rw (p .0, p .1 .0, p .1 .1 .0, c)
 
 -- the rows read so far
 pub length-rowsBefore : (b : List ℕ) (n : ℕ) → length (rowsBefore b n) ≡ n
@@ -245,9 +287,9 @@ unfolding rowsBefore
 length-rowsBefore b zero = refl
 length-rowsBefore b (suc n) = simp (length-append, length-rowsBefore b n) (omega arith)
 
-pub last-row : (b : List ℕ) (i : ℕ) → lastKey (rowsBefore b (i + 1)) ≡ memberKey (memberOf (fromRow b i))
+pub last-row : (b : List ℕ) (i : ℕ) → lastMember (rowsBefore b (i + 1)) ≡ memberOf (fromRow b i)
 unfolding rowsBefore rowOf
-last-row b i = rw (add-one i) (last-key-behind (rowsBefore b i) (rowOf edition1 (fromRow b i)))
+last-row b i = rw (add-one i) (last-member-behind (rowsBefore b i) (rowOf edition1 (fromRow b i)))
 
 -- the reading that is left after `row` rows
 unfoldable pub going : ℕ → List ℕ → ℕ → Reading (List Row)
@@ -257,17 +299,17 @@ pub going-start : (groups : ℕ) (b : List ℕ) → readRegister edition1 groups
 unfolding going readRegister rowsBefore membershipBytes
 going-start groups b = refl
 
-pub last-start : (b : List ℕ) → lastKey (rowsBefore b 0) ≡ 0
-unfolding rowsBefore lastKey
+pub last-start : (b : List ℕ) → keyMember 0 ≡ lastMember (rowsBefore b 0)
+unfolding rowsBefore lastMember keyMember sideOf sideNumber
 last-start b = refl
 
 module _ (groups : ℕ) (b : List ℕ) (row : ℕ) (l : row < rowLimit) where
   abbrev place : ℕ
   place = rowBytes edition1 * row
 
-  -- the key of the member before
-  abbrev before : ℕ
-  before = lastKey (rowsBefore b row)
+  -- the member before
+  abbrev before : Member
+  before = lastMember (rowsBefore b row)
 
   more : rowLimit - row ≡ suc (rowLimit - (row + 1))
   more = omega arith
@@ -294,7 +336,7 @@ module _ (groups : ℕ) (b : List ℕ) (row : ℕ) (l : row < rowLimit) where
     tests-are : (r : Bool) → Above groups 0 rowGroups (bitAt b (v .bits)) r
         → refusal (rowTests edition1 groups before (fromRow b row)) ≡ cond r 13 0
     tests-are r a =
-        tests-rest groups before (fromRow b row) r (is-row .framed) (is-row .order)
+        tests-rest groups before (fromRow b row) r (is-row .passes)
         (clear-bits b place groups r (rw (is-row .bits) at a))
 
     pub going-bits : Above groups 0 rowGroups (bitAt b (v .bits)) true → going groups b row ≡ refused 13 (row + 1)
@@ -339,16 +381,16 @@ rows-first b (suc i) =
     let d : rowBytes edition1 + rowBytes edition1 * i ≡ rowBytes edition1 * suc i = omega arith in
     rw (rows-first b i, drop-drop (rowBytes edition1 * i) (rowBytes edition1) b, d)
 
--- each row that was read has its frame and stands behind the rows before it
+-- each row that was read passes behind the rows before it
 reads-passed : (groups : ℕ) {rs ys : List Row} {b c : List ℕ}
     → Reads (testsAfter edition1 groups) (rowOf edition1) rs b ys c → (i : ℕ) → i < length ys
-    → (rowFramed (fromRow b i) ≡ true) × (rowFollows (lastKey (rs ++ rowsBefore b i)) (fromRow b i) ≡ true)
+    → Pass (frontTests (lastMember (rs ++ rowsBefore b i)) (fromRow b i))
 unfolding rowTests after
 reads-passed groups stop i l = absurd (omega arith)
 reads-passed groups (go {xs} {b} p rest) zero l =
     let e : rowBytes edition1 * 0 ≡ 0 = omega arith in
     let n : xs ++ rowsBefore b 0 ≡ xs = unfold rowsBefore in append-nil xs in
-    rw (e, n) (p .0, p .1 .0)
+    rw (e, n) (pass-take 3 (testsAfter edition1 groups xs b) p)
 reads-passed groups (go {xs} {b} p rest) (suc i) l =
     let e : rowBytes edition1 * suc i ≡ rowBytes edition1 + rowBytes edition1 * i = omega arith in
     let f : u16At b 0 + 2 ≡ rowBytes edition1 = omega (arith, frame-of b (p .0) .1) in
@@ -361,48 +403,45 @@ module _ (groups : ℕ) (b : List ℕ) (n : ℕ) (h : read (rowsBefore b n) ≡ 
 
   -- each row stands at its place
   pub rows-readable : RowsReadable b n
+  unfolding rowTests
   rows-readable =
       record {
         each = λ i l.
             let x = reads-passed groups (register-read edition1 groups b (rowsBefore b n) (sym h) .rows) i (rw (length-rowsBefore b n) l) in
-            front-some b (rowBytes edition1 * i) (lastKey (rowsBefore b i))
-            (ne-eqb (length (fromRow b i)) 0 (λ z. omega (arith, frame-of (fromRow b i) (x .0) .0)))
-            ∙ (rw (x .0, x .1));
+            front-passed b (rowBytes edition1 * i) (lastMember (rowsBefore b i))
+            (ne-eqb (length (fromRow b i)) 0 (λ z. omega (arith, frame-of (fromRow b i) (x .0) .0))) x;
       }
 
 -- row i, as the reader hands it up
 pub record Stands (b : List ℕ) (i : ℕ) (v : RowFound) : Type 0 where
-  pub key : v .key ≡ memberKey (rowOf edition1 (fromRow b i) .member)
-  pub joined : v .joined ≡ eqb (v .key) (lastKey (rowsBefore b i))
+  pub joined : v .joined ≡ oneMember (rowOf edition1 (fromRow b i) .member) (lastMember (rowsBefore b i))
   pub bits : v .bits ≡ bitsPlace i
   pub next : v .next ≡ rowBytes edition1 * (i + 1)
-  pub last : v .key ≡ lastKey (rowsBefore b (i + 1))
-  pub some : 1 ≤ v .key
-  pub follows : lastKey (rowsBefore b i) ≤ v .key
+  pub last : keyMember (v .key) ≡ lastMember (rowsBefore b (i + 1))
+  pub some : 0 < rowOf edition1 (fromRow b i) .member .number
+  pub follows : precedes (rowOf edition1 (fromRow b i) .member) (lastMember (rowsBefore b i)) ≡ false
 
 -- what the reader hands up at the place of a row that is known to be readable: that row, and no end or refusal
-module _ {b : List ℕ} {n i at last : ℕ} (r : RowsReadable b n) (l : i < n) (e : at ≡ rowBytes edition1 * i)
-    (k : last ≡ lastKey (rowsBefore b i)) where
-  stands : frontAt b at last ≡ rowHeld b (rowBytes edition1 * i) (lastKey (rowsBefore b i))
+module _ {b : List ℕ} {n i at : ℕ} {last : Member} (r : RowsReadable b n) (l : i < n) (e : at ≡ rowBytes edition1 * i)
+    (k : last ≡ lastMember (rowsBefore b i)) where
+  stands : frontAt b at last ≡ rowHeld b (rowBytes edition1 * i) (lastMember (rowsBefore b i))
   stands = rw (e, k) (r .each i l)
 
   pub row-stands : (v : RowFound) → rowGives (answer.Row v) ≡ frontAt b at last → Stands b i v
-  unfolding rowOf
+  unfolding rowOf rowTests
   row-stands v f =
       let z = f ∙ stands in
-      let o = rw (e, k) at (held-frame b at last v f .order) in
-      let w = and-true (ltb 0 (memberKey (memberOf (fromRow b i)))) (leb (lastKey (rowsBefore b i)) (memberKey (memberOf (fromRow b i)))) o in
-      let key : v .key ≡ memberKey (memberOf (fromRow b i)) = cc in
+      let o = rw (e, k) at (held-frame b at last v f .passes .1 .1 .0) in
+      let w = and-true (ltb 0 (memberOf (fromRow b i) .number)) (not (precedes (memberOf (fromRow b i)) (lastMember (rowsBefore b i)))) o in
       let next : v .next ≡ rowBytes edition1 * i + rowBytes edition1 = cc in
-      let joined : v .joined ≡ eqb (memberKey (memberOf (fromRow b i))) (lastKey (rowsBefore b i)) = cc in
+      let member : keyMember (v .key) ≡ memberOf (fromRow b i) = cc in
       record {
-        key = key;
-        joined = rw key joined;
+        joined = cc;
         bits = cc;
         next = omega arith;
-        last = key ∙ sym (last-row b i);
-        some = omega (arith, ltb-true 0 (memberKey (memberOf (fromRow b i))) (w .0));
-        follows = omega (arith, leb-true (lastKey (rowsBefore b i)) (memberKey (memberOf (fromRow b i))) (w .1));
+        last = member ∙ sym (last-row b i);
+        some = ltb-true 0 (memberOf (fromRow b i) .number) (w .0);
+        follows = not-true (precedes (memberOf (fromRow b i)) (lastMember (rowsBefore b i))) (w .1);
       }
 
   pub not-ended : rowGives answer.End ≡ frontAt b at last → ⊥

@@ -1,15 +1,16 @@
 -- What the row decoder gives, and what reading all rows gives.
-use Prim.Native.Nat.{ℕ, zero, suc, _+_, _*_, _/_, _%_, _≤_, _<_}
+use Prim.Native.Nat.{ℕ, zero, suc, _+_, _-_, _*_, _/_, _%_, _≤_, _<_}
 use mathlib.Core.Path.{_≡_}
 use mathlib.Core.Bool.{Bool, true, false, cond}
 use mathlib.Core.List.{List, [], _∷_, _++_}
 use lib.ListN.{length, take, drop, getD}
 use lib.Dec.{eqb}
 use Rattle.laws.specs.Digits.{digit}
-use Rattle.wire.specs.Edition.{edition1, rowHead, rowBytes}
+use Rattle.wire.specs.Edition.{edition1, rowKind, rowHead, rowBytes}
 use Rattle.wire.specs.Record.{Test, refusal, Reading, read, refused}
-use Rattle.wire.specs.Member.{memberKey}
-use Rattle.wire.specs.RegisterFormat.{Row, memberOf, rowOf, lastKey, rowTests}
+use Rattle.wire.specs.Member.{Member, oneMember}
+use Rattle.wire.specs.MemberKey.{keyMember}
+use Rattle.wire.specs.RegisterFormat.{Row, memberOf, rowOf, lastMember, rowTests}
 use Rattle.rows.specs.declared.decode.RowAnswer.{RowAnswer}
 use Rattle.rows.specs.declared.decode.RowAnswer.the-variants as answer
 use Rattle.rows.specs.declared.read.Rows.{Rows}
@@ -25,30 +26,33 @@ rowWords = 2
 abbrev pub rowGroups : ℕ
 rowGroups = rowWords * wordBits
 
--- what stands at a place: no bytes at all; a row, with its member's key, whether it goes on with the member before, the place of
--- its membership bytes and the place after it; or a row that is turned back with a refusal's number
+-- a row's length and kind, read as one field
+abbrev pub rowFrame : ℕ
+rowFrame = rowBytes edition1 - 2 + 65536 * rowKind edition1
+
+-- what stands at a place: no bytes at all; a row, with its member, whether it goes on with the member before, the place of its
+-- membership bytes and the place after it; or a row that is turned back with a refusal's number
 pub data Front : Type 0 where
   ended : Front
-  held : ℕ → Bool → ℕ → ℕ → Front
+  held : Member → Bool → ℕ → ℕ → Front
   turned : ℕ → Front
 
--- document 01's number and values of the decoder's answer
+-- document 01's number and values of the decoder's answer, which has a member by its key
 abbrev pub rowGives : RowAnswer → Front
 rowGives answer.End = ended
-rowGives (answer.Row r) = held (r .key) (r .joined) (r .bits) (r .next)
+rowGives (answer.Row r) = held (keyMember (r .key)) (r .joined) (r .bits) (r .next)
 rowGives (answer.Refused n) = turned n
 
 -- the row at a place
-abbrev pub rowHeld : List ℕ → ℕ → ℕ → Front
-rowHeld b at last =
-    held (memberKey (memberOf (drop at b))) (eqb (memberKey (memberOf (drop at b))) last) (at + rowHead) (at + rowBytes edition1)
+abbrev pub rowHeld : List ℕ → ℕ → Member → Front
+rowHeld b at last = held (memberOf (drop at b)) (oneMember (memberOf (drop at b)) last) (at + rowHead) (at + rowBytes edition1)
 
--- 11 and 12 are the first of a row's tests, and ask nothing of the sheet
-abbrev pub frontTests : ℕ → List ℕ → List Test
-frontTests last b = take 2 (rowTests edition1 0 last b)
+-- 11, 15 and 12 are the first of a row's tests, and ask nothing of the sheet
+abbrev pub frontTests : Member → List ℕ → List Test
+frontTests last b = take 3 (rowTests edition1 0 last b)
 
--- what stands at a place of a register's bytes, behind a member with the key `last` (0 where no row is before)
-unfoldable pub frontAt : List ℕ → ℕ → ℕ → Front
+-- what stands at a place of a register's bytes, behind the member `last` (`noMember` where no row is before)
+unfoldable pub frontAt : List ℕ → ℕ → Member → Front
 frontAt b at last =
     cond (eqb (length (drop at b)) 0) ended
     (cond (eqb (refusal (frontTests last (drop at b))) 0) (rowHeld b at last) (turned (refusal (frontTests last (drop at b)))))
@@ -86,4 +90,4 @@ rowsGive b (rows.Refused n r) = refused n r
 -- each of the first n rows stands at its place, behind the rows before it: what is known of a register that was read
 pub record RowsReadable (b : List ℕ) (n : ℕ) : Type 0 where
   pub each : (i : ℕ) → i < n
-      → frontAt b (rowBytes edition1 * i) (lastKey (rowsBefore b i)) ≡ rowHeld b (rowBytes edition1 * i) (lastKey (rowsBefore b i))
+      → frontAt b (rowBytes edition1 * i) (lastMember (rowsBefore b i)) ≡ rowHeld b (rowBytes edition1 * i) (lastMember (rowsBefore b i))

@@ -1,20 +1,25 @@
 // One row of the lent bytes: its frame and its fields, and the bits of its membership bytes.
+use crate::limits::LEFT;
+use crate::limits::RIGHT;
 use crate::limits::ROW_BITS;
 use crate::limits::ROW_BYTES;
 use crate::limits::ROW_FRAME;
 use crate::limits::ROW_MEMBER;
+use crate::limits::ROW_SIDE;
 use crate::limits::ROW_WORDS;
 use crate::limits::WORD_BITS;
 use crate::limits::WORD_BYTES;
 use wire::bytes;
+ghost use mathlib.Core.Bool.{true};
 ghost use mathlib.Core.Path.{_≡_};
 ghost use Prim.Native.Nat.{_+_, _^_, _≤_, _<_};
-ghost use lib.ListN.{length, drop};
+ghost use lib.ListN.{length};
 ghost use Rattle.laws.specs.Digits.{digit};
 ghost use Rattle.wire.specs.Edition.{edition1, membershipBytes, rowHead, rowBytes};
-ghost use Rattle.wire.specs.Member.{memberKey};
-ghost use Rattle.wire.specs.RegisterFormat.{memberOf};
-ghost use Rattle.rows.specs.RowsRead.{held, rowGives, frontAt, bitAt, wordBits, rowWords, rowGroups, WordAt, Above};
+ghost use Rattle.wire.specs.Member.{isSide, sideOf};
+ghost use Rattle.wire.specs.MemberKey.{keyMember};
+ghost use Rattle.wire.specs.Bytes.{u32At};
+ghost use Rattle.rows.specs.RowsRead.{rowFrame, held, rowGives, frontAt, bitAt, wordBits, rowWords, rowGroups, WordAt, Above};
 
 // The key of a row's member, whether the row goes on with the member before, the place of its membership bytes, and the place
 // after the row.
@@ -25,7 +30,7 @@ pub struct RowFound {
     pub next: usize,
 }
 
-// No bytes are left; a row; or the refusal that it meets, 11 or 12.
+// No bytes are left; a row; or the refusal that it meets, 11, 15 or 12.
 pub enum RowAnswer {
     End,
     Row(RowFound),
@@ -35,7 +40,7 @@ pub enum RowAnswer {
 // what stands at a place where no whole row does
 fn no_row(register: &[u8], at: usize, last: u64) -> RowAnswer
     requires { ⌜ length (now register) < at + rowBytes edition1 ⌝ }
-    ensures { λ r. ⌜ rowGives r ≡ frontAt (now (register .entry)) at last ⌝ }
+    ensures { λ r. ⌜ rowGives r ≡ frontAt (now (register .entry)) at (keyMember last) ⌝ }
 {
     if register.len() <= at {
         return RowAnswer::End;
@@ -43,18 +48,28 @@ fn no_row(register: &[u8], at: usize, last: u64) -> RowAnswer
     RowAnswer::Refused(11)
 }
 
-// the key of the member of the row at a place
-fn key_at(register: &[u8], at: usize) -> u64
-    requires { ⌜ at + rowBytes edition1 ≤ length (now register) ⌝ }
-    ensures { λ r. ⌜ r ≡ memberKey (memberOf (drop at (now (register .entry)))) ⌝ }
+// whether a number is that of a side
+fn is_side(side: u16) -> bool
+    ensures { λ r. ⌜ r ≡ isSide side ⌝ }
 {
-    bytes::long(register, at + ROW_MEMBER) as u64
+    if side == LEFT {
+        return true;
+    }
+    side == RIGHT
+}
+
+// The key of a member: twice its number, and one more on the right.
+fn key_of(number: u32, side: u16) -> u64
+    requires { ⌜ isSide side ≡ true ⌝ }
+    ensures { λ r. ⌜ keyMember r ≡ record { number = number; side = sideOf side } ⌝ }
+{
+    2 * (number as u64) + (side as u64) - 1
 }
 
 // a row at a place
 fn row_found(at: usize, key: u64, joined: bool) -> RowAnswer
     requires { ⌜ at + rowBytes edition1 < 2 ^ 64 ⌝ }
-    ensures { λ r. ⌜ rowGives r ≡ held key joined (at + rowHead) (at + rowBytes edition1) ⌝ }
+    ensures { λ r. ⌜ rowGives r ≡ held (keyMember key) joined (at + rowHead) (at + rowBytes edition1) ⌝ }
 {
     RowAnswer::Row(RowFound {
         key,
@@ -64,9 +79,32 @@ fn row_found(at: usize, key: u64, joined: bool) -> RowAnswer
     })
 }
 
-// The row at a place, behind a member with the key `last`, 0 where no row is before.
+// the row at a place where length and kind are a row's
+fn row_framed(register: &[u8], at: usize, last: u64) -> RowAnswer
+    requires { ⌜ (at + rowBytes edition1 ≤ length (now register)) × (u32At (now register) at ≡ rowFrame) ⌝ }
+    ensures { λ r. ⌜ rowGives r ≡ frontAt (now (register .entry)) at (keyMember last) ⌝ }
+{
+    let number = bytes::long(register, at + ROW_MEMBER);
+    let side = bytes::word(register, at + ROW_SIDE);
+    if !is_side(side) {
+        return RowAnswer::Refused(15);
+    }
+    if number == 0 {
+        return RowAnswer::Refused(12);
+    }
+    let key = key_of(number, side);
+    if last < key {
+        return row_found(at, key, false);
+    }
+    if key == last {
+        return row_found(at, key, true);
+    }
+    RowAnswer::Refused(12)
+}
+
+// The row at a place, behind the member with the key `last`, 0 where no row is before.
 pub fn row_at(register: &[u8], at: usize, last: u64) -> RowAnswer
-    ensures { λ r. ⌜ rowGives r ≡ frontAt (now (register .entry)) at last ⌝ }
+    ensures { λ r. ⌜ rowGives r ≡ frontAt (now (register .entry)) at (keyMember last) ⌝ }
 {
     if register.len() < ROW_BYTES {
         return no_row(register, at, last);
@@ -77,16 +115,7 @@ pub fn row_at(register: &[u8], at: usize, last: u64) -> RowAnswer
     if bytes::long(register, at) != ROW_FRAME {
         return RowAnswer::Refused(11);
     }
-    let key = key_at(register, at);
-    if last < key {
-        return row_found(at, key, false);
-    }
-    if 0 < key {
-        if key == last {
-            return row_found(at, key, true);
-        }
-    }
-    RowAnswer::Refused(12)
+    row_framed(register, at, last)
 }
 
 // Word k of the membership bytes at a place.

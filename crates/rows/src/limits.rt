@@ -1,4 +1,4 @@
-// The capacities of a register and the layout of a row: document 01, "Registers".
+// The capacities of a register and the layout of a row: document 01, "Registers"; document 02, card 4.
 use reading::tables::GROUPS;
 
 // Most rows of a register, and the row that bytes after them count as.
@@ -6,16 +6,23 @@ pub const ROWS: usize = 2048;
 
 pub const ROW_TOO_MANY: u32 = ROWS as u32 + 1;
 
-// A row: length and kind, the member, a bit for each group. The length field counts what follows it.
+// A row: length and kind, the member, the side, a bit for each group. The length field counts what follows it.
 pub const ROW_MEMBER: usize = 4;
 
-pub const ROW_BITS: usize = 8;
+pub const ROW_SIDE: usize = 8;
+
+pub const ROW_BITS: usize = 10;
 
 pub const ROW_BYTES: usize = ROW_BITS + GROUPS as usize / 8;
 
 pub const ROW_LENGTH: u16 = ROW_BYTES as u16 - 2;
 
-pub const ROW_KIND: u16 = 32;
+pub const ROW_KIND: u16 = 33;
+
+// The sides.
+pub const LEFT: u16 = 1;
+
+pub const RIGHT: u16 = 2;
 
 // Length and kind, read as one field.
 pub const ROW_FRAME: u32 = ROW_LENGTH as u32 + 65536 * (ROW_KIND as u32);

@@ -1,4 +1,4 @@
-// All rows of a register, read to an end or to a refusal (10 to 13).
+// All rows of a register, read to an end or to a refusal (10 to 13, 15).
 use crate::decode::RowAnswer;
 use crate::decode::bit_above;
 use crate::limits::ROW_TOO_MANY;

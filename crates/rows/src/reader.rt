@@ -3,6 +3,7 @@
 use crate::decode::RowAnswer;
 use crate::decode::row_at;
 ghost use mathlib.Core.Path.{_≡_};
+ghost use Rattle.wire.specs.MemberKey.{keyMember};
 ghost use Rattle.rows.specs.RowsRead.{rowGives, frontAt};
 
 pub struct RowReader<'a> {
@@ -13,14 +14,14 @@ pub struct RowReader<'a> {
 
 // The row at the place reached, with its member's key, whether it goes on with the member before, and the place reached after it.
 pub fn next<'a>(r: RowReader<'a>) -> RowAnswer
-    ensures { λ s. ⌜ rowGives s ≡ frontAt (now (r .entry .bytes)) (r .entry .at) (r .entry .last) ⌝ }
+    ensures { λ s. ⌜ rowGives s ≡ frontAt (now (r .entry .bytes)) (r .entry .at) (keyMember (r .entry .last)) ⌝ }
 {
     row_at(r.bytes, r.at, r.last)
 }
 
 // One step of the walk, by a reader that has reached the place `at` behind a member with the key `last`.
 pub fn row_of(register: &[u8], at: usize, last: u64) -> RowAnswer
-    ensures { λ r. ⌜ rowGives r ≡ frontAt (now (register .entry)) at last ⌝ }
+    ensures { λ r. ⌜ rowGives r ≡ frontAt (now (register .entry)) at (keyMember last) ⌝ }
 {
     next(RowReader {
         bytes: register,

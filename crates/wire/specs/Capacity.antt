@@ -1,6 +1,6 @@
 -- What tables hold, and how long a readable sheet can be. No contract speaks of it.
 use Prim.Native.Nat.{ℕ, _+_, _*_}
-use Rattle.wire.specs.Limits.{nameLimit, claimLimit, sideLimit}
+use Rattle.wire.specs.Limits.{nameLimit, claimLimit, listLimit}
 use Rattle.wire.specs.Edition.{Edition, groupLimit, labelLimit}
 
 -- the groups that tables hold; no edition has more (`groups-within`)
@@ -15,7 +15,7 @@ abbrev pub groupBytes : ℕ
 groupBytes = 12
 
 abbrev pub claimBytes : ℕ
-claimBytes = 8 + 2 * (sideLimit + sideLimit)
+claimBytes = 8 + 2 * (listLimit + listLimit)
 
 -- most bytes of a name's record: length and kind (four bytes), group (two), label
 abbrev pub nameBytes : Edition → ℕ

@@ -1,4 +1,5 @@
--- The editions of the format and what each of them sets: document 01, "Records of a sheet" (kinds 1 and 3) and "Registers".
+-- The editions of the format and what each of them sets: document 01, "Records of a sheet" (kinds 1 and 3) and
+-- "Registers"; document 02, card 4 (the rows).
 -- `EditionFacts` proves what needs an edition's numbers, by clauses; everywhere else the edition stays a variable.
 use Prim.Native.Nat.{ℕ, _+_, _*_}
 
@@ -24,12 +25,13 @@ groupLimit e = 8 * membershipBytes e
 unfoldable pub labelLimit : Edition → ℕ
 labelLimit edition1 = 16
 
--- the kind of a row, its bytes before the membership bytes (length and kind, four bytes; member, four), and all its bytes
+-- the kind of a row, its bytes before the membership bytes (length and kind, four bytes; member, four; side, two), and all its
+-- bytes
 unfoldable pub rowKind : Edition → ℕ
-rowKind edition1 = 32
+rowKind edition1 = 33
 
 abbrev pub rowHead : ℕ
-rowHead = 8
+rowHead = 10
 
 abbrev pub rowBytes : Edition → ℕ
 rowBytes e = rowHead + membershipBytes e

@@ -1,17 +1,17 @@
 -- The bytes of records, sheets and registers, and which sheets and registers are within the limits: document 01, "What it reads
--- and gives", "Records of a sheet", "Registers"; document 02, cards 1 and 2. Definitions only.
+-- and gives", "Records of a sheet", "Registers"; document 02, cards 1, 2 and 4. Definitions only.
 use Prim.Native.Nat.{ℕ, _+_, _-_, _≤_, _<_}
 use mathlib.Core.Path.{_≡_}
 use mathlib.Core.Bool.{true, false}
 use mathlib.Core.List.{List·Memᴰ, List, [], _∷_, _++_, flatMap}
 use lib.ListN.{length, getD}
-use Rattle.wire.specs.Limits.{nameLimit, claimLimit, sideLimit, boundLimit, noEnd, modeLimit, rowLimit}
+use Rattle.wire.specs.Limits.{nameLimit, claimLimit, listLimit, boundLimit, noEnd, modeLimit, rowLimit}
 use Rattle.wire.specs.Edition.{Edition, editionNumber, membershipBytes, groupLimit, labelLimit, rowKind}
 use Rattle.wire.specs.Bytes.{le16, le32}
 use Rattle.wire.specs.SheetFormat.{GroupRecord, NameRecord, listNumber, ClaimRecord, count, lists, Records}
 use Rattle.wire.specs.SheetFormat.{parentAllowed, labelBytes, used, allWithin}
-use Rattle.wire.specs.Member.{Member, memberKey}
-use Rattle.wire.specs.RegisterFormat.{Row, lastKey, clearAbove}
+use Rattle.wire.specs.Member.{sideNumber, Member, precedes}
+use Rattle.wire.specs.RegisterFormat.{Row, lastMember, clearAbove}
 
 -- every element is a byte (past the end 0 stands)
 abbrev pub Bytes : List ℕ → Type 0
@@ -41,7 +41,7 @@ encodeSheet d =
     ++ (flatMap encodeGroup (d .groups) ++ (flatMap encodeName (d .names) ++ flatMap encodeClaim (d .claims)))
 
 unfoldable pub memberBytes : Member → List ℕ
-memberBytes m = le32 (m .number)
+memberBytes m = le32 (m .number) ++ le16 (sideNumber (m .side))
 
 unfoldable pub encodeRow : Edition → Row → List ℕ
 encodeRow e r = encodeRecord (rowKind e) (memberBytes (r .member) ++ r .bits)
@@ -54,7 +54,7 @@ pub data Each {A : Type 0} (P : List A → A → Type 0) : List A → List A →
   none : {xs : List A} → Each P xs []
   more : {xs ys : List A} {y : A} → P xs y → Each P (xs ++ (y ∷ [])) ys → Each P xs (y ∷ ys)
 
--- A group after the groups gs; a name after the names ns, of `groups` groups, in edition e; a side of a claim, and a claim, of
+-- A group after the groups gs; a name after the names ns, of `groups` groups, in edition e; a list of a claim, and a claim, of
 -- `names` names.
 pub record GroupRight (gs : List GroupRecord) (g : GroupRecord) : Type 0 where
   pub parent : parentAllowed (length gs + 1) (g .parent) ≡ true
@@ -68,14 +68,14 @@ pub record NameRight (e : Edition) (groups : ℕ) (ns : List NameRecord) (n : Na
   pub bytes : labelBytes (n .label) ≡ true
   pub new : used ns (n .label) ≡ false
 
-pub record SideRight (names : ℕ) (l : List ℕ) : Type 0 where
+pub record ListRight (names : ℕ) (l : List ℕ) : Type 0 where
   pub first : 1 ≤ length l
-  pub last : length l ≤ sideLimit
+  pub last : length l ≤ listLimit
   pub allowed : allWithin names l ≡ true
 
 abbrev pub ClaimRight : ℕ → List ClaimRecord → ClaimRecord → Type 0
 ClaimRight names cs (count n lo hi) = (allWithin names (n ∷ []) ≡ true) × (lo ≤ boundLimit)
-ClaimRight names cs (lists k l r) = SideRight names l × SideRight names r
+ClaimRight names cs (lists k l r) = ListRight names l × ListRight names r
 
 -- what reading ensures of any list of numbers
 pub record Right (d : Records) : Type 0 where
@@ -96,8 +96,8 @@ pub record SheetWithin (d : Records) : Type 0 where
 -- A row after the rows rs, under a sheet of edition e with `groups` groups; a member and a row whose numbers fit their fields; and
 -- rows within the limits.
 pub record RowRight (e : Edition) (groups : ℕ) (rs : List Row) (r : Row) : Type 0 where
-  pub someone : 0 < memberKey (r .member)
-  pub follows : lastKey rs ≤ memberKey (r .member)
+  pub someone : 0 < r .member .number
+  pub follows : precedes (r .member) (lastMember rs) ≡ false
   pub width : length (r .bits) ≡ membershipBytes e
   pub clear : clearAbove r groups (groupLimit e - groups) ≡ true
 

@@ -8,6 +8,7 @@ pub mod Wide
 pub mod Record
 pub mod SheetFormat
 pub mod RegisterFormat
+pub mod Ears
 pub mod Encoding
 pub mod Passing
 pub mod Many
@@ -18,4 +19,5 @@ pub mod MemberFacts
 pub mod RoundTripRegister
 pub mod RoundTripRecords
 pub mod RoundTripSheet
+pub mod MemberKey
 pub mod RowFacts

@@ -2,15 +2,15 @@
 -- "Replies". `Edition` has those that an edition sets.
 use Prim.Native.Nat.{ℕ}
 
--- most names and claims of a sheet, most names on one side of a claim
+-- most names and claims of a sheet, most names in one list of a claim
 abbrev pub nameLimit : ℕ
 nameLimit = 128
 
 abbrev pub claimLimit : ℕ
 claimLimit = 64
 
-abbrev pub sideLimit : ℕ
-sideLimit = 8
+abbrev pub listLimit : ℕ
+listLimit = 8
 
 -- the greatest bound of a count, and the field that stands for no upper end
 abbrev pub boundLimit : ℕ

@@ -1,20 +1,37 @@
--- A member as a row names it, and the key by which rows are ordered: document 01, "Registers"; document 02, card 2.
--- Whatever speaks of rows takes a member by its key; the layout of a row alone looks into it (`memberOf`, `memberBytes`).
+-- A member as a row names it, a recipient's number and a side: document 01, "Registers"; document 02, card 4 ("a bilateral
+-- recipient is two members").
 use Prim.Native.Nat.{ℕ}
-use mathlib.Core.Bool.{Bool}
-use lib.Dec.{eqb}
+use mathlib.Core.Bool.{Bool, cond, _&&_, _||_}
+use lib.Dec.{ltb, eqb}
+
+pub data Side : Type 0 where
+  left : Side
+  right : Side
+
+-- "1 left, 2 right"
+unfoldable pub sideNumber : Side → ℕ
+sideNumber left = 1
+sideNumber right = 2
+
+-- whether a side has the number n, and that side where one has it
+unfoldable pub isSide : ℕ → Bool
+isSide n = eqb n (sideNumber left) || eqb n (sideNumber right)
+
+unfoldable pub sideOf : ℕ → Side
+sideOf n = cond (eqb n (sideNumber left)) left right
 
 pub record Member : Type 0 where
   pub number : ℕ
+  pub side : Side
 
--- The key, 0 for the number 0, which no row may name ("1 upward"). No two others have one key (`key-once`).
-unfoldable pub memberKey : Member → ℕ
-memberKey m = m .number
+-- "Rows rise by member, then side": whether m precedes n
+unfoldable pub precedes : Member → Member → Bool
+precedes m n = ltb (m .number) (n .number) || eqb (m .number) (n .number) && ltb (sideNumber (m .side)) (sideNumber (n .side))
 
--- whether two rows name one member
-abbrev pub oneMember : Member → Member → Bool
-oneMember m n = eqb (memberKey m) (memberKey n)
+-- "equal pairs join": whether m and n are one member
+unfoldable pub oneMember : Member → Member → Bool
+oneMember m n = eqb (m .number) (n .number) && eqb (sideNumber (m .side)) (sideNumber (n .side))
 
--- what stands past the last member
+-- What stands before the first row and past the last member: no row may name the number 0 ("1 upward").
 abbrev pub noMember : Member
-noMember = record { number = 0 }
+noMember = record { number = 0; side = left }

@@ -1,9 +1,10 @@
 -- Tests that pass, the refusal of a list of tests, and going on after one.
-use Prim.Native.Nat.{ℕ, _≤_}
+use Prim.Native.Nat.{ℕ, zero, suc, _≤_}
 use mathlib.Core.Path.{_≡_, refl}
 use mathlib.Core.Bool.{true, false}
 use mathlib.Core.List.{List, [], _∷_}
 use native.Mathlib.Omega.{arith}
+use lib.ListN.{take}
 use lib.Dec.{eqb}
 use borrow.Author.Tests.{eqb-true, eqb-false}
 use Rattle.laws.specs.Cases.{split}
@@ -30,6 +31,19 @@ unfolding refusal
 passed [] w e = tt
 passed (test n true ∷ ts) w e = (refl, passed ts (w .1) e)
 passed (test n false ∷ ts) w e = absurd (omega arith)
+
+-- the first k tests
+pub pass-take : (k : ℕ) (ts : List Test) → Pass ts → Pass (take k ts)
+pass-take zero ts p = tt
+pass-take (suc k) [] p = tt
+pass-take (suc k) (test n ok ∷ ts) p = (p .0, pass-take k ts (p .1))
+
+pub refusal-take : (k : ℕ) (ts : List Test) → (refusal (take k ts) ≡ 0 → ⊥) → refusal ts ≡ refusal (take k ts)
+unfolding refusal
+refusal-take zero ts w = absurd (w refl)
+refusal-take (suc k) [] w = refl
+refusal-take (suc k) (test n true ∷ ts) w = refusal-take k ts w
+refusal-take (suc k) (test n false ∷ ts) w = refl
 
 -- what reading goes on to where every test passed
 pub onward-passed : {A : Type 0} (ts : List Test) (r : ℕ) (next : Reading A) → Pass ts → onward (refusal ts) r next ≡ next

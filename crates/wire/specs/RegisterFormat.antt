@@ -1,14 +1,14 @@
 -- The reading of a register's rows, to an end or to a refusal: document 01, "Registers" and "Turned back", 10 to 13;
--- document 02, card 2 (12 is kept for 0 and for a falling number).
+-- document 02, cards 2 and 4 (15 comes before 12, which is kept for the number 0 and for a falling pair).
 use Prim.Native.Nat.{ℕ, zero, suc, _+_, _-_, _/_, _%_}
-use mathlib.Core.Bool.{Bool, true, false, cond, _&&_}
+use mathlib.Core.Bool.{Bool, true, false, cond, not, _&&_}
 use mathlib.Core.List.{List, [], _∷_, _++_}
 use lib.ListN.{length, take, drop, getD}
 use lib.Dec.{leb, ltb, eqb}
 use Rattle.laws.specs.Digit.{digit}
 use Rattle.wire.specs.Limits.{rowLimit}
 use Rattle.wire.specs.Edition.{Edition, membershipBytes, groupLimit, rowKind, rowHead, rowBytes}
-use Rattle.wire.specs.Member.{Member, memberKey}
+use Rattle.wire.specs.Member.{isSide, sideOf, Member, precedes, noMember}
 use Rattle.wire.specs.Bytes.{u16At, u32At}
 use Rattle.wire.specs.Record.{Test, test, refusal, Reading, read, onward}
 
@@ -17,9 +17,12 @@ pub record Row : Type 0 where
   pub member : Member
   pub bits : List ℕ
 
--- the fields of a row
+-- the fields of a row: "member, side .., then membership"
+abbrev pub sideField : List ℕ → ℕ
+sideField b = u16At b 8
+
 unfoldable pub memberOf : List ℕ → Member
-memberOf b = record { number = u32At b 4 }
+memberOf b = record { number = u32At b 4; side = sideOf (sideField b) }
 
 unfoldable pub rowOf : Edition → List ℕ → Row
 rowOf e b = record { member = memberOf b; bits = take (membershipBytes e) (drop rowHead b) }
@@ -33,18 +36,20 @@ unfoldable pub clearAbove : Row → ℕ → ℕ → Bool
 clearAbove r groups zero = true
 clearAbove r groups (suc n) = cond (inGroup r (groups + suc n)) false (clearAbove r groups n)
 
--- the key of the last row's member, 0 where there is none
-unfoldable pub lastKey : List Row → ℕ
-lastKey [] = 0
-lastKey (r ∷ []) = memberKey (r .member)
-lastKey (r ∷ (q ∷ rs)) = lastKey (q ∷ rs)
+-- the last row's member, `noMember` where there is no row
+unfoldable pub lastMember : List Row → Member
+lastMember [] = noMember
+lastMember (r ∷ []) = r .member
+lastMember (r ∷ (q ∷ rs)) = lastMember (q ∷ rs)
 
--- The tests of a row that comes after a row whose member has the key `last`, under a sheet of edition e with `groups` groups: 11,
--- it is cut, or its kind or length is wrong; 12, its member is 0 or falls; 13, a bit above the groups is set.
-unfoldable pub rowTests : Edition → ℕ → ℕ → List ℕ → List Test
+-- The tests of a row behind the member `last` (`noMember` where no row is before), under a sheet of edition e with `groups`
+-- groups: 11, it is cut, or its kind or length is wrong; 15, its side is neither 1 nor 2; 12, its number is 0, or its pair is below
+-- `last`; 13, a bit above the groups is set.
+unfoldable pub rowTests : Edition → ℕ → Member → List ℕ → List Test
 rowTests e groups last b =
     test 11 (leb (rowBytes e) (length b) && eqb (u16At b 0) (rowBytes e - 2) && eqb (u16At b 2) (rowKind e))
-    ∷ test 12 (ltb 0 (memberKey (memberOf b)) && leb last (memberKey (memberOf b)))
+    ∷ test 15 (isSide (sideField b))
+    ∷ test 12 (ltb 0 (memberOf b .number) && not (precedes (memberOf b) last))
     ∷ test 13 (clearAbove (rowOf e b) groups (groupLimit e - groups))
     ∷ []
 
@@ -53,7 +58,7 @@ unfoldable pub readRows : Edition → ℕ → ℕ → List Row → List ℕ → 
 readRows e groups zero rs b = onward (refusal (test 10 (eqb (length b) 0) ∷ [])) (length rs + 1) (read rs)
 readRows e groups (suc left) rs b =
     cond (eqb (length b) 0) (read rs)
-    (onward (refusal (rowTests e groups (lastKey rs) b)) (length rs + 1)
+    (onward (refusal (rowTests e groups (lastMember rs) b)) (length rs + 1)
     (readRows e groups left (rs ++ (rowOf e b ∷ [])) (drop (rowBytes e) b)))
 
 -- the reading of a register's bytes, under a sheet of edition e with `groups` groups

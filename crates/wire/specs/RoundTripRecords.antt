@@ -10,7 +10,7 @@ use lib.ListN.{length, take, drop, length-append, take-append-drop}
 use lib.Seq.{drop-drop, take-append-seam}
 use lib.Dec.{leb}
 use borrow.Author.Tests.{leb-true, le-leb, eq-eqb, ne-eqb}
-use Rattle.wire.specs.Limits.{nameLimit, sideLimit, boundLimit, noEnd}
+use Rattle.wire.specs.Limits.{nameLimit, listLimit, boundLimit, noEnd}
 use Rattle.wire.specs.Capacity.{groupCapacity}
 use Rattle.wire.specs.Edition.{Edition, editionNumber, editionOf, labelLimit}
 use Rattle.wire.specs.EditionFacts.{edition-back, edition-fits, name-fits}
@@ -19,11 +19,11 @@ use Rattle.wire.specs.Record.{lengthOf, kindOf, after, framed, Test}
 use Rattle.wire.specs.SheetFormat.{HeadRecord, GroupRecord, NameRecord, listNumber, ClaimRecord, count, lists, Records}
 use Rattle.wire.specs.SheetFormat.{headTests, groupTests, nameTests, claimTests, headOf, groupOf, nameOf, claimOf}
 use Rattle.wire.specs.SheetFormat.{lastClaim, u16s, leftOf, rightOf, allWithin, claimLength, claimFields, claimNames}
-use Rattle.wire.specs.Encoding.{Bytes, GroupRight, NameRight, SideRight, ClaimRight, Right}
+use Rattle.wire.specs.Encoding.{Bytes, GroupRight, NameRight, ListRight, ClaimRight, Right}
 use Rattle.wire.specs.Encoding.{encodeRecord, encodeHead, encodeGroup, encodeName, encodeClaim}
 use Rattle.laws.specs.Cases.{and-true}
 use Rattle.wire.specs.Passing.{Pass}
-use Rattle.wire.specs.Sorts.{Framed, HeadRight, group-frame, name-frame, SidesFrame}
+use Rattle.wire.specs.Sorts.{Framed, HeadRight, group-frame, name-frame, ListsFrame}
 use Rattle.wire.specs.Sorts.{list-within, claim-cases, claim-frame, claim-count, claim-lists, length-u16s, length-label}
 use Rattle.wire.specs.Fields.{Fields, none, more, u16s-drop, u16s-le16s, length-le16, length-le16s, drop-le16, drop-le16s}
 use Rattle.wire.specs.Fields.{length-encoded, kind-encoded, body-encoded, after-encoded, framed-encoded, encode-read}
@@ -37,7 +37,7 @@ pub record FieldsOf (b : List ℕ) (kind : ℕ) (xs c : List ℕ) : Type 0 where
   pub rest : after b ≡ c
   pub fields : u16s b 4 (length xs) ≡ xs
 
-fields-encoded : (kind : ℕ) {xs : List ℕ} → kind ≤ lastClaim → length xs ≤ 2 + (sideLimit + sideLimit) → Fields xs → (c : List ℕ)
+fields-encoded : (kind : ℕ) {xs : List ℕ} → kind ≤ lastClaim → length xs ≤ 2 + (listLimit + listLimit) → Fields xs → (c : List ℕ)
     → FieldsOf (encodeRecord kind (flatMap le16 xs) ++ c) kind xs c
 fields-encoded kind {xs} k l f c =
     let n = length-le16s xs in
@@ -167,7 +167,7 @@ module _ (e : Edition) (groups : ℕ) (ns : List NameRecord) (n : NameRecord) (c
   pub name-good : Good (nameTests e groups ns) nameOf n (encodeName n ++ c) c
   name-good = (name-passes, name-value, name-framed .2)
 
--- claims: the fields of two sides
+-- claims: the fields of two lists
 u16s-append : (b : List ℕ) (i m n : ℕ) → u16s b i (m + n) ≡ u16s b i m ++ u16s b (i + 2 * m) n
 unfolding u16s
 u16s-append b i zero n = rw (zero-add n, add-zero i)
@@ -176,18 +176,18 @@ u16s-append b i (suc m) n =
     rw (suc-add m n, u16s-append b (i + 2) m n, same)
 
 -- the fields of a claim of kinds 5 to 7
-abbrev sides : List ℕ → List ℕ → List ℕ
-sides l r = length l ∷ length r ∷ l ++ r
+abbrev listFields : List ℕ → List ℕ → List ℕ
+listFields l r = length l ∷ length r ∷ l ++ r
 
-sides-fields : (b : List ℕ) → sides (leftOf b) (rightOf b) ≡ u16s b 4 (suc (suc (u16At b 4 + u16At b 6)))
+lists-fields : (b : List ℕ) → listFields (leftOf b) (rightOf b) ≡ u16s b 4 (suc (suc (u16At b 4 + u16At b 6)))
 unfolding leftOf rightOf u16s
-sides-fields b =
+lists-fields b =
     rw (length-u16s b 8 (u16At b 4), length-u16s b (8 + 2 * u16At b 4) (u16At b 6), u16s-append b 8 (u16At b 4) (u16At b 6))
 
-sides-back : (names : ℕ) (b : List ℕ) → Bytes b → Framed b → SidesFrame names b → (kind : ℕ) → kindOf b ≡ kind
-    → encodeRecord kind (flatMap le16 (sides (leftOf b) (rightOf b))) ++ after b ≡ b
-sides-back names b k f s kind e =
-    rw (sides-fields b) (fields-read b k f (suc (suc (u16At b 4 + u16At b 6))) (omega arith) kind e)
+lists-back : (names : ℕ) (b : List ℕ) → Bytes b → Framed b → ListsFrame names b → (kind : ℕ) → kindOf b ≡ kind
+    → encodeRecord kind (flatMap le16 (listFields (leftOf b) (rightOf b))) ++ after b ≡ b
+lists-back names b k f s kind e =
+    rw (lists-fields b) (fields-read b k f (suc (suc (u16At b 4 + u16At b 6))) (omega arith) kind e)
 
 count-back : (b : List ℕ) → Bytes b → Framed b → lengthOf b ≡ 8 → kindOf b ≡ 4
     → encodeClaim (count (u16At b 4) (u16At b 6) (u16At b 8)) ++ after b ≡ b
@@ -200,7 +200,7 @@ unfolding encodeClaim
 claim-back names cs b k p =
     let f = claim-frame names cs b p in
     claim-cases names cs b p (λ e s. rw (claim-count b e) (count-back b k f (s .size) e))
-    (λ j e s. rw (claim-lists b j e) (sides-back names b k f s (listNumber j) e))
+    (λ j e s. rw (claim-lists b j e) (lists-back names b k f s (listNumber j) e))
 
 -- names of claims fit two bytes
 within-fields : (n : ℕ) (xs : List ℕ) → n ≤ noEnd → allWithin n xs ≡ true → Fields xs
@@ -227,15 +227,15 @@ append-same [] (u ∷ us) l e = absurd (omega arith)
 append-same (x ∷ xs) [] l e = absurd (omega arith)
 
 -- what an encoded claim of kinds 5 to 7 has
-record SidesOf (b : List ℕ) (l r : List ℕ) : Type 0 where
+record ListsOf (b : List ℕ) (l r : List ℕ) : Type 0 where
   pub lefts : u16At b 4 ≡ length l
   pub rights : u16At b 6 ≡ length r
   pub left : leftOf b ≡ l
   pub right : rightOf b ≡ r
 
-sides-of : (b l r : List ℕ) → u16s b 4 (length (sides l r)) ≡ sides l r → SidesOf b l r
+lists-of : (b l r : List ℕ) → u16s b 4 (length (listFields l r)) ≡ listFields l r → ListsOf b l r
 unfolding u16s leftOf rightOf
-sides-of b l r e =
+lists-of b l r e =
     let m : u16At b 4 ≡ length l = cc in
     let n : u16At b 6 ≡ length r = cc in
     let both : u16s b 8 (length (l ++ r)) ≡ l ++ r = cc in
@@ -243,16 +243,16 @@ sides-of b l r e =
     (sym (u16s-append b 8 (length l) (length r)) ∙ rw (length-append l r) at both) in
     record { lefts = m; rights = n; left = rw m (s .0); right = rw (m, n) (s .1) }
 
-sides-passes : (names : ℕ) (cs : List ClaimRecord) (b l r c : List ℕ) (kind : ℕ) → 5 ≤ kind → kind ≤ lastClaim
-    → FieldsOf b kind (sides l r) c → SideRight names l → SideRight names r → Pass (claimTests names cs b)
+lists-passes : (names : ℕ) (cs : List ClaimRecord) (b l r c : List ℕ) (kind : ℕ) → 5 ≤ kind → kind ≤ lastClaim
+    → FieldsOf b kind (listFields l r) c → ListRight names l → ListRight names r → Pass (claimTests names cs b)
 unfolding claimTests claimLength claimFields claimNames
-sides-passes names cs b l r c kind five last f L R =
-    let s = sides-of b l r (f .fields) in
+lists-passes names cs b l r c kind five last f L R =
+    let s = lists-of b l r (f .fields) in
     let n = length-append l r in
     let other = ne-eqb kind 4 (omega arith) in
     let even : lengthOf b % 2 ≡ 0 = omega (arith, f .size) in
     let least : 10 ≤ lengthOf b = omega (arith, f .size, L .first, R .first) in
-    let most : lengthOf b ≤ 6 + 2 * (sideLimit + sideLimit) = omega (arith, f .size, L .last, R .last) in
+    let most : lengthOf b ≤ 6 + 2 * (listLimit + listLimit) = omega (arith, f .size, L .last, R .last) in
     let size : 6 + 2 * (length l + length r) ≡ lengthOf b = omega (arith, f .size) in (
       f .frame,
       (
@@ -297,12 +297,12 @@ count-passes names cs b c n lo hi f R =
       ),
     )
 
-sides-encoded : (names : ℕ) (l r : List ℕ) → names ≤ nameLimit → SideRight names l → SideRight names r
-    → (kind : ℕ) → kind ≤ lastClaim → (c : List ℕ) → FieldsOf (encodeRecord kind (flatMap le16 (sides l r)) ++ c) kind (sides l r) c
-sides-encoded names l r most L R kind last c =
+lists-encoded : (names : ℕ) (l r : List ℕ) → names ≤ nameLimit → ListRight names l → ListRight names r
+    → (kind : ℕ) → kind ≤ lastClaim → (c : List ℕ) → FieldsOf (encodeRecord kind (flatMap le16 (listFields l r)) ++ c) kind (listFields l r) c
+lists-encoded names l r most L R kind last c =
     let some : names ≤ noEnd = omega arith in
     let fields = fields-append (within-fields names l some (L .allowed)) (within-fields names r some (R .allowed)) in
-    let size : length (sides l r) ≤ 2 + (sideLimit + sideLimit) = omega (arith, length-append l r, L .last, R .last) in
+    let size : length (listFields l r) ≤ 2 + (listLimit + listLimit) = omega (arith, length-append l r, L .last, R .last) in
     let first : length l ≤ noEnd = omega (arith, L .last) in
     let second : length r ≤ noEnd = omega (arith, R .last) in
     fields-encoded kind last size (more first (more second fields)) c
@@ -326,9 +326,9 @@ claim-good names most cs (count n lo hi) c R e =
     (count-passes names cs _ c n lo hi f R, count-value _ c n lo hi f, f .rest)
 claim-good names most cs (lists k l r) c R e =
     let w = list-within k in
-    let f = sides-encoded names l r most (R .0) (R .1) (listNumber k) (w .1) c in
-    let s = sides-of _ l r (f .fields) in
-    (sides-passes names cs _ l r c (listNumber k) (w .0) (w .1) f (R .0) (R .1), claim-lists _ k (f .kind-is) ∙ rw (s .left, s .right), f .rest)
+    let f = lists-encoded names l r most (R .0) (R .1) (listNumber k) (w .1) c in
+    let s = lists-of _ l r (f .fields) in
+    (lists-passes names cs _ l r c (listNumber k) (w .0) (w .1) f (R .0) (R .1), claim-lists _ k (f .kind-is) ∙ rw (s .left, s .right), f .rest)
 
 -- the head
 abbrev pub headFor : Records → HeadRecord

@@ -1,27 +1,27 @@
 -- A register is read back from its encoding, and every readable register is the encoding of its rows; the numbers of a refusal.
 use Prim.Native.Nat.{ℕ, zero, suc, _+_, _-_, _≤_}
 use mathlib.Core.Path.{_≡_, refl, sym, ap, _∙_}
-use mathlib.Core.Bool.{true, _&&_}
+use mathlib.Core.Bool.{true, not, _&&_}
 use mathlib.Core.List.{List, [], _∷_, _++_, append-assoc, append-nil, flatMap}
 use native.Mathlib.Omega.{arith}
 use lib.ListN.{length, take, drop, length-take, length-drop, take-append-drop}
 use lib.Seq.{drop-drop, take-at, drop-at}
 use lib.Dec.{leb, ltb, eqb}
-use borrow.Author.Tests.{leb-true, ltb-true, eqb-true, le-leb, lt-ltb, eq-eqb, ne-eqb}
+use borrow.Author.Tests.{leb-true, ltb-true, eqb-true, not-true, le-leb, lt-ltb, eq-eqb, ne-eqb}
 use Rattle.wire.specs.Limits.{rowLimit, noEnd}
 use Rattle.wire.specs.Edition.{Edition, membershipBytes, rowKind, rowHead, rowBytes}
-use Rattle.wire.specs.Member.{memberKey}
+use Rattle.wire.specs.Member.{sideNumber, isSide, precedes}
 use Rattle.wire.specs.EditionFacts.{groups-within, row-kind-fits}
 use Rattle.wire.specs.Bytes.{u16At, le16}
 use Rattle.wire.specs.Record.{lengthOf, kindOf, after, Test, test, read}
-use Rattle.wire.specs.RegisterFormat.{Row, memberOf, rowOf, lastKey, rowTests, readRows, readRegister}
+use Rattle.wire.specs.RegisterFormat.{Row, sideField, memberOf, rowOf, lastMember, rowTests, readRows, readRegister}
 use Rattle.wire.specs.Encoding.{Bytes, Each, none, more, RowRight, RowFits, RowsWithin}
 use Rattle.wire.specs.Encoding.{encodeRecord, memberBytes, encodeRow, encodeRegister}
 use Rattle.laws.specs.Cases.{split, and-true}
 use Rattle.wire.specs.Passing.{Pass, Nonzero, onward-passed, onward-read}
 use Rattle.wire.specs.Many.{Reads, stop, go, reads-same, empty-of-length, each-both, each-read, encode-reads}
 use Rattle.wire.specs.Fields.{encode-read, length-encoded, kind-encoded, length-record}
-use Rattle.wire.specs.MemberFacts.{member-size, member-skipped, member-back, member-bytes, member-fits}
+use Rattle.wire.specs.MemberFacts.{is-side, member-size, member-skipped, side-read, member-back, member-bytes, member-fits}
 use Rattle.wire.specs.Facts.{bytes-drop, bytes-after}
 
 last-nonzero : (b : List ℕ) → Nonzero (test 10 (eqb (length b) 0) ∷ [])
@@ -41,7 +41,7 @@ bytes-take (suc n) (x ∷ b) k (suc i) = bytes-take n b (λ j. k (suc j)) i
 
 -- the tests of a row after the rows rs
 abbrev pub testsAfter : Edition → ℕ → List Row → List ℕ → List Test
-testsAfter e groups rs = rowTests e groups (lastKey rs)
+testsAfter e groups rs = rowTests e groups (lastMember rs)
 
 -- the rows of a readable register, whatever the numbers of its bytes
 pub record RowsRead (e : Edition) (groups : ℕ) (b : List ℕ) (rs : List Row) : Type 0 where
@@ -63,6 +63,10 @@ module _ (e : Edition) (groups : ℕ) where
       let size = eqb-true (u16At b 0) (rowBytes e - 2) (t .1) in
       record { whole = leb-true _ _ (t .0); size = omega arith; kind = eqb-true _ _ (s .1) }
 
+  row-sided : (rs : List Row) (b : List ℕ) → Pass (testsAfter e groups rs b) → isSide (sideField b) ≡ true
+  unfolding rowTests
+  row-sided rs b p = p .1 .0
+
   after-row : (rs : List Row) (b : List ℕ) → Pass (testsAfter e groups rs b) → drop (rowBytes e) b ≡ after b
   unfolding after
   after-row rs b p = rw (row-frame rs b p .size)
@@ -71,12 +75,12 @@ module _ (e : Edition) (groups : ℕ) where
   unfolding rowTests
   row-right rs b p =
       let f = row-frame rs b p in
-      let order = and-true (ltb 0 (memberKey (memberOf b))) (leb (lastKey rs) (memberKey (memberOf b))) (p .1 .0) in
+      let order = and-true (ltb 0 (memberOf b .number)) (not (precedes (memberOf b) (lastMember rs))) (p .1 .1 .0) in
       record {
         someone = unfold rowOf in ltb-true _ _ (order .0);
-        follows = unfold rowOf in leb-true _ _ (order .1);
+        follows = unfold rowOf in not-true (precedes (memberOf b) (lastMember rs)) (order .1);
         width = unfold rowOf in simp (length-take, length-drop) (omega arith);
-        clear = p .1 .1 .0;
+        clear = p .1 .1 .1 .0;
       }
 
   row-fits : (rs : List Row) (b : List ℕ) → Bytes b → Pass (testsAfter e groups rs b) → RowFits (rowOf e b)
@@ -97,7 +101,7 @@ module _ (e : Edition) (groups : ℕ) where
       rw (← after-row rs b p, ← drop-drop (membershipBytes e) rowHead b) (take-append-drop (membershipBytes e) (drop rowHead b)) in
       rw (← f .kind)
       (encode-read b k (omega arith) (memberBytes (memberOf b) ++ take (membershipBytes e) (drop rowHead b))
-      (rw (append-assoc, tail) (member-bytes b k (omega arith)))
+      (rw (append-assoc, tail) (member-bytes b k (omega arith) (row-sided rs b p)))
       (omega (arith, member-size (memberOf b) bits, length-take (membershipBytes e) (drop rowHead b), length-drop rowHead b)))
 
   -- an encoded row that is right passes, and is read with what follows it
@@ -145,10 +149,13 @@ module _ (e : Edition) (groups : ℕ) where
     row-passes =
         let s = row-begins in
         let member : memberOf (encodeRow e r ++ c) ≡ r .member = unfold rowOf in ap (λ q. q .member) row-back in
-        let someone = lt-ltb 0 (memberKey (r .member)) (R .someone) in
-        let follows = le-leb (lastKey rs) (memberKey (r .member)) (R .follows) in (
+        let side : sideField (encodeRow e r ++ c) ≡ sideNumber (r .member .side) =
+        rw row-bytes (side-read size (rowKind e) (r .member) (r .bits ++ c)) in (
           rw (le-leb _ _ (s .0), eq-eqb _ _ (s .1), eq-eqb _ _ (s .2)),
-          (rw (member, someone, follows), (rw row-back (R .clear), tt)),
+          (
+            rw (side, is-side (r .member .side)),
+            (rw (member, lt-ltb 0 (r .member .number) (R .someone), R .follows), (rw row-back (R .clear), tt)),
+          ),
         )
 
   -- the rows that reading took: at most `left`, behind rs, and qs in all

@@ -5,7 +5,7 @@ use mathlib.Core.Bool.{Bool, true, false, cond, _&&_, _||_, not}
 use mathlib.Core.List.{List, [], _∷_, _++_}
 use lib.ListN.{length, take, drop}
 use lib.Dec.{leb, ltb, eqb}
-use Rattle.wire.specs.Limits.{nameLimit, claimLimit, sideLimit, boundLimit, modeLimit}
+use Rattle.wire.specs.Limits.{nameLimit, claimLimit, listLimit, boundLimit, modeLimit}
 use Rattle.wire.specs.Edition.{Edition, editionNumber, editionOf, groupLimit, labelLimit}
 use Rattle.wire.specs.Bytes.{u16At}
 use Rattle.wire.specs.Record.{lengthOf, kindOf, after, framed, Test, test, refusal, Reading, read, onward}
@@ -138,11 +138,11 @@ allWithin n (x ∷ xs) = leb 1 x && leb x n && allWithin n xs
 
 unfoldable pub claimLength : List ℕ → Bool
 claimLength b = cond (eqb (kindOf b) 4) (eqb (lengthOf b) 8)
-    (eqb (lengthOf b % 2) 0 && leb 10 (lengthOf b) && leb (lengthOf b) (6 + 2 * (sideLimit + sideLimit)))
+    (eqb (lengthOf b % 2) 0 && leb 10 (lengthOf b) && leb (lengthOf b) (6 + 2 * (listLimit + listLimit)))
 
 unfoldable pub claimFields : List ℕ → Bool
 claimFields b = cond (eqb (kindOf b) 4) (leb (u16At b 6) boundLimit)
-    (leb 1 (u16At b 4) && leb (u16At b 4) sideLimit && leb 1 (u16At b 6) && leb (u16At b 6) sideLimit
+    (leb 1 (u16At b 4) && leb (u16At b 4) listLimit && leb 1 (u16At b 6) && leb (u16At b 6) listLimit
     && eqb (6 + 2 * (u16At b 4 + u16At b 6)) (lengthOf b))
 
 unfoldable pub claimNames : ℕ → List ℕ → Bool

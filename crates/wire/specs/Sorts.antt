@@ -7,14 +7,14 @@ use native.Mathlib.Omega.{arith}
 use lib.ListN.{length, length-take, length-drop}
 use lib.Dec.{leb, eqb}
 use borrow.Author.Tests.{leb-true, le-leb, eqb-true, eqb-false, not-true}
-use Rattle.wire.specs.Limits.{nameLimit, claimLimit, sideLimit, boundLimit, modeLimit}
+use Rattle.wire.specs.Limits.{nameLimit, claimLimit, listLimit, boundLimit, modeLimit}
 use Rattle.wire.specs.Edition.{Edition, editionNumber, editionOf, groupLimit, labelLimit}
 use Rattle.wire.specs.Bytes.{u16At}
 use Rattle.wire.specs.Record.{lengthOf, kindOf, framed}
 use Rattle.wire.specs.SheetFormat.{headTests, groupTests, nameTests, claimTests, groupOf, nameOf, claimOf, leftOf, rightOf}
 use Rattle.wire.specs.SheetFormat.{GroupRecord, NameRecord, ListKind, inside, apart, place, listNumber, listKindOf, ClaimRecord, count, lists}
 use Rattle.wire.specs.SheetFormat.{lastClaim, u16s, allWithin, claimLength, claimFields, claimNames}
-use Rattle.wire.specs.Encoding.{GroupRight, NameRight, SideRight, ClaimRight}
+use Rattle.wire.specs.Encoding.{GroupRight, NameRight, ListRight, ClaimRight}
 use Rattle.laws.specs.Cases.{split, and-true}
 use Rattle.wire.specs.Passing.{Pass, Nonzero}
 
@@ -130,7 +130,7 @@ name-right e groups ns b p =
       new = not-true _ (p .1 .1 .1 .1 .1 .0);
     }
 
--- a claim: its kind, its length, and for kinds 5 to 7 the two sides
+-- a claim: its kind, its length, and for kinds 5 to 7 the two lists
 pub claim-nonzero : (names : ℕ) (cs : List ClaimRecord) (b : List ℕ) → Nonzero (claimTests names cs b)
 unfolding claimTests
 claim-nonzero names cs b = omega arith
@@ -140,11 +140,11 @@ unfolding u16s
 length-u16s b i zero = refl
 length-u16s b i (suc n) = ap suc (length-u16s b (i + 2) n)
 
-pub record SidesFrame (names : ℕ) (b : List ℕ) : Type 0 where
+pub record ListsFrame (names : ℕ) (b : List ℕ) : Type 0 where
   pub leftFirst : 1 ≤ u16At b 4
-  pub leftLast : u16At b 4 ≤ sideLimit
+  pub leftLast : u16At b 4 ≤ listLimit
   pub rightFirst : 1 ≤ u16At b 6
-  pub rightLast : u16At b 6 ≤ sideLimit
+  pub rightLast : u16At b 6 ≤ listLimit
   pub size : 6 + 2 * (u16At b 4 + u16At b 6) ≡ lengthOf b
   pub leftNames : allWithin names (leftOf b) ≡ true
   pub rightNames : allWithin names (rightOf b) ≡ true
@@ -176,7 +176,7 @@ list-number n five last =
 
 -- the cases of a claim that passes
 pub claim-cases {ℓ} : {C : Type ℓ} (names : ℕ) (cs : List ClaimRecord) (b : List ℕ) → Pass (claimTests names cs b)
-    → (kindOf b ≡ 4 → CountFrame names b → C) → ((k : ListKind) → kindOf b ≡ listNumber k → SidesFrame names b → C) → C
+    → (kindOf b ≡ 4 → CountFrame names b → C) → ((k : ListKind) → kindOf b ≡ listNumber k → ListsFrame names b → C) → C
 unfolding claimTests claimLength claimFields claimNames
 claim-cases names cs b p c4 c5 =
     let s = and-true (leb 4 (kindOf b)) (leb (kindOf b) lastClaim) (p .1 .0) in
@@ -191,18 +191,18 @@ claim-cases names cs b p c4 c5 =
     (λ other.
     let least : 5 ≤ kindOf b = omega (arith, leb-true 4 (kindOf b) (s .0), eqb-false (kindOf b) 4 other) in
     c5 (listKindOf (kindOf b)) (list-number (kindOf b) least (leb-true (kindOf b) lastClaim (s .1)))
-    (sides-of (rw other at (p .1 .1 .1 .0)) (rw other at (p .1 .1 .1 .1 .0))))
+    (lists-of (rw other at (p .1 .1 .1 .0)) (rw other at (p .1 .1 .1 .1 .0))))
   where
-    sides-of : (leb 1 (u16At b 4) && leb (u16At b 4) sideLimit && leb 1 (u16At b 6) && leb (u16At b 6) sideLimit
+    lists-of : (leb 1 (u16At b 4) && leb (u16At b 4) listLimit && leb 1 (u16At b 6) && leb (u16At b 6) listLimit
         && eqb (6 + 2 * (u16At b 4 + u16At b 6)) (lengthOf b)) ≡ true
-        → (allWithin names (leftOf b) && allWithin names (rightOf b)) ≡ true → SidesFrame names b
-    sides-of h k =
-        let e = and-true (leb 1 (u16At b 4) && leb (u16At b 4) sideLimit && leb 1 (u16At b 6) && leb (u16At b 6) sideLimit)
+        → (allWithin names (leftOf b) && allWithin names (rightOf b)) ≡ true → ListsFrame names b
+    lists-of h k =
+        let e = and-true (leb 1 (u16At b 4) && leb (u16At b 4) listLimit && leb 1 (u16At b 6) && leb (u16At b 6) listLimit)
         (eqb (6 + 2 * (u16At b 4 + u16At b 6)) (lengthOf b)) h in
-        let d = and-true (leb 1 (u16At b 4) && leb (u16At b 4) sideLimit && leb 1 (u16At b 6)) (leb (u16At b 6) sideLimit)
+        let d = and-true (leb 1 (u16At b 4) && leb (u16At b 4) listLimit && leb 1 (u16At b 6)) (leb (u16At b 6) listLimit)
         (e .0) in
-        let c = and-true (leb 1 (u16At b 4) && leb (u16At b 4) sideLimit) (leb 1 (u16At b 6)) (d .0) in
-        let a = and-true (leb 1 (u16At b 4)) (leb (u16At b 4) sideLimit) (c .0) in
+        let c = and-true (leb 1 (u16At b 4) && leb (u16At b 4) listLimit) (leb 1 (u16At b 6)) (d .0) in
+        let a = and-true (leb 1 (u16At b 4)) (leb (u16At b 4) listLimit) (c .0) in
         let n = and-true (allWithin names (leftOf b)) (allWithin names (rightOf b)) k in
         record {
           leftFirst = leb-true _ _ (a .0);
@@ -225,21 +225,21 @@ claim-lists b inside e = rw e
 claim-lists b apart e = rw e
 claim-lists b place e = rw e
 
-side-right : (names : ℕ) (b : List ℕ) (i n : ℕ) → 1 ≤ n → n ≤ sideLimit → allWithin names (u16s b i n) ≡ true
-    → SideRight names (u16s b i n)
-side-right names b i n l m a =
+list-right : (names : ℕ) (b : List ℕ) (i n : ℕ) → 1 ≤ n → n ≤ listLimit → allWithin names (u16s b i n) ≡ true
+    → ListRight names (u16s b i n)
+list-right names b i n l m a =
     let size = length-u16s b i n in
     record { first = omega arith; last = omega arith; allowed = a }
 
-sides-right : (names : ℕ) (b : List ℕ) → SidesFrame names b → SideRight names (leftOf b) × SideRight names (rightOf b)
+lists-right : (names : ℕ) (b : List ℕ) → ListsFrame names b → ListRight names (leftOf b) × ListRight names (rightOf b)
 unfolding leftOf rightOf
-sides-right names b f = (
-  side-right names b 8 (u16At b 4) (f .leftFirst) (f .leftLast) (f .leftNames),
-  side-right names b (8 + 2 * u16At b 4) (u16At b 6) (f .rightFirst) (f .rightLast) (f .rightNames),
+lists-right names b f = (
+  list-right names b 8 (u16At b 4) (f .leftFirst) (f .leftLast) (f .leftNames),
+  list-right names b (8 + 2 * u16At b 4) (u16At b 6) (f .rightFirst) (f .rightLast) (f .rightNames),
 )
 
 pub claim-right : (names : ℕ) (cs : List ClaimRecord) (b : List ℕ) → Pass (claimTests names cs b)
     → ClaimRight names cs (claimOf b)
 claim-right names cs b p =
     claim-cases names cs b p (λ k f. rw (claim-count b k) (f .name, f .lo))
-    (λ k e f. rw (claim-lists b k e) (sides-right names b f))
+    (λ k e f. rw (claim-lists b k e) (lists-right names b f))

@@ -7,7 +7,7 @@ use Rattle.reading.specs.ClaimHeld.{listAs, leftNames, rightNames}
 use Rattle.reading.specs.SheetIn.{size-in}
 use Rattle.laws.specs.Cases.{and-true}
 use Rattle.claims.specs.Groups.{among-short, among-whole}
-use Rattle.claims.specs.Named.{meanings, meant-length, left-side, right-side, left-named, right-named, lists-speak, meanings-listed}
+use Rattle.claims.specs.Named.{meanings, meant-length, left-list, right-list, left-named, right-named, lists-speak, meanings-listed}
 use Rattle.claims.specs.Ways.{isPlace, tried-judged, empty-judged}
 use borrow.Author.Needs.{needs}
 use Rattle.claims.proofs.decide.judge_names.Statement.{statement}
@@ -19,7 +19,7 @@ slice-aggregate-groups-meant c = search needs
 groups-meant-requires : tie.Need-groups-meant-requires
 groups-meant-requires c κs =
     let w = c .before .before .before .before .before .before .pre .1 in
-    (left-side w, omega (arith, w .held .fewLeft))
+    (left-list w, omega (arith, w .held .fewLeft))
 
 cast-groups-meant : tie.Need-cast-groups-meant
 cast-groups-meant c = search needs
@@ -36,7 +36,7 @@ slice-aggregate-groups-meant-2 c = search needs
 groups-meant-requires-2 : tie.Need-groups-meant-requires-2
 groups-meant-requires-2 c κs =
     let w = c .before .before .before .before .before .before .before .before .before .before .before .pre .1 in
-    (right-side w, omega (arith, w .held .fewRight))
+    (right-list w, omega (arith, w .held .fewRight))
 
 lacks-member-requires : tie.Need-lacks-member-requires
 lacks-member-requires c κs = search needs

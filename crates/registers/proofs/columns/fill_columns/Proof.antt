@@ -3,10 +3,11 @@
 use borrow.Author.Needs.{needs}
 use native.Mathlib.Omega.{arith}
 use Prim.Native.Nat.{_-_, _*_, _≤_}
-use mathlib.Core.Path.{_≡_, refl, sym}
+use mathlib.Core.Path.{_≡_, refl}
 use lib.ListN.{length}
 use Rattle.wire.specs.Edition.{edition1, rowBytes}
-use Rattle.wire.specs.RegisterFormat.{lastKey}
+use Rattle.wire.specs.MemberKey.{keyMember}
+use Rattle.wire.specs.RegisterFormat.{lastMember}
 use Rattle.meaning.specs.ReadableRows.{Ordered}
 use Rattle.rows.specs.RowsRead.{rowsBefore, RowsReadable}
 use Rattle.rows.proofs.RowLaws.{held-within, last-start, Stands, row-stands, not-ended, not-refused}
@@ -17,7 +18,7 @@ use Rattle.registers.proofs.columns.fill_columns.Tie as tie
 
 abbrev Inv-loop : tie.InvT-loop
 Inv-loop register rows columns₀ at₀ last₀ members₀ row₀ columns at last members row =
-    (row ≤ rows) × ((at ≡ rowBytes edition1 * row) × ((last ≡ lastKey (rowsBefore register row))
+    (row ≤ rows) × ((at ≡ rowBytes edition1 * row) × ((keyMember last ≡ lastMember (rowsBefore register row))
     × ((length columns ≡ length columns₀) × (Ordered (rowsBefore register row) × ColumnsFilled (rowsBefore register row) members columns))))
 
 abbrev μ-loop : tie.MeasureT-loop
@@ -38,7 +39,7 @@ found c =
 
 loop-holds : tie.Need-loop-holds Inv-loop μ-loop
 loop-holds c =
-    (search needs, (omega arith, (sym (last-start _), (refl, (ordered-none-before _, columns-none _ _ (c .before .before .pre .1 .1 .1))))))
+    (search needs, (omega arith, (last-start _, (refl, (ordered-none-before _, columns-none _ _ (c .before .before .pre .1 .1 .1))))))
 
 row-of-requires : tie.Need-row-of-requires Inv-loop μ-loop
 row-of-requires c κs = search needs

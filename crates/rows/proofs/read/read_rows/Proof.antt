@@ -6,7 +6,8 @@ use mathlib.Core.Path.{_≡_, sym, _∙_}
 use native.Mathlib.Omega.{arith}
 use Rattle.wire.specs.Edition.{edition1, membershipBytes, rowBytes}
 use Rattle.wire.specs.Limits.{rowLimit}
-use Rattle.wire.specs.RegisterFormat.{lastKey, readRegister}
+use Rattle.wire.specs.MemberKey.{keyMember}
+use Rattle.wire.specs.RegisterFormat.{lastMember, readRegister}
 use Rattle.rows.specs.RowsRead.{rowsBefore}
 use Rattle.rows.proofs.RowLaws.{held-frame, held-within, going, going-start, last-start, going-end, going-refused}
 use Rattle.rows.proofs.RowLaws.{going-bits, going-on, last-row, going-full, going-over}
@@ -15,14 +16,14 @@ use Rattle.rows.proofs.read.read_rows.Tie as tie
 
 abbrev Inv-loop : tie.InvT-loop
 Inv-loop register groups at₀ last₀ row₀ at last row =
-    (row ≤ rowLimit) × (at ≡ rowBytes edition1 * row) × (last ≡ lastKey (rowsBefore register row))
+    (row ≤ rowLimit) × (at ≡ rowBytes edition1 * row) × (keyMember last ≡ lastMember (rowsBefore register row))
     × (readRegister edition1 groups register ≡ going groups register row)
 
 abbrev μ-loop : tie.MeasureT-loop
 μ-loop register groups at₀ last₀ row₀ at last row = rowLimit - row
 
 loop-holds : tie.Need-loop-holds Inv-loop μ-loop
-loop-holds c = (search needs, omega arith, sym (last-start _), going-start _ _)
+loop-holds c = (search needs, omega arith, last-start _, going-start _ _)
 
 cast-number : tie.Need-cast-number Inv-loop μ-loop
 cast-number c = search needs
@@ -84,7 +85,7 @@ loop-again c =
     let whole = rw (r .r .given .1, l .inv .1, l .inv .2) at (d .row-of .ensures) in (
       search needs,
       held-frame _ _ _ _ whole .next ∙ omega arith,
-      held-frame _ _ _ _ whole .key ∙ sym (last-row _ _),
+      held-frame _ _ _ _ whole .member ∙ sym (last-row _ _),
       l .inv .3
           ∙ going-on _ _ _ (d .before .loop-test .taken) _ whole (rw (c .if1 .left) at (c .before .bit-above .ensures)),
     )

@@ -46,6 +46,7 @@ use denote.Triple.Table.{entered, cited}
 use denote.Triple.Walked.{says, Stays, stay-none, walkOf, goes-none, Walks, ends-at, walked, walk-meets}
 use denote.Exit.{yes}
 use denote.Triple.Clauses.{ensured, lasts}
+use Rattle.wire.specs.MemberKey.{keyMember}
 use Rattle.rows.specs.RowsRead.{Front, rowGives, frontAt}
 use Rattle.rows.specs.declared.reader.RowReader.{RowReader}
 use Rattle.rows.specs.declared.decode.RowAnswer.{RowAnswer}
@@ -84,7 +85,7 @@ module _ {M : Type 1} (𝓤 : URA M) (H : Heap 𝓤) (A : Atoms 𝓤) (W : Given
   v = sliceVal (d .bytes .ptr) (length (d .bytes .now))
 
   abbrev found : Front
-  found = frontAt (now (d .bytes)) (d .at) (d .last)
+  found = frontAt (now (d .bytes)) (d .at) (keyMember (d .last))
 
   abbrev Post : Val → SProp 𝓤
   Post = walkOf 𝓤 H A next.ended stayed (next.clauses 𝓤 H A mem run) .post (((κ, tt), (q, tt), tt, (d, tt), (mach ∷ [], tt)), tt)

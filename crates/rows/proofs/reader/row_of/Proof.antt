@@ -41,6 +41,7 @@ use denote.Triple.Walked.{says, Stays, stay-none, stay-none-slice, goes-none, go
 use denote.Triple.Walked.{walkOf, Walks, ends-at, walked, walk-meets}
 use denote.Exit.{yes}
 use denote.Triple.Clauses.{ensured, lasts}
+use Rattle.wire.specs.MemberKey.{keyMember}
 use Rattle.rows.specs.RowsRead.{Front, rowGives, frontAt}
 use Rattle.rows.specs.declared.reader.RowReader.{RowReader}
 use Rattle.rows.specs.declared.decode.RowAnswer.{RowAnswer}
@@ -82,7 +83,7 @@ module _ {M : Type 1} (𝓤 : URA M) (H : Heap 𝓤) (A : Atoms 𝓤) (W : Given
   mach = T′.lowered made
 
   abbrev found : Front
-  found = frontAt (now s) n k
+  found = frontAt (now s) n (keyMember k)
 
   abbrev at : Vals row.signature (κ, tt)
   at = (v ∷ [], (vint w64 n ∷ [], (vint w64 k ∷ [], tt)))

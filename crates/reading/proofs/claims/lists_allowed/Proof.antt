@@ -1,8 +1,8 @@
--- `sides_allowed` meets its contract: each test that fails makes the whole false.
+-- `lists_allowed` meets its contract: each test that fails makes the whole false.
 use borrow.Author.Tests.{le-leb, lt-leb}
 use borrow.Author.Needs.{needs}
-use Rattle.reading.proofs.claims.sides_allowed.Statement.{statement}
-use Rattle.reading.proofs.claims.sides_allowed.Tie as tie
+use Rattle.reading.proofs.claims.lists_allowed.Statement.{statement}
+use Rattle.reading.proofs.claims.lists_allowed.Tie as tie
 
 returns : tie.Need-returns
 returns c = simp (lt-leb _ _ (c .if1 .taken))
@@ -38,7 +38,7 @@ returns-5 c = simp (
   le-leb _ _ (c .if4 .left),
 )
 
-pub sides-allowed-spec : {M : Type 1} → statement M
-sides-allowed-spec =
+pub lists-allowed-spec : {M : Type 1} → statement M
+lists-allowed-spec =
     tie.close
     (tie.spec returns returns-2 returns-3 returns-4 add-result mul-result add-result-2 returns-5)

@@ -1,4 +1,4 @@
--- `sides_refusal` meets its contract: the tests in the code's order are those of an inside or an apart.
+-- `lists_refusal` meets its contract: the tests in the code's order are those of an inside or an apart.
 use Prim.Native.Nat.{_+_, _*_}
 use mathlib.Core.Path.{_≡_, sym, _∙_}
 use mathlib.Core.Bool.{true, false, cond, _&&_}
@@ -12,10 +12,10 @@ use Rattle.wire.specs.Bytes.{u16At}
 use Rattle.wire.specs.Record.{refusal}
 use Rattle.wire.specs.SheetFormat.{claimLength, claimFields, claimNames, leftOf, rightOf, allWithin, u16s}
 use Rattle.reading.specs.Answers.{claimBody}
-use Rattle.reading.proofs.Fields.{field-at, read-at, fields-at, whole-length, sides-end}
+use Rattle.reading.proofs.Fields.{field-at, read-at, fields-at, whole-length, lists-end}
 use borrow.Author.Needs.{needs}
-use Rattle.reading.proofs.claims.sides_refusal.Statement.{statement}
-use Rattle.reading.proofs.claims.sides_refusal.Tie as tie
+use Rattle.reading.proofs.claims.lists_refusal.Statement.{statement}
+use Rattle.reading.proofs.claims.lists_refusal.Tie as tie
 
 -- kind and length
 lead : (c : tie.Start) → let r = drop (c .args .at) (now (c .args .s)) in (eqb (u16At r 2) 4 ≡ false) × (u16At r 0 ≡ c .args .len)
@@ -26,18 +26,18 @@ lead c =
     )
 
 -- the fields passed
-allowed : (c : tie.Else4) → c .before .sides-allowed .result ≡ true
-allowed c = not-false (c .before .sides-allowed .result) (c .if4 .left)
+allowed : (c : tie.Else4) → c .before .lists-allowed .result ≡ true
+allowed c = not-false (c .before .lists-allowed .result) (c .if4 .left)
 
 -- m and n give the length
 ends : (c : tie.Else4) → 6 + 2 * (c .before .before .before .word .result + c .before .before .word2 .result)
     ≡ c .before .before .before .before .before .before .before .before .args .len
-ends c = sides-end _ _ _ (sym (c .before .sides-allowed .ensures) ∙ allowed c)
+ends c = lists-end _ _ _ (sym (c .before .lists-allowed .ensures) ∙ allowed c)
 
 -- the length passed
-past : (c : tie.After-sides-allowed) → let a = c .before .before .before .before .before .before .before .args in let s = now (a .s) in
+past : (c : tie.After-lists-allowed) → let a = c .before .before .before .before .before .before .before .args in let s = now (a .s) in
     refusal (claimBody (a .names) (drop (a .at) s))
-    ≡ cond (c .sides-allowed .result)
+    ≡ cond (c .lists-allowed .result)
     (cond (allWithin (a .names) (u16s s (a .at + 8) (c .before .before .word .result))
     && allWithin (a .names) (u16s s (a .at + 8 + 2 * c .before .before .word .result) (c .before .word2 .result))) 0 5) 4
 unfolding refusal claimBody claimLength claimFields claimNames leftOf rightOf
@@ -53,7 +53,7 @@ past c =
       le-leb _ _ (c .before .before .before .if3 .left),
       read-at s (a .at) 4 _ (c .before .before .word .ensures),
       read-at s (a .at) 6 _ (c .before .word2 .ensures),
-      sym (c .sides-allowed .ensures),
+      sym (c .lists-allowed .ensures),
       fields-at,
       sym (add-assoc (a .at) 8 (2 * c .before .before .word .result)),
     )
@@ -93,11 +93,11 @@ add-word-2 c = search needs
 word-requires-2 : tie.Need-word-requires-2
 word-requires-2 c κs = search needs
 
-sides-allowed-requires : tie.Need-sides-allowed-requires
-sides-allowed-requires c κs = search needs
+lists-allowed-requires : tie.Need-lists-allowed-requires
+lists-allowed-requires c κs = search needs
 
 returns-4 : tie.Need-returns-4
-returns-4 c = simp (past (c .before), not-true (c .before .sides-allowed .result) (c .if4 .taken))
+returns-4 c = simp (past (c .before), not-true (c .before .lists-allowed .result) (c .if4 .taken))
 
 add-names-allowed : tie.Need-add-names-allowed
 add-names-allowed c = search needs
@@ -146,8 +146,8 @@ returns-7 c = simp (
   sym (c .before .names-allowed2 .ensures) ∙ not-false (c .before .names-allowed2 .result) (c .if6 .left),
 )
 
-pub sides-refusal-spec : {M : Type 1} → statement M
-sides-refusal-spec =
+pub lists-refusal-spec : {M : Type 1} → statement M
+lists-refusal-spec =
     tie.close
     (tie.spec
     returns
@@ -160,7 +160,7 @@ sides-refusal-spec =
     word-requires
     add-word-2
     word-requires-2
-    sides-allowed-requires
+    lists-allowed-requires
     returns-4
     add-names-allowed
     names-allowed-requires
