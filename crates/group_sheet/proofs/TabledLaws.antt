@@ -13,9 +13,6 @@ use Rattle.meaning.specs.OfRecords.{sheetOf}
 use Rattle.meaning.specs.Readable.{tree-of-right, rooted-of-right}
 use Rattle.reading.specs.Tables.{groupFields, groupsIn, length-groupsIn}
 use Rattle.reading.specs.SheetIn.{sheetIn, Tabled}
-use Rattle.wire.specs.Edition.{Edition, edition1, membershipBytes, groupLimit}
-use Rattle.rows.specs.RowsRead.{rowGroups}
-use Rattle.registers.specs.Tallies.{Checkable}
 use Rattle.registers.specs.SonLists.{keptSons, SonsListed}
 
 -- the groups of a readable sheet, as the table holds them
@@ -32,19 +29,6 @@ tabled b t n d e f l =
       tree = rw (← f) (tree-of-right R);
       rooted = rw (← f) (rooted-of-right R);
     }
-
--- two words hold the groups of every edition
-row-groups : (e : Edition) → groupLimit e ≤ rowGroups
-unfolding membershipBytes
-row-groups edition1 = omega arith
-
--- the groups of a readable sheet, as the check takes them
-pub checkable : (b t : List ℕ) (n : ℕ) (d : Records) → readSheet b ≡ read d → d .groups ≡ groupsIn t n
-    → groupFields * n ≤ length t → Checkable t n
-checkable b t n d e f l =
-    let R = read-right b d e in
-    let m : length (d .groups) ≡ n = ap length f ∙ length-groupsIn t n in
-    record { tabled = tabled b t n d e f l; most = omega (arith, R .groupCount, row-groups (d .edition)) }
 
 -- the list that is read off what was gathered from that table is, for each group of the sheet, its sons in number order
 -- (document 02, card 3)

@@ -15,6 +15,6 @@ pub extern "C" fn sheet_register(sheet: &[u8], register: &[u8], reply: &mut [u8]
     let mut groups = [0u16; GROUP_TABLE];
     match load_tree(sheet, &mut groups) {
         Loaded::Refused(n, record) => pack(n, record),
-        Loaded::Sheet(head) => give_check(&groups, head.groups, register, reply),
+        Loaded::Sheet(head) => give_check(&groups, head.groups, head.edition, register, reply),
     }
 }

@@ -5,16 +5,16 @@ use crate::claims;
 use crate::labels;
 use crate::tables::BOUND;
 use crate::tables::CLAIMS;
-use crate::tables::EDITION;
-use crate::tables::GROUPS;
 use crate::tables::GroupNo;
-use crate::tables::LABEL;
 use crate::tables::LAST_CLAIM;
 use crate::tables::MODE;
 use crate::tables::Meant;
 use crate::tables::NAMES;
 use crate::tables::meaning_of;
 use wire::bytes;
+use wire::edition::group_limit;
+use wire::edition::is_edition;
+use wire::edition::label_limit;
 ghost use mathlib.Core.Path.{_≡_};
 ghost use mathlib.Core.Bool.{_&&_};
 ghost use mathlib.Core.List.{List, []};
@@ -22,7 +22,7 @@ ghost use Prim.Native.Nat.{ℕ, _+_, _≤_};
 ghost use lib.ListN.{length};
 ghost use lib.Dec.{leb, eqb};
 ghost use Rattle.wire.specs.Limits.{nameLimit, claimLimit};
-ghost use Rattle.wire.specs.Edition.{editionNumber, editionOf, groupLimit, labelLimit};
+ghost use Rattle.wire.specs.Edition.{editionNumber, editionOf, groupLimit};
 ghost use Rattle.wire.specs.SheetFormat.{GroupRecord, headTests, headOf, parentAllowed, groupTests, groupOf, nameTests, nameOf};
 ghost use Rattle.reading.specs.Answers.{head, group, name, answerAs, refusalIn, FrameAt, AnswerOf, ClaimAnswer};
 
@@ -100,13 +100,13 @@ fn head_allowed(edition: u16, groups: u16, names: u16, claims: u16) -> bool
     ensures { λ r. ⌜ r ≡ (eqb edition (editionNumber (editionOf edition)) && leb 1 groups
         && leb groups (groupLimit (editionOf edition)) && leb names nameLimit && leb claims claimLimit) ⌝ }
 {
-    if edition != EDITION {
+    if !is_edition(edition) {
         return false;
     }
     if groups < 1 {
         return false;
     }
-    if GROUPS < groups {
+    if group_limit(edition) < groups {
         return false;
     }
     if NAMES < names {
@@ -187,13 +187,6 @@ pub fn read_group(s: &[u8], at: usize, number: GroupNo) -> Answer
         }));
     }
     Answer::Refused(5)
-}
-
-// most bytes of a label
-fn label_limit(edition: u16) -> u16
-    ensures { λ r. ⌜ r ≡ labelLimit (editionOf edition) ⌝ }
-{
-    LABEL
 }
 
 // The tests of a name but for the use of its label before, which the caller knows.

@@ -7,19 +7,13 @@ ghost use lib.ListN.{length, getD, set};
 ghost use lib.Seq.{sets};
 ghost use Rattle.reading.specs.Meant.{meantNumber, Means};
 
-// The limits of the format: the edition, most groups, names and claims of a sheet, most names in one list of a claim, most bytes
-// of a label, the greatest lo and the greatest mode.
-pub const EDITION: u16 = 1;
-
-pub const GROUPS: u16 = 128;
-
+// The limits of the format that hold in every edition: most names and claims of a sheet, most names in one list of a claim, the
+// greatest lo and the greatest mode.
 pub const NAMES: u16 = 128;
 
 pub const CLAIMS: u16 = 64;
 
 pub const LIST: u16 = 8;
-
-pub const LABEL: u16 = 16;
 
 pub const BOUND: u16 = 65534;
 
@@ -28,8 +22,8 @@ pub const MODE: u16 = 7;
 // The bound that stands for no upper end.
 pub const NO_END: u16 = 65535;
 
-// The groups that tables hold: a table of one number for each group has this length.
-pub const GROUP_CAPACITY: usize = 128;
+// The groups that tables hold, in every edition: a table of one number for each group has this length.
+pub const GROUP_CAPACITY: usize = 256;
 
 // How many numbers the tables have for each group and for each claim.
 pub const GROUP_FIELDS: usize = 4;

@@ -5,7 +5,7 @@ use mathlib.Core.List.{List}
 use native.Mathlib.Omega.{arith}
 use Rattle.wire.specs.Limits.{answerBytes}
 use Rattle.wire.specs.Record.{Reading, read, refused}
-use Rattle.wire.specs.Edition.{edition1}
+use Rattle.wire.specs.Edition.{Edition}
 use Rattle.wire.specs.RegisterFormat.{Row, readRegister}
 use Rattle.meaning.specs.Sheet.{Sheet}
 use Rattle.registers.specs.Checked.{GroupRule, checkGives, Checked}
@@ -15,9 +15,9 @@ use Rattle.replies.specs.Reply.{Call, OnceRoom}
 use Rattle.register_reply.specs.RegisterReply.{AnswerIn}
 
 -- the number of groups by the sheet and by its table
-pub rows-under : {s : Sheet} (b : List ℕ) {n m : ℕ} {c : Check} → m ≡ n → Checked s (readRegister edition1 n b) c
-    → Checked s (readRegister edition1 m b) c
-rows-under {s} b {c = c} e w = subst (λ k. Checked s (readRegister edition1 k b) c) (sym e) w
+pub rows-under : {s : Sheet} (ed : Edition) (b : List ℕ) {n m : ℕ} {c : Check} → m ≡ n → Checked s (readRegister ed n b) c
+    → Checked s (readRegister ed m b) c
+rows-under {s} ed b {c = c} e w = subst (λ k. Checked s (readRegister ed k b) c) (sym e) w
 
 -- the check's answer c on the rows x, by what it gives
 module _ {s : Sheet} {x : Reading (List Row)} {c : Check} (w : Checked s x c) where

@@ -6,20 +6,19 @@ use registers::check::check_register;
 use registers::limits::GROUP_PLACES;
 use replies::give_answer;
 use replies::pairs::pack;
-ghost use Rattle.wire.specs.Edition.{edition1};
-ghost use Rattle.reading.specs.SheetIn.{sheetIn};
-ghost use Rattle.registers.specs.Tallies.{Checkable};
+ghost use Rattle.wire.specs.Edition.{editionOf};
+ghost use Rattle.reading.specs.SheetIn.{sheetIn, Tabled};
 ghost use Rattle.replies.specs.Reply.{call};
 ghost use Rattle.register_reply.specs.RegisterReply.{Register};
 
-// The reply under a sheet whose groups are in the table.
-pub fn give_check(groups: &[u16], size: u16, register: &[u8], reply: &mut [u8]) -> u64
-    requires { ⌜ Checkable (now groups) size ⌝ }
-    ensures { λ r. ⌜ Register (now (register .entry)) edition1 (sheetIn (now (groups .entry)) size) (call (now (reply .entry)) r (now
-        (reply .exit))) ⌝ }
+// The reply under a sheet of this edition whose groups are in the table.
+pub fn give_check(groups: &[u16], size: u16, edition: u16, register: &[u8], reply: &mut [u8]) -> u64
+    requires { ⌜ Tabled (now groups) size ⌝ }
+    ensures { λ r. ⌜ Register (now (register .entry)) (editionOf edition) (sheetIn (now (groups .entry)) size)
+        (call (now (reply .entry)) r (now (reply .exit))) ⌝ }
 {
     let mut counts = [0u32; GROUP_PLACES];
-    match check_register(groups, size, register, &mut counts) {
+    match check_register(groups, size, edition, register, &mut counts) {
         Check::Refused(n, row) => pack(n, row),
         Check::Broken(group, rule) => give_answer(reply, group.0, rule),
         Check::Fits => give_answer(reply, 0, 0),

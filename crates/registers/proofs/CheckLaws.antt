@@ -7,7 +7,7 @@ use native.Mathlib.Omega.{arith}
 use borrow.Author.Tests.{lt-ltb, le-ltb}
 use lib.ListN.{length, getD, replicate, length-replicate, getD-replicate, List·getD-eq-default}
 use Rattle.laws.specs.SumLaws.{bit-eq}
-use Rattle.wire.specs.Edition.{edition1}
+use Rattle.wire.specs.Edition.{Edition}
 use Rattle.wire.specs.Limits.{rowLimit}
 use Rattle.wire.specs.Record.{Reading, read, refused}
 use Rattle.wire.specs.RegisterFormat.{Row, readRegister}
@@ -16,7 +16,8 @@ use Rattle.meaning.specs.Tree.{Tree}
 use Rattle.meaning.specs.OfRecords.{members, listedSets}
 use Rattle.meaning.specs.ReadableRows.{memberIn, distinct-of-readable}
 use Rattle.laws.specs.Cases.{compare-le}
-use Rattle.rows.specs.RowsRead.{wordBits, rowGroups, rowsBefore}
+use Rattle.wire.specs.Capacity.{groupCapacity}
+use Rattle.rows.specs.RowsRead.{wordBits, rowsBefore}
 use Rattle.rows.proofs.RowLaws.{rows-most}
 use Rattle.registers.specs.Columns.{columnDigit, inColumn, columnSets, columns-distinct, WordsFor, ColumnsFilled}
 use Rattle.registers.specs.ColumnSteps.{ColumnsCounted}
@@ -42,12 +43,12 @@ tallied-refused s d n k t e =
     record { counts = λ rows f. absurd (let z : _≡_ {A = ℕ} 0 1 = cc in omega arith); kept = λ m j f. refl }
 
 -- no digit is set from member n on
-pub others-none : {rs : List Row} {t : List ℕ} {n : ℕ} → ColumnsFilled rs n t → (g i : ℕ) → 1 ≤ g → g ≤ rowGroups → n ≤ i → i < rowLimit
+pub others-none : {rs : List Row} {t : List ℕ} {n : ℕ} → ColumnsFilled rs n t → (g i : ℕ) → 1 ≤ g → g ≤ groupCapacity → n ≤ i → i < rowLimit
     → columnDigit t g i ≡ 0
 others-none {rs} {n = n} f g i a c o l = f .each g i a c l ∙ (rw (le-ltb i (length (members rs)) (omega (arith, f .number))))
 
 -- the counts that were read off are those of the sets
-pub columns-counted : {rs : List Row} {t u : List ℕ} {n words : ℕ} (s : Sheet) → s .size ≤ rowGroups → ColumnsFilled rs n t → WordsFor n words
+pub columns-counted : {rs : List Row} {t u : List ℕ} {n words : ℕ} (s : Sheet) → s .size ≤ groupCapacity → ColumnsFilled rs n t → WordsFor n words
     → ColumnsCounted t (s .size) words u → Counted s (columnSets t n) u
 columns-counted {rs} {t} {u} {n} {words} s z f w c =
     record {
@@ -58,44 +59,44 @@ columns-counted {rs} {t} {u} {n} {words} s z f w c =
     }
 
 -- the members of a register that was read are no more than the most rows
-pub members-most : (groups : ℕ) (b : List ℕ) (rows : ℕ) → read (rowsBefore b rows) ≡ readRegister edition1 groups b
-    → {t : List ℕ} {n : ℕ} → ColumnsFilled (rowsBefore b rows) n t → n ≤ rowLimit
-members-most groups b rows w f = omega (arith, members-within b rows f, rows-most groups b rows w)
+pub members-most : (ed : Edition) (groups : ℕ) (b : List ℕ) (rows : ℕ) → read (rowsBefore ed b rows) ≡ readRegister ed groups b
+    → {t : List ℕ} {n : ℕ} → ColumnsFilled (rowsBefore ed b rows) n t → n ≤ rowLimit
+members-most ed groups b rows w f = omega (arith, members-within ed b rows f, rows-most ed groups b rows w)
 
 -- a register whose rows were read, and the columns of its n members
-module _ (s : Sheet) (z : s .size ≤ rowGroups) (groups : ℕ) (b : List ℕ) (rows : ℕ) (w : read (rowsBefore b rows) ≡ readRegister edition1 groups b)
-    {t : List ℕ} {n : ℕ} (f : ColumnsFilled (rowsBefore b rows) n t) where
-  columns-agree : (rs : List Row) → rowsBefore b rows ≡ rs → Agree s (columnSets t n) (listedSets rs)
+module _ (s : Sheet) (z : s .size ≤ groupCapacity) (ed : Edition) (groups : ℕ) (b : List ℕ) (rows : ℕ)
+    (w : read (rowsBefore ed b rows) ≡ readRegister ed groups b) {t : List ℕ} {n : ℕ} (f : ColumnsFilled (rowsBefore ed b rows) n t) where
+  columns-agree : (rs : List Row) → rowsBefore ed b rows ≡ rs → Agree s (columnSets t n) (listedSets rs)
   columns-agree rs e =
       let f′ = rw e at f in
       record {
         bound = f′ .number;
         groups = λ i g l y.
-            let here = f′ .each g i (y .first) (omega (arith, y .last)) (omega (arith, members-most groups b rows w f)) in
+            let here = f′ .each g i (y .first) (omega (arith, y .last)) (omega (arith, members-most ed groups b rows w f)) in
             bit-eq (inColumn t g i) (memberIn rs i g) (bit-column t g i ∙ here)
             ∙ (rw (lt-ltb i (length (members rs)) (omega (arith, f′ .number))));
       }
 
   -- the answer to the columns is the answer to the rows
-  pub checked-columns : (r : Check) → Tree s → AnswerTo s (columnSets t n) r → Checked s (readRegister edition1 groups b) r
+  pub checked-columns : (r : Check) → Tree s → AnswerTo s (columnSets t n) r → Checked s (readRegister ed groups b) r
   checked-columns r y v =
       record {
         refusal = λ m j e. absurd (let x = w ∙ e in let o : _≡_ {A = ℕ} 0 1 = cc in omega arith);
         answer = λ rs e.
-            let same : rowsBefore b rows ≡ rs = (let x = w ∙ e in cc) in
+            let same : rowsBefore ed b rows ≡ rs = (let x = w ∙ e in cc) in
             record {
               names = v .names;
               gives = v .gives;
-              answered = answered-agree s (columnSets t n) (listedSets rs) y (columns-agree rs same) (columns-distinct t n) (distinct-of-readable edition1 groups b rs e) _ _ (v .answered);
+              answered = answered-agree s (columnSets t n) (listedSets rs) y (columns-agree rs same) (columns-distinct t n) (distinct-of-readable ed groups b rs e) _ _ (v .answered);
             };
       }
 
   -- and so are the counts
-  pub tallied-columns : (v u : List ℕ) → Counted s (columnSets t n) u → Tallied s (readRegister edition1 groups b) v u
+  pub tallied-columns : (v u : List ℕ) → Counted s (columnSets t n) u → Tallied s (readRegister ed groups b) v u
   tallied-columns v u c =
       record {
         counts = λ rs e.
-            let same : rowsBefore b rows ≡ rs = (let x = w ∙ e in cc) in
+            let same : rowsBefore ed b rows ≡ rs = (let x = w ∙ e in cc) in
             record { each = λ g k. c .each g k ∙ count-agree s (columnSets t n) (listedSets rs) g (columns-agree rs same) k };
         kept = λ m j e. absurd (let x = w ∙ e in let o : _≡_ {A = ℕ} 0 1 = cc in omega arith);
       }

@@ -13,7 +13,8 @@ use Rattle.laws.specs.Sum.{bit}
 use Rattle.laws.specs.Cases.{compare-eq}
 use Rattle.laws.specs.Digits.{digit, digit-le, digit-or, digit-pow}
 use Rattle.wire.specs.Limits.{rowLimit}
-use Rattle.rows.specs.RowsRead.{wordBits, rowGroups}
+use Rattle.wire.specs.Capacity.{groupCapacity}
+use Rattle.rows.specs.RowsRead.{wordBits}
 use Rattle.registers.specs.Columns.{columnsLength, columnWord, columnDigit, inColumn}
 use Rattle.registers.specs.ColumnSteps.{GroupPut}
 
@@ -46,7 +47,7 @@ unfolding inColumn
 one-column t g i l = eq-eqb (columnDigit t g i) 1 (omega (arith, column-le t g i))
 
 -- a member's digit is set in one column
-pub group-put : (t : List ℕ) (g member : ℕ) → g ≤ rowGroups → member < rowLimit → columnsLength ≤ length t
+pub group-put : (t : List ℕ) (g member : ℕ) → g ≤ groupCapacity → member < rowLimit → columnsLength ≤ length t
     → GroupPut g member t (set t (columnWord g (member / wordBits)) (bitOr (getD t (columnWord g (member / wordBits)) 0) (2 ^ (member % wordBits))))
 unfolding columnDigit
 group-put t g member a b c =

@@ -17,7 +17,8 @@ use Rattle.laws.specs.Digits.{digit-of-zero, digit-and, digit-or}
 use Rattle.meaning.specs.Sheet.{Sheet, Group, Son}
 use Rattle.meaning.specs.SonList.{sonList, Rising}
 use Rattle.meaning.proofs.SonListLaws.{listed-son, son-listed, son-list-rises}
-use Rattle.rows.specs.RowsRead.{wordBits, rowGroups}
+use Rattle.wire.specs.Capacity.{groupCapacity}
+use Rattle.rows.specs.RowsRead.{wordBits}
 use Rattle.registers.specs.Columns.{columnWord, columnDigit, inColumn}
 use Rattle.registers.specs.SonLists.{SonsListed}
 use Rattle.registers.specs.SonSteps.{severalSons, SonsReadable}
@@ -129,7 +130,7 @@ joined-all order k to w o =
     rw (← w .whole, e, append-nil) (w .joined)
 
 -- the list of each group of the sheet can be read off
-pub sons-readable : {s : Sheet} {starts order : List ℕ} {g : ℕ} → SonsListed s starts order → s .size ≤ rowGroups → Group s g
+pub sons-readable : {s : Sheet} {starts order : List ℕ} {g : ℕ} → SonsListed s starts order → s .size ≤ groupCapacity → Group s g
     → SonsReadable starts order g
 sons-readable {s} {starts} {order} {g} w z k =
     record {

@@ -13,21 +13,23 @@ use lib.Count.{ones}
 use Rattle.laws.specs.Cases.{compare-le, compare-eq, split}
 use Rattle.laws.specs.Digits.{digit-le, digit-of-zero, digit-beyond, ones-of-zero, lowest}
 use Rattle.laws.specs.Sum.{bit}
-use Rattle.wire.specs.Edition.{edition1, rowBytes}
+use Rattle.wire.specs.Edition.{Edition, groupLimit, rowBytes}
 use Rattle.wire.specs.Member.{precedes}
 use Rattle.wire.specs.MemberKey.{one-same, rises-or-one}
 use Rattle.wire.specs.RegisterFormat.{Row, rowOf, inGroup, lastMember}
 use Rattle.meaning.specs.OfRecords.{members}
 use Rattle.meaning.specs.ReadableRows.{members-few, Ordered, ordered-none, ordered-after, members-joined, members-new, joined-in, new-in}
-use Rattle.rows.specs.RowsRead.{wordBits, rowGroups, fromRow, rowsBefore, bitsPlace, bitAt, WordAt}
+use Rattle.wire.specs.Capacity.{groupCapacity}
+use Rattle.rows.specs.RowsRead.{wordBits, rowWords, fromRow, rowsBefore, bitsPlace, bitAt, WordAt}
 use Rattle.rows.specs.declared.decode.RowFound.{RowFound}
-use Rattle.rows.proofs.RowLaws.{in-group-bit, length-rowsBefore, Stands}
+use Rattle.rows.proofs.RowBits.{words-groups}
+use Rattle.rows.proofs.RowLaws.{in-group-bit, in-group-none, length-rowsBefore, Stands}
 use Rattle.registers.specs.Columns.{columnDigit, ColumnsFilled}
 use Rattle.registers.proofs.ColumnLaws.{digit-bit}
-use Rattle.registers.specs.ColumnSteps.{LowestGroup, Put, GroupPut, wordBit, WordPut, RowPut, Empty}
+use Rattle.registers.specs.ColumnSteps.{LowestGroup, Put, GroupPut, wordBit, WordPut, firstBits, RowPut, Empty}
 
 -- what is put depends on the groups' bits alone; what is put in two steps
-put-as : {f h : ℕ → ℕ} {member : ℕ} {t u : List ℕ} → ((g : ℕ) → 1 ≤ g → g ≤ rowGroups → f g ≡ h g) → Put f member t u → Put h member t u
+put-as : {f h : ℕ → ℕ} {member : ℕ} {t u : List ℕ} → ((g : ℕ) → 1 ≤ g → g ≤ groupCapacity → f g ≡ h g) → Put f member t u → Put h member t u
 put-as {f} {h} {member} {t} {u} e p = record { each = λ g i a b l. p .each g i a b l ∙ (rw (e g a b)) }
 
 put-none : {f : ℕ → ℕ} {member : ℕ} (t : List ℕ) → ((g : ℕ) → f g ≡ 0) → Put f member t t
@@ -35,7 +37,7 @@ put-none {f} {member} t e =
     record { each = λ g i a b l. split (eqb i member) (λ x. rw (x, e g) (omega arith)) (λ x. rw x (omega arith)) }
 
 put-then : {f h k : ℕ → ℕ} {member : ℕ} {t u v : List ℕ} → Put f member t u → Put h member u v
-    → ((g : ℕ) → 1 ≤ g → g ≤ rowGroups → max (f g) (h g) ≡ k g) → Put k member t v
+    → ((g : ℕ) → 1 ≤ g → g ≤ groupCapacity → max (f g) (h g) ≡ k g) → Put k member t v
 put-then {f} {h} {k} {member} {t} {u} {v} p q e =
     record {
       each = λ g i a b l.
@@ -115,9 +117,6 @@ pub no-ones-left : (m : ℕ) → m < 2 ^ 64 → ones m ≡ 0 → m ≡ 0
 no-ones-left m l e = compare-eq m 0 (λ z. z) (λ z. absurd (omega (arith, lowest 64 m (omega arith) l .1 .fewer)))
 
 -- the first k words of a row are put
-abbrev pub firstBits : List ℕ → ℕ → ℕ → ℕ → ℕ
-firstBits b place k g = cond (ltb (g - 1) (wordBits * k)) (bitAt b place (g - 1)) 0
-
 pub bits-none : (b : List ℕ) (place member : ℕ) (t : List ℕ) → Put (firstBits b place 0) member t t
 bits-none b place member t = put-none t (λ g. rw (le-ltb (g - 1) (wordBits * 0) (omega arith)))
 
@@ -138,45 +137,43 @@ bits-more {b} {place} {k} {member} {word} p w l q = put-then p q (λ g x y. step
         (λ o. rw (lt-leb (wordBits * k + 1) g o, lt-ltb (g - 1) (wordBits * k) (omega arith), lt-ltb (g - 1) (wordBits * (k + 1)) (omega arith))
         (omega arith))
 
-pub bits-all : (b : List ℕ) (place k member : ℕ) {t u : List ℕ} → Put (firstBits b place k) member t u → rowGroups ≤ wordBits * k
-    → RowPut b place member t u
-bits-all b place k member p l = put-as (λ g x y. rw (lt-ltb (g - 1) (wordBits * k) (omega arith))) p
-
 -- the columns of no row
-pub columns-none : (b t : List ℕ) → Empty t → ColumnsFilled (rowsBefore b 0) 0 t
+pub columns-none : (ed : Edition) (b t : List ℕ) → Empty t → ColumnsFilled (rowsBefore ed b 0) 0 t
 unfolding columnDigit rowsBefore members
-columns-none b t e = record { number = refl; each = λ g i x y l. rw (le-ltb i 0 (omega arith), e .each _) (digit-of-zero _) }
+columns-none ed b t e = record { number = refl; each = λ g i x y l. rw (le-ltb i 0 (omega arith), e .each _) (digit-of-zero _) }
 
-pub ordered-none-before : (b : List ℕ) → Ordered (rowsBefore b 0)
+pub ordered-none-before : (ed : Edition) (b : List ℕ) → Ordered (rowsBefore ed b 0)
 unfolding rowsBefore
-ordered-none-before b = ordered-none
+ordered-none-before ed b = ordered-none
 
 -- no more members than rows
-pub members-within : (b : List ℕ) (row : ℕ) {t : List ℕ} {n : ℕ} → ColumnsFilled (rowsBefore b row) n t → n ≤ row
-members-within b row f = omega (arith, f .number, members-few (rowsBefore b row), length-rowsBefore b row)
+pub members-within : (ed : Edition) (b : List ℕ) (row : ℕ) {t : List ℕ} {n : ℕ} → ColumnsFilled (rowsBefore ed b row) n t → n ≤ row
+members-within ed b row f = omega (arith, f .number, members-few (rowsBefore ed b row), length-rowsBefore ed b row)
 
 pub with-row-most : (joined : Bool) (n : ℕ) → cond joined n (n + 1) ≤ n + 1
 with-row-most true n = omega arith
 with-row-most false n = omega arith
 
 -- a row more, v, behind rows that do not fall: it is joined to the row before, or its member is the next
-module _ {b : List ℕ} {row : ℕ} {v : RowFound} (s : Stands b row v) (o : Ordered (rowsBefore b row)) where
+module _ {ed : Edition} {b : List ℕ} {row : ℕ} {v : RowFound} (s : Stands ed b row v) (o : Ordered (rowsBefore ed b row)) where
   abbrev rs : List Row
-  rs = rowsBefore b row
+  rs = rowsBefore ed b row
 
   abbrev r : Row
-  r = rowOf edition1 (fromRow b row)
+  r = rowOf ed (fromRow ed b row)
 
-  rows-after : rowsBefore b (row + 1) ≡ rs ++ (r ∷ [])
+  rows-after : rowsBefore ed b (row + 1) ≡ rs ++ (r ∷ [])
   unfolding rowsBefore
   rows-after = rw (add-one row)
 
   -- the row's bits
-  bit-of : (g : ℕ) → g ≤ rowGroups → bit (inGroup r g) ≡ bitAt b (v .bits) (g - 1)
+  bit-of : (g : ℕ) → 1 ≤ g → bit (inGroup r g) ≡ firstBits b (v .bits) (rowWords ed) g
   unfolding bitAt
-  bit-of g l =
-      rw (in-group-bit b (rowBytes edition1 * row) g l, s .bits)
-      (digit-bit (bitAt b (bitsPlace row) (g - 1)) (digit-le (getD b (bitsPlace row + (g - 1) / 8) 0) ((g - 1) % 8)))
+  bit-of g a =
+      compare-le g (groupLimit ed)
+      (λ l. rw (lt-ltb (g - 1) (wordBits * rowWords ed) (omega (arith, words-groups ed)), in-group-bit ed b (rowBytes ed * row) g l, s .bits)
+      (digit-bit (bitAt b (bitsPlace ed row) (g - 1)) (digit-le (getD b (bitsPlace ed row + (g - 1) / 8) 0) ((g - 1) % 8))))
+      (λ l. rw (le-ltb (g - 1) (wordBits * rowWords ed) (omega (arith, words-groups ed)), in-group-none ed b (rowBytes ed * row) g l))
 
   is-joined : v .joined ≡ true → lastMember rs ≡ r .member
   is-joined e = sym (one-same (r .member) (lastMember rs) (sym (s .joined) ∙ e))
@@ -184,7 +181,7 @@ module _ {b : List ℕ} {row : ℕ} {v : RowFound} (s : Stands b row v) (o : Ord
   is-new : v .joined ≡ false → precedes (lastMember rs) (r .member) ≡ true
   is-new e = rises-or-one (lastMember rs) (r .member) (s .follows) (sym (s .joined) ∙ e)
 
-  pub ordered-more : Ordered (rowsBefore b (row + 1))
+  pub ordered-more : Ordered (rowsBefore ed b (row + 1))
   ordered-more = rw rows-after (ordered-after rs r o (s .some) (s .follows))
 
   -- a member is there once a row is
@@ -192,8 +189,8 @@ module _ {b : List ℕ} {row : ℕ} {v : RowFound} (s : Stands b row v) (o : Ord
   members-some e =
       split (v .joined) (λ j. rw j (omega (arith, o .some (rw (is-joined j) (s .some))))) (λ j. rw j (omega arith))
 
-  pub columns-more : {n m : ℕ} {t u : List ℕ} → ColumnsFilled rs n t → m ≡ cond (v .joined) n (n + 1) → RowPut b (v .bits) (m - 1) t u
-      → ColumnsFilled (rowsBefore b (row + 1)) m u
+  pub columns-more : {n m : ℕ} {t u : List ℕ} → ColumnsFilled rs n t → m ≡ cond (v .joined) n (n + 1) → RowPut ed b (v .bits) (m - 1) t u
+      → ColumnsFilled (rowsBefore ed b (row + 1)) m u
   columns-more {n} {m} {t} {u} f e p =
       rw rows-after
       (split (v .joined)
@@ -202,7 +199,7 @@ module _ {b : List ℕ} {row : ℕ} {v : RowFound} (s : Stands b row v) (o : Ord
         number = rw (members-joined rs r (is-joined j) (s .some)) same;
         each = λ g i x y l.
             p .each g i x y l
-            ∙ (rw (f .each g i x y l, same, ← bit-of g y) (sym (joined-in rs r o (is-joined j) (s .some) i g)));
+            ∙ (rw (f .each g i x y l, same, ← bit-of g x) (sym (joined-in rs r o (is-joined j) (s .some) i g)));
       })
       (λ j. let more : m ≡ length (members rs) + 1 = e ∙ (rw (j, f .number)) in
       let index : length (members rs) + 1 - 1 ≡ length (members rs) = omega arith in
@@ -210,5 +207,5 @@ module _ {b : List ℕ} {row : ℕ} {v : RowFound} (s : Stands b row v) (o : Ord
         number = rw (members-new rs r (is-new j), length-append (members rs) (r .member ∷ [])) more;
         each = λ g i x y l.
             p .each g i x y l
-            ∙ (rw (f .each g i x y l, more, index, ← bit-of g y) (sym (new-in rs r o (is-new j) i g)));
+            ∙ (rw (f .each g i x y l, more, index, ← bit-of g x) (sym (new-in rs r o (is-new j) i g)));
       }))

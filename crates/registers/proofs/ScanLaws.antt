@@ -11,14 +11,14 @@ use Rattle.meaning.specs.Sheet.{Sheet, Group}
 use Rattle.meaning.specs.SonList.{sonList}
 use Rattle.meaning.specs.Sets.{Sets}
 use Rattle.meaning.specs.Rule.{Rule, ruleNumber, Broken}
-use Rattle.reading.specs.SheetIn.{sheetIn, size-in, group-in, parent-in}
+use Rattle.reading.specs.SheetIn.{sheetIn, Tabled, size-in, group-in, parent-in}
 use Rattle.laws.specs.Cases.{compare-le, below-suc, true-not-false}
 use Rattle.registers.specs.Unbroken.{unbroken-fits, fits-answered, broken-answered}
 use Rattle.registers.specs.Columns.{columnSets, columns-distinct, WordsFor}
 use Rattle.registers.specs.SonLists.{keptSons}
 use Rattle.registers.specs.SonSteps.{severalSons}
 use Rattle.registers.specs.Joins.{Joined, JoinedFor}
-use Rattle.registers.specs.Tallies.{Checkable, Gathered}
+use Rattle.registers.specs.Tallies.{Gathered}
 use Rattle.registers.specs.RuleTests.{parentIn, modeIn, mayBreak, memberBreaks, SomeMember, countBreaks}
 use Rattle.registers.specs.Checked.{AnswerTo}
 use Rattle.reading.specs.declared.tables.GroupNo.{GroupNo}
@@ -72,7 +72,7 @@ rules-more : {X : Type 0} (s : Sheet) (A : Sets X) (g k : ℕ) → ClearRules s 
 rules-more s A g k c f =
     record { clear = λ q l b. below-suc (ruleNumber q) k (rw add-one at l) (λ x. f q x b) (λ x. c .clear q x b) }
 
-module _ {t : List ℕ} {n : ℕ} {c : List ℕ} {members : ℕ} {starts order counts some₀ two₀ : List ℕ} (T : Checkable t n)
+module _ {t : List ℕ} {n : ℕ} {c : List ℕ} {members : ℕ} {starts order counts some₀ two₀ : List ℕ} (T : Tabled t n)
     (G : Gathered t n c members starts order counts some₀ two₀) where
   -- nothing is broken at any group
   pub scan-fits : (g : ℕ) → n < g → ClearGroups (sheetIn t n) (columnSets c members) g
@@ -81,7 +81,7 @@ module _ {t : List ℕ} {n : ℕ} {c : List ℕ} {members : ℕ} {starts order c
       record {
         names = record { group = 0; rule = 0 };
         gives = refl;
-        answered = fits-answered (unbroken-fits (sheetIn t n) (columnSets c members) (T .tabled .tree) (columns-distinct c members)
+        answered = fits-answered (unbroken-fits (sheetIn t n) (columnSets c members) (T .tree) (columns-distinct c members)
             (λ h y q b. d .clear h y (omega (arith, y .last, size-in t n)) q b));
       }
 
@@ -92,7 +92,7 @@ module _ {t : List ℕ} {n : ℕ} {c : List ℕ} {members : ℕ} {starts order c
     group = group-in t n a b
 
     joined : (q : Rule) → 3 ≤ ruleNumber q → may (sheetIn t n) (severalSons starts g) g q ≡ true → Joined (sonList (sheetIn t n) g) c words some two
-    joined q l m = rw (← G .sons .listed g group) (sons .joined (may-asked (T .tabled) g a b _ q l m))
+    joined q l m = rw (← G .sons .listed g group) (sons .joined (may-asked T g a b _ q l m))
 
     -- no member breaks the rule
     pub rules-member : k < 5 → (to : ℕ) → wordBits * words ≤ to → ClearMembers k c some two g (parentIn t g) to
@@ -100,7 +100,7 @@ module _ {t : List ℕ} {n : ℕ} {c : List ℕ} {members : ℕ} {starts order c
     rules-member l to m d =
         rules-more (sheetIn t n) (columnSets c members) g k r
         (λ q e v.
-        let x = member-of (sheetIn t n) (T .tabled .tree) c members words some two g f (G .others) group (severalSons starts g) (two-sons (G .sons) group) joined q (omega arith) v .1 in
+        let x = member-of (sheetIn t n) (T .tree) c members words some two g f (G .others) group (severalSons starts g) (two-sons (G .sons) group) joined q (omega arith) v .1 in
         members-clash e (parent-in t n g group) d (x .0) (omega arith) (x .2))
 
     -- the rule cannot be broken at the group
@@ -108,15 +108,15 @@ module _ {t : List ℕ} {n : ℕ} {c : List ℕ} {members : ℕ} {starts order c
     rules-not l d =
         rules-more (sheetIn t n) (columnSets c members) g k r
         (λ q e v.
-        let x = member-of (sheetIn t n) (T .tabled .tree) c members words some two g f (G .others) group (severalSons starts g) (two-sons (G .sons) group) joined q (omega arith) v .0 in
-        true-not-false _ x (sym (may-is (T .tabled) g a b (severalSons starts g) q (omega arith)) ∙ (rw e d)))
+        let x = member-of (sheetIn t n) (T .tree) c members words some two g f (G .others) group (severalSons starts g) (two-sons (G .sons) group) joined q (omega arith) v .0 in
+        true-not-false _ x (sym (may-is T g a b (severalSons starts g) q (omega arith)) ∙ (rw e d)))
 
     -- the count does not break the rule
     pub rules-count : 5 ≤ k → countBreaks t (getD counts g 0) g k ≡ false
         → ClearRules (sheetIn t n) (columnSets c members) g (k + 1)
     rules-count l d =
         rules-more (sheetIn t n) (columnSets c members) g k r
-        (λ q e v. count-of (T .tabled) g a b (columnSets c members) q (getD counts g 0) (omega arith) (G .counts .each g group) (rw e d) v)
+        (λ q e v. count-of T g a b (columnSets c members) q (getD counts g 0) (omega arith) (G .counts .each g group) (rw e d) v)
 
     module _ (d : ClearGroups (sheetIn t n) (columnSets c members) g) (o : 1 ≤ k) (p : GroupNo) (e : p .0 ≡ g) where
       -- the rule is broken
@@ -142,9 +142,9 @@ module _ {t : List ℕ} {n : ℕ} {c : List ℕ} {members : ℕ} {starts order c
           let q = rule-numbered k o (omega arith) in
           let i = z .some h in
           scan-broken (q .0) (q .1)
-          (by-member (sheetIn t n) (T .tabled .tree) c members words some two g f (G .others) group (severalSons starts g) (two-sons (G .sons) group) joined
+          (by-member (sheetIn t n) (T .tree) c members words some two g f (G .others) group (severalSons starts g) (two-sons (G .sons) group) joined
           (q .0) (i .0) (omega arith) (omega arith)
-          (sym (may-is (T .tabled) g a b (severalSons starts g) (q .0) (omega arith)) ∙ (rw (← q .1) y))
+          (sym (may-is T g a b (severalSons starts g) (q .0) (omega arith)) ∙ (rw (← q .1) y))
           (rw (← q .1, parent-in t n g group) (i .3)))
 
       -- the count breaks it
@@ -153,4 +153,4 @@ module _ {t : List ℕ} {n : ℕ} {c : List ℕ} {members : ℕ} {starts order c
       scan-count l m x =
           let q = rule-numbered k o m in
           scan-broken (q .0) (q .1)
-          (by-count (T .tabled) g a b (columnSets c members) (q .0) (getD counts g 0) (omega arith) (G .counts .each g group) (rw (← q .1) x))
+          (by-count T g a b (columnSets c members) (q .0) (getD counts g 0) (omega arith) (G .counts .each g group) (rw (← q .1) x))

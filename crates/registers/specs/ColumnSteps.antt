@@ -5,12 +5,14 @@ use mathlib.Core.Path.{_≡_}
 use mathlib.Core.Bool.{cond}
 use mathlib.Core.List.{List}
 use lib.ListN.{getD}
-use lib.Dec.{leb, eqb}
+use lib.Dec.{leb, ltb, eqb}
 use lib.Bits.{bitAnd}
 use Rattle.laws.specs.Sum.{sum, bit}
 use Rattle.laws.specs.Digits.{digit, Lowest}
 use Rattle.wire.specs.Limits.{rowLimit}
-use Rattle.rows.specs.RowsRead.{wordBits, rowGroups, bitAt}
+use Rattle.wire.specs.Edition.{Edition}
+use Rattle.wire.specs.Capacity.{groupCapacity}
+use Rattle.rows.specs.RowsRead.{wordBits, rowWords, bitAt}
 use Rattle.registers.specs.Columns.{columnDigit}
 
 -- group g is the lowest set digit of a word whose digits are the groups after `before`
@@ -22,9 +24,10 @@ pub record LowestGroup (before word g : ℕ) : Type 0 where
 
 -- from t to u, the member's digit is set in the columns of the groups that have the bit f
 pub record Put (f : ℕ → ℕ) (member : ℕ) (t u : List ℕ) : Type 0 where
-  pub each : (g i : ℕ) → 1 ≤ g → g ≤ rowGroups → i < rowLimit → columnDigit u g i ≡ max (columnDigit t g i) (cond (eqb i member) (f g) 0)
+  pub each : (g i : ℕ) → 1 ≤ g → g ≤ groupCapacity → i < rowLimit → columnDigit u g i ≡ max (columnDigit t g i) (cond (eqb i member) (f g) 0)
 
--- for one group, for the digits of a word that comes after `before` groups, for the bits of the bytes from a place on
+-- for one group; for the digits of a word that comes after `before` groups; for the bits of the first k words of the bytes from a
+-- place on, and of a row
 abbrev pub GroupPut : ℕ → ℕ → List ℕ → List ℕ → Type 0
 GroupPut g = Put (λ h. bit (eqb h g))
 
@@ -34,8 +37,11 @@ wordBit word before g = cond (leb (before + 1) g) (digit word (g - 1 - before)) 
 abbrev pub WordPut : ℕ → ℕ → ℕ → List ℕ → List ℕ → Type 0
 WordPut word before = Put (wordBit word before)
 
-abbrev pub RowPut : List ℕ → ℕ → ℕ → List ℕ → List ℕ → Type 0
-RowPut b place = Put (λ g. bitAt b place (g - 1))
+abbrev pub firstBits : List ℕ → ℕ → ℕ → ℕ → ℕ
+firstBits b place k g = cond (ltb (g - 1) (wordBits * k)) (bitAt b place (g - 1)) 0
+
+abbrev pub RowPut : Edition → List ℕ → ℕ → ℕ → List ℕ → List ℕ → Type 0
+RowPut ed b place = Put (firstBits b place (rowWords ed))
 
 -- no digit is set
 pub record Empty (t : List ℕ) : Type 0 where

@@ -13,7 +13,8 @@ use Rattle.wire.specs.RegisterFormat.{Row}
 use Rattle.meaning.specs.Sets.{Sets, Distinct, numbered}
 use Rattle.meaning.specs.OfRecords.{members}
 use Rattle.meaning.specs.ReadableRows.{memberIn}
-use Rattle.rows.specs.RowsRead.{wordBits, rowGroups}
+use Rattle.wire.specs.Capacity.{groupCapacity}
+use Rattle.rows.specs.RowsRead.{wordBits}
 
 -- the words of a column: a digit for each member, who are no more than the rows
 abbrev pub columnWords : ℕ
@@ -28,7 +29,7 @@ blockMembers = wordBits * blockWords
 
 -- places of a table by group: group numbers start at 1, and place 0 is for none
 abbrev pub groupPlaces : ℕ
-groupPlaces = rowGroups + 1
+groupPlaces = groupCapacity + 1
 
 abbrev pub columnsLength : ℕ
 columnsLength = columnWords * groupPlaces
@@ -63,4 +64,4 @@ BlocksFor n blocks = WordsFor n (blockWords * blocks)
 -- the columns of n members have a digit for each member of the rows, in the groups of all its rows, and no others
 pub record ColumnsFilled (rs : List Row) (n : ℕ) (t : List ℕ) : Type 0 where
   pub number : n ≡ length (members rs)
-  pub each : (g i : ℕ) → 1 ≤ g → g ≤ rowGroups → i < rowLimit → columnDigit t g i ≡ bit (memberIn rs i g)
+  pub each : (g i : ℕ) → 1 ≤ g → g ≤ groupCapacity → i < rowLimit → columnDigit t g i ≡ bit (memberIn rs i g)

@@ -1,5 +1,4 @@
--- What the check asks of a table of groups, and what it has gathered before it looks for broken rules: the columns, each
--- group's sons, and each group's count.
+-- What the check has gathered before it looks for broken rules: the columns, each group's sons, and each group's count.
 use Prim.Native.Nat.{ℕ, _+_, _*_, _≤_, _<_}
 use mathlib.Core.Path.{_≡_}
 use mathlib.Core.List.{List}
@@ -7,16 +6,11 @@ use lib.ListN.{length, getD}
 use Rattle.wire.specs.Limits.{rowLimit}
 use Rattle.meaning.specs.Sheet.{Sheet, Group}
 use Rattle.meaning.specs.Sets.{Sets, count}
-use Rattle.reading.specs.SheetIn.{sheetIn, Tabled}
-use Rattle.rows.specs.RowsRead.{rowGroups}
+use Rattle.reading.specs.SheetIn.{sheetIn}
+use Rattle.wire.specs.Capacity.{groupCapacity}
 use Rattle.registers.specs.Columns.{columnWords, blockWords, groupPlaces, columnsLength, columnDigit, columnSets}
 use Rattle.registers.specs.SonLists.{SonsListed}
 use Rattle.registers.specs.SonSteps.{SonsReadable}
-
--- the table holds the groups of a readable sheet, and a row has a bit for each
-pub record Checkable (t : List ℕ) (n : ℕ) : Type 0 where
-  pub tabled : Tabled t n
-  pub most : n ≤ rowGroups
 
 -- places of the table that has where each group's sons begin, and where the last list ends
 abbrev pub sonStarts : ℕ
@@ -49,8 +43,8 @@ pub record Joinable (c : List ℕ) (words : ℕ) (starts order : List ℕ) (g : 
 pub record BlockAsked (c some two : List ℕ) (b g p : ℕ) : Type 0 where
   pub columns : columnsLength ≤ length c
   pub block : blockWords * (b + 1) ≤ columnWords
-  pub last : g ≤ rowGroups
-  pub parent-last : p ≤ rowGroups
+  pub last : g ≤ groupCapacity
+  pub parent-last : p ≤ groupCapacity
   pub some-words : blockWords * (b + 1) ≤ length some
   pub two-words : blockWords * (b + 1) ≤ length two
 
@@ -58,7 +52,7 @@ pub record BlockAsked (c some two : List ℕ) (b g p : ℕ) : Type 0 where
 pub record WordAsked (c some two : List ℕ) (w g p : ℕ) : Type 0 where
   pub columns : columnsLength ≤ length c
   pub word : w < columnWords
-  pub last : g ≤ rowGroups
-  pub parent-last : p ≤ rowGroups
+  pub last : g ≤ groupCapacity
+  pub parent-last : p ≤ groupCapacity
   pub some-words : w < length some
   pub two-words : w < length two

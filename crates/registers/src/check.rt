@@ -24,11 +24,11 @@ ghost use mathlib.Core.Path.{_≡_};
 ghost use Prim.Native.Nat.{_+_, _-_, _*_, _≤_, _<_};
 ghost use lib.ListN.{length, getD};
 ghost use lib.Bits.{bitAnd};
-ghost use Rattle.wire.specs.Edition.{edition1};
+ghost use Rattle.wire.specs.Edition.{editionOf};
 ghost use Rattle.wire.specs.RegisterFormat.{readRegister};
-ghost use Rattle.reading.specs.SheetIn.{sheetIn};
+ghost use Rattle.reading.specs.SheetIn.{sheetIn, Tabled};
 ghost use Rattle.registers.specs.Columns.{blockMembers, groupPlaces, columnSets};
-ghost use Rattle.registers.specs.Tallies.{Checkable, Gathered, Joinable, WordAsked, BlockAsked};
+ghost use Rattle.registers.specs.Tallies.{Gathered, Joinable, WordAsked, BlockAsked};
 ghost use Rattle.registers.specs.SonLists.{keptSons};
 ghost use Rattle.registers.specs.SonSteps.{severalSons};
 ghost use Rattle.registers.specs.Joins.{asksSons, JoinedFor};
@@ -177,7 +177,7 @@ fn scan(
     some: &mut [u64],
     two: &mut [u64],
 ) -> Check
-    requires { ⌜ Checkable (now groups) size × Gathered (now groups) size (now columns) n (now starts) (now order) (now counts) (now some) (now two) ⌝ }
+    requires { ⌜ Tabled (now groups) size × Gathered (now groups) size (now columns) n (now starts) (now order) (now counts) (now some) (now two) ⌝ }
     ensures { λ r. ⌜ AnswerTo (sheetIn (now (groups .entry)) size) (columnSets (now (columns .entry)) n) r ⌝ }
 {
     let mut answer = Check::Fits;
@@ -211,19 +211,25 @@ fn scan(
 
 // The sons are gathered before the first row is read, and all rows are read before any rule is looked at. Of a register that is
 // read the count of each group is left in the table.
-pub fn check_register(groups: &[u16], size: u16, register: &[u8], counts: &mut [u32]) -> Check
-    requires { ⌜ Checkable (now groups) size × (groupPlaces ≤ length (now counts)) ⌝ }
-    ensures { λ r. ⌜ Checked (sheetIn (now (groups .entry)) size) (readRegister edition1 size (now (register .entry))) r
-        × Tallied (sheetIn (now (groups .entry)) size) (readRegister edition1 size (now (register .entry))) (now (counts .entry)) (now (counts .exit)) ⌝ }
+pub fn check_register(
+    groups: &[u16],
+    size: u16,
+    edition: u16,
+    register: &[u8],
+    counts: &mut [u32],
+) -> Check
+    requires { ⌜ Tabled (now groups) size × (groupPlaces ≤ length (now counts)) ⌝ }
+    ensures { λ r. ⌜ Checked (sheetIn (now (groups .entry)) size) (readRegister (editionOf edition) size (now (register .entry))) r
+        × Tallied (sheetIn (now (groups .entry)) size) (readRegister (editionOf edition) size (now (register .entry))) (now (counts .entry)) (now (counts .exit)) ⌝ }
 {
     let mut starts = [0u32; SON_STARTS];
     let mut order = [0u16; SONS];
     gather_sons(groups, size, &mut starts, &mut order);
-    match read_rows(register, size) {
+    match read_rows(register, edition, size) {
         Rows::Refused(refusal, row) => Check::Refused(refusal, row),
         Rows::Count(rows) => {
             let mut columns = [0u64; COLUMNS];
-            let n = fill_columns(register, rows, &mut columns);
+            let n = fill_columns(register, edition, rows, &mut columns);
             count_groups(&columns, size, BLOCK_WORDS * blocks_for(n), counts);
             let mut some = [0u64; COLUMN_WORDS];
             let mut two = [0u64; COLUMN_WORDS];

@@ -6,8 +6,8 @@ use crate::limits::COLUMN_WORDS;
 use reading::tables::GroupNo;
 use rows::decode::RowAnswer;
 use rows::decode::word_at;
-use rows::limits::ROW_WORDS;
 use rows::limits::WORD_BITS;
+use rows::limits::row_words;
 use rows::reader::row_of;
 ghost use mathlib.Core.Path.{_≡_};
 ghost use mathlib.Core.Bool.{cond};
@@ -17,8 +17,9 @@ ghost use lib.Bits.{bitAnd};
 ghost use lib.Count.{ones};
 ghost use Rattle.laws.specs.Digits.{Lowest};
 ghost use Rattle.wire.specs.Limits.{rowLimit};
-ghost use Rattle.wire.specs.Edition.{edition1, membershipBytes};
-ghost use Rattle.rows.specs.RowsRead.{wordBits, rowGroups, rowsBefore, RowsReadable};
+ghost use Rattle.wire.specs.Edition.{editionOf, membershipBytes};
+ghost use Rattle.wire.specs.Capacity.{groupCapacity};
+ghost use Rattle.rows.specs.RowsRead.{wordBits, rowsBefore, RowsReadable};
 ghost use Rattle.registers.specs.Columns.{columnsLength, columnWord, BlocksFor, ColumnsFilled};
 ghost use Rattle.registers.specs.ColumnSteps.{LowestGroup, GroupPut, WordPut, RowPut, Empty};
 
@@ -39,7 +40,7 @@ fn lowest_of(word: u64) -> u32
 
 // the group of that bit, `before` groups being in the words below
 fn lowest_group(word: u64, before: u16) -> GroupNo
-    requires { ⌜ (0 < word) × (before ≤ rowGroups) ⌝ }
+    requires { ⌜ (0 < word) × (before ≤ groupCapacity) ⌝ }
     ensures { λ r. ⌜ LowestGroup before word (r .0) ⌝ }
 {
     GroupNo(before + lowest_of(word) as u16 + 1)
@@ -71,7 +72,7 @@ pub fn blocks_for(n: usize) -> usize
 
 // a member's bit in a group's column
 fn put_group(columns: &mut [u64], g: GroupNo, member: usize)
-    requires { ⌜ (g .0 ≤ rowGroups) × ((member < rowLimit) × (columnsLength ≤ length (now columns))) ⌝ }
+    requires { ⌜ (g .0 ≤ groupCapacity) × ((member < rowLimit) × (columnsLength ≤ length (now columns))) ⌝ }
     ensures { λ _. ⌜ GroupPut (g .0) member (now (columns .entry)) (now (columns .exit)) ⌝ }
 {
     let at = COLUMN_WORDS * (g.0 as usize) + member / WORD_BITS as usize;
@@ -80,7 +81,7 @@ fn put_group(columns: &mut [u64], g: GroupNo, member: usize)
 
 // a member's bit in the columns of the groups of one word
 fn put_word(word: u64, before: u16, member: usize, columns: &mut [u64])
-    requires { ⌜ (before + wordBits ≤ rowGroups) × ((member < rowLimit) × (columnsLength ≤ length (now columns))) ⌝ }
+    requires { ⌜ (before + wordBits ≤ groupCapacity) × ((member < rowLimit) × (columnsLength ≤ length (now columns))) ⌝ }
     ensures { λ _. ⌜ WordPut word before member (now (columns .entry)) (now (columns .exit)) ⌝ }
 {
     let mut left = word;
@@ -93,11 +94,11 @@ fn put_word(word: u64, before: u16, member: usize, columns: &mut [u64])
 }
 
 // a member's bit in the columns of the groups of one of its rows
-fn put_row(register: &[u8], place: usize, member: usize, columns: &mut [u64])
-    requires { ⌜ (place + membershipBytes edition1 ≤ length (now register)) × ((member < rowLimit) × (columnsLength ≤ length (now columns))) ⌝ }
-    ensures { λ _. ⌜ RowPut (now (register .entry)) place member (now (columns .entry)) (now (columns .exit)) ⌝ }
+fn put_row(register: &[u8], edition: u16, place: usize, member: usize, columns: &mut [u64])
+    requires { ⌜ (place + membershipBytes (editionOf edition) ≤ length (now register)) × ((member < rowLimit) × (columnsLength ≤ length (now columns))) ⌝ }
+    ensures { λ _. ⌜ RowPut (editionOf edition) (now (register .entry)) place member (now (columns .entry)) (now (columns .exit)) ⌝ }
 {
-    for k in 0..ROW_WORDS {
+    for k in 0..row_words(edition) {
         put_word(word_at(register, place, k), WORD_BITS * k, member, columns);
     }
 }
@@ -115,18 +116,18 @@ fn with_row(members: usize, joined: bool) -> usize
 
 // The columns of the rows of a register that was read, and how many members they have: the reader walks them again, finds each at
 // its place, and tells which go on with the member before.
-pub fn fill_columns(register: &[u8], rows: usize, columns: &mut [u64]) -> usize
-    requires { ⌜ (rows ≤ rowLimit) × (RowsReadable (now register) rows × ((columnsLength ≤ length (now columns)) × Empty (now columns))) ⌝ }
-    ensures { λ n. ⌜ ColumnsFilled (rowsBefore (now (register .entry)) rows) n (now (columns .exit)) ⌝ }
+pub fn fill_columns(register: &[u8], edition: u16, rows: usize, columns: &mut [u64]) -> usize
+    requires { ⌜ (rows ≤ rowLimit) × (RowsReadable (editionOf edition) (now register) rows × ((columnsLength ≤ length (now columns)) × Empty (now columns))) ⌝ }
+    ensures { λ n. ⌜ ColumnsFilled (rowsBefore (editionOf edition) (now (register .entry)) rows) n (now (columns .exit)) ⌝ }
 {
     let mut at = 0;
     let mut last = 0u64;
     let mut members = 0;
     for row in 0..rows {
-        match row_of(register, at, last) {
+        match row_of(register, edition, at, last) {
             RowAnswer::Row(r) => {
                 members = with_row(members, r.joined);
-                put_row(register, r.bits, members - 1, columns);
+                put_row(register, edition, r.bits, members - 1, columns);
                 last = r.key;
                 at = r.next;
             }

@@ -5,7 +5,8 @@ ghost use mathlib.Core.Path.{_≡_};
 ghost use Prim.Native.Nat.{_*_, _≤_, _<_};
 ghost use lib.ListN.{length, getD, set};
 ghost use Rattle.laws.specs.Sum.{sum};
-ghost use Rattle.rows.specs.RowsRead.{wordBits, rowGroups};
+ghost use Rattle.wire.specs.Capacity.{groupCapacity};
+ghost use Rattle.rows.specs.RowsRead.{wordBits};
 ghost use Rattle.registers.specs.Columns.{columnWords, columnsLength, columnDigit};
 ghost use Rattle.registers.specs.ColumnSteps.{ColumnsCounted};
 
@@ -28,7 +29,7 @@ fn put_count(counts: &mut [u32], g: GroupNo, n: u32)
 
 // the ones of the first words of a group's column, added up in 64 bits, which is a little quicker than in 32
 fn count_column(columns: &[u64], g: GroupNo, words: usize) -> u32
-    requires { ⌜ (g .0 ≤ rowGroups) × ((words ≤ columnWords) × (columnsLength ≤ length (now columns))) ⌝ }
+    requires { ⌜ (g .0 ≤ groupCapacity) × ((words ≤ columnWords) × (columnsLength ≤ length (now columns))) ⌝ }
     ensures { λ r. ⌜ r ≡ sum (columnDigit (now (columns .entry)) (g .0)) (wordBits * words) ⌝ }
 {
     let mut n = 0u64;
@@ -40,7 +41,7 @@ fn count_column(columns: &[u64], g: GroupNo, words: usize) -> u32
 
 // the count of each group
 pub fn count_groups(columns: &[u64], size: u16, words: usize, counts: &mut [u32])
-    requires { ⌜ (size ≤ rowGroups) × ((words ≤ columnWords) × ((columnsLength ≤ length (now columns)) × (size < length (now counts)))) ⌝ }
+    requires { ⌜ (size ≤ groupCapacity) × ((words ≤ columnWords) × ((columnsLength ≤ length (now columns)) × (size < length (now counts)))) ⌝ }
     ensures { λ _. ⌜ ColumnsCounted (now (columns .entry)) size words (now (counts .exit)) ⌝ }
 {
     let end = size + 1;

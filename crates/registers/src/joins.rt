@@ -4,7 +4,7 @@ use crate::sons::start_at;
 use reading::tables::GroupNo;
 ghost use Prim.Native.Nat.{_≤_};
 ghost use lib.ListN.{length};
-ghost use Rattle.rows.specs.RowsRead.{rowGroups};
+ghost use Rattle.wire.specs.Capacity.{groupCapacity};
 ghost use Rattle.registers.specs.Columns.{columnWords, columnsLength};
 ghost use Rattle.registers.specs.SonLists.{keptSons};
 ghost use Rattle.registers.specs.SonSteps.{SonsReadable};
@@ -23,7 +23,7 @@ fn clear(words: usize, some: &mut [u64], two: &mut [u64])
 
 // the column of one son more
 fn join_column(columns: &[u64], son: GroupNo, words: usize, some: &mut [u64], two: &mut [u64])
-    requires { ⌜ (son .0 ≤ rowGroups) × ((words ≤ columnWords) × ((columnsLength ≤ length (now columns)) × ((words ≤ length (now some)) × (words ≤ length (now two))))) ⌝ }
+    requires { ⌜ (son .0 ≤ groupCapacity) × ((words ≤ columnWords) × ((columnsLength ≤ length (now columns)) × ((words ≤ length (now some)) × (words ≤ length (now two))))) ⌝ }
     ensures { λ _. ⌜ ColumnJoined (now (columns .entry)) (son .0) words (now (some .entry)) (now (two .entry)) (now (some .exit)) (now (two .exit)) ⌝ }
 {
     for w in 0..words {

@@ -1,10 +1,10 @@
 // The lengths of the check's tables.
-use reading::tables::GROUPS;
+use reading::tables::GROUP_CAPACITY;
 use rows::limits::ROWS;
 use rows::limits::WORD_BITS;
 
 // Places by a group's number, 0 for none.
-pub const GROUP_PLACES: usize = GROUPS as usize + 1;
+pub const GROUP_PLACES: usize = GROUP_CAPACITY + 1;
 
 // A column has a bit for each member, of whom there are no more than rows, and the table of columns one column for each place.
 pub const COLUMN_WORDS: usize = ROWS / WORD_BITS as usize;
@@ -20,4 +20,4 @@ pub const BLOCK_MEMBERS: usize = BLOCK_WORDS * WORD_BITS as usize;
 // the groups.
 pub const SON_STARTS: usize = GROUP_PLACES + 1;
 
-pub const SONS: usize = GROUPS as usize;
+pub const SONS: usize = GROUP_CAPACITY;

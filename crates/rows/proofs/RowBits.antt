@@ -10,9 +10,20 @@ use lib.ListN.{getD}
 use lib.Dec.{eqb}
 use Rattle.laws.specs.Cases.{compare-le}
 use Rattle.laws.specs.Digits.{digit, digit-low, digit-shift, digit-none, digit-some}
+use Rattle.wire.specs.Edition.{Edition, edition1, edition2, groupLimit, membershipBytes}
+use Rattle.wire.specs.EditionFacts.{group-bits}
 use Rattle.wire.specs.Wide.{u64At, bytesAt, u64-bytes}
 use Rattle.wire.specs.Encoding.{Bytes}
-use Rattle.rows.specs.RowsRead.{wordBits, bitAt, WordAt, Above}
+use Rattle.rows.specs.RowsRead.{wordBytes, wordBits, rowWords, bitAt, WordAt, Above}
+
+-- the words of a row have a bit for each group, and are its membership bytes
+pub words-groups : (ed : Edition) → groupLimit ed ≡ wordBits * rowWords ed
+unfolding rowWords groupLimit
+words-groups edition1 = refl
+words-groups edition2 = refl
+
+pub words-bytes : (ed : Edition) → membershipBytes ed ≡ wordBytes * rowWords ed
+words-bytes ed = omega (arith, words-groups ed, group-bits ed)
 
 -- bits counted from n bytes further on
 bit-on : (b : List ℕ) (place n j : ℕ) → bitAt b (place + n) j ≡ bitAt b place (8 * n + j)
@@ -79,6 +90,10 @@ above-on {b} {place} {groups} {k} {word} c w a =
           rw s (sym (w .each (j - wordBits * k) (omega arith)) ∙ a .none e (j - wordBits * k) (omega arith) (omega arith)))
           (λ o. c .none refl j l o);
     }
+
+-- where no bit is found, none is among fewer
+pub above-fewer : {f : ℕ → ℕ} {groups m n : ℕ} → m ≤ n → Above groups 0 n f false → Above groups 0 m f false
+above-fewer l a = record { some = λ e. absurd (false≢true e); none = λ e j b k. a .none refl j b (omega arith) }
 
 -- a bit that is found stays found
 pub above-more : {f : ℕ → ℕ} {groups m n : ℕ} → m ≤ n → Above groups 0 m f true → Above groups 0 n f true

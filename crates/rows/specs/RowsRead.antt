@@ -1,4 +1,4 @@
--- What the row decoder gives, and what reading all rows gives.
+-- What the row decoder gives, and what reading all rows gives, under a sheet of either edition.
 use Prim.Native.Nat.{ℕ, zero, suc, _+_, _-_, _*_, _/_, _%_, _≤_, _<_}
 use mathlib.Core.Path.{_≡_}
 use mathlib.Core.Bool.{Bool, true, false, cond}
@@ -6,7 +6,7 @@ use mathlib.Core.List.{List, [], _∷_, _++_}
 use lib.ListN.{length, take, drop, getD}
 use lib.Dec.{eqb}
 use Rattle.laws.specs.Digits.{digit}
-use Rattle.wire.specs.Edition.{edition1, rowKind, rowHead, rowBytes}
+use Rattle.wire.specs.Edition.{Edition, groupLimit, rowKind, rowLength, rowBytes, rowHead}
 use Rattle.wire.specs.Record.{Test, refusal, Reading, read, refused}
 use Rattle.wire.specs.Member.{Member, oneMember}
 use Rattle.wire.specs.MemberKey.{keyMember}
@@ -16,19 +16,19 @@ use Rattle.rows.specs.declared.decode.RowAnswer.the-variants as answer
 use Rattle.rows.specs.declared.read.Rows.{Rows}
 use Rattle.rows.specs.declared.read.Rows.the-variants as rows
 
--- a word of membership bytes has a bit for each of 64 groups, and two words have those of a row
+-- a word of membership bytes has eight of them, a bit for each of 64 groups, and so many words have those of a row
+abbrev pub wordBytes : ℕ
+wordBytes = 8
+
 abbrev pub wordBits : ℕ
 wordBits = 64
 
-abbrev pub rowWords : ℕ
-rowWords = 2
-
-abbrev pub rowGroups : ℕ
-rowGroups = rowWords * wordBits
+unfoldable pub rowWords : Edition → ℕ
+rowWords e = groupLimit e / wordBits
 
 -- a row's length and kind, read as one field
-abbrev pub rowFrame : ℕ
-rowFrame = rowBytes edition1 - 2 + 65536 * rowKind edition1
+abbrev pub rowFrame : Edition → ℕ
+rowFrame e = rowLength e + 65536 * rowKind e
 
 -- what stands at a place: no bytes at all; a row, with its member, whether it goes on with the member before, the place of its
 -- membership bytes and the place after it; or a row that is turned back with a refusal's number
@@ -44,30 +44,30 @@ rowGives (answer.Row r) = held (keyMember (r .key)) (r .joined) (r .bits) (r .ne
 rowGives (answer.Refused n) = turned n
 
 -- the row at a place
-abbrev pub rowHeld : List ℕ → ℕ → Member → Front
-rowHeld b at last = held (memberOf (drop at b)) (oneMember (memberOf (drop at b)) last) (at + rowHead) (at + rowBytes edition1)
+abbrev pub rowHeld : Edition → List ℕ → ℕ → Member → Front
+rowHeld e b at last = held (memberOf (drop at b)) (oneMember (memberOf (drop at b)) last) (at + rowHead) (at + rowBytes e)
 
 -- 11, 15 and 12 are the first of a row's tests, and ask nothing of the sheet
-abbrev pub frontTests : Member → List ℕ → List Test
-frontTests last b = take 3 (rowTests edition1 0 last b)
+abbrev pub frontTests : Edition → Member → List ℕ → List Test
+frontTests e last b = take 3 (rowTests e 0 last b)
 
 -- what stands at a place of a register's bytes, behind the member `last` (`noMember` where no row is before)
-unfoldable pub frontAt : List ℕ → ℕ → Member → Front
-frontAt b at last =
+unfoldable pub frontAt : Edition → List ℕ → ℕ → Member → Front
+frontAt e b at last =
     cond (eqb (length (drop at b)) 0) ended
-    (cond (eqb (refusal (frontTests last (drop at b))) 0) (rowHeld b at last) (turned (refusal (frontTests last (drop at b)))))
+    (cond (eqb (refusal (frontTests e last (drop at b))) 0) (rowHeld e b at last) (turned (refusal (frontTests e last (drop at b)))))
 
 -- the bytes from row i on, and the first n rows of a register
-abbrev pub fromRow : List ℕ → ℕ → List ℕ
-fromRow b i = drop (rowBytes edition1 * i) b
+abbrev pub fromRow : Edition → List ℕ → ℕ → List ℕ
+fromRow e b i = drop (rowBytes e * i) b
 
-unfoldable pub rowsBefore : List ℕ → ℕ → List Row
-rowsBefore b zero = []
-rowsBefore b (suc n) = rowsBefore b n ++ (rowOf edition1 (fromRow b n) ∷ [])
+unfoldable pub rowsBefore : Edition → List ℕ → ℕ → List Row
+rowsBefore e b zero = []
+rowsBefore e b (suc n) = rowsBefore e b n ++ (rowOf e (fromRow e b n) ∷ [])
 
 -- the place of the membership bytes of row i
-abbrev pub bitsPlace : ℕ → ℕ
-bitsPlace i = rowBytes edition1 * i + rowHead
+abbrev pub bitsPlace : Edition → ℕ → ℕ
+bitsPlace e i = rowBytes e * i + rowHead
 
 -- bit j of the bytes from a place on, the lowest bit of each byte first
 unfoldable pub bitAt : List ℕ → ℕ → ℕ → ℕ
@@ -83,11 +83,11 @@ pub record Above (groups before n : ℕ) (f : ℕ → ℕ) (r : Bool) : Type 0 w
   pub none : r ≡ false → (j : ℕ) → groups ≤ before + j → j < n → f j ≡ 0
 
 -- document 01's number and values of the reader's answer: so many rows, or a refusal with its row
-abbrev pub rowsGive : List ℕ → Rows → Reading (List Row)
-rowsGive b (rows.Count n) = read (rowsBefore b n)
-rowsGive b (rows.Refused n r) = refused n r
+abbrev pub rowsGive : Edition → List ℕ → Rows → Reading (List Row)
+rowsGive e b (rows.Count n) = read (rowsBefore e b n)
+rowsGive e b (rows.Refused n r) = refused n r
 
 -- each of the first n rows stands at its place, behind the rows before it: what is known of a register that was read
-pub record RowsReadable (b : List ℕ) (n : ℕ) : Type 0 where
+pub record RowsReadable (e : Edition) (b : List ℕ) (n : ℕ) : Type 0 where
   pub each : (i : ℕ) → i < n
-      → frontAt b (rowBytes edition1 * i) (lastMember (rowsBefore b i)) ≡ rowHeld b (rowBytes edition1 * i) (lastMember (rowsBefore b i))
+      → frontAt e b (rowBytes e * i) (lastMember (rowsBefore e b i)) ≡ rowHeld e b (rowBytes e * i) (lastMember (rowsBefore e b i))

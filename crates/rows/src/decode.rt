@@ -2,24 +2,24 @@
 use crate::limits::LEFT;
 use crate::limits::RIGHT;
 use crate::limits::ROW_BITS;
-use crate::limits::ROW_BYTES;
-use crate::limits::ROW_FRAME;
 use crate::limits::ROW_MEMBER;
 use crate::limits::ROW_SIDE;
-use crate::limits::ROW_WORDS;
 use crate::limits::WORD_BITS;
 use crate::limits::WORD_BYTES;
+use crate::limits::row_bytes;
+use crate::limits::row_frame;
+use crate::limits::row_words;
 use wire::bytes;
 ghost use mathlib.Core.Bool.{true};
 ghost use mathlib.Core.Path.{_≡_};
-ghost use Prim.Native.Nat.{_+_, _^_, _≤_, _<_};
+ghost use Prim.Native.Nat.{_+_, _*_, _^_, _≤_, _<_};
 ghost use lib.ListN.{length};
 ghost use Rattle.laws.specs.Digits.{digit};
-ghost use Rattle.wire.specs.Edition.{edition1, membershipBytes, rowHead, rowBytes};
+ghost use Rattle.wire.specs.Edition.{editionOf, groupLimit, membershipBytes, rowBytes, rowHead};
 ghost use Rattle.wire.specs.Member.{isSide, sideOf};
 ghost use Rattle.wire.specs.MemberKey.{keyMember};
 ghost use Rattle.wire.specs.Bytes.{u32At};
-ghost use Rattle.rows.specs.RowsRead.{rowFrame, held, rowGives, frontAt, bitAt, wordBits, rowWords, rowGroups, WordAt, Above};
+ghost use Rattle.rows.specs.RowsRead.{rowFrame, held, rowGives, frontAt, bitAt, wordBytes, wordBits, WordAt, Above};
 
 // The key of a row's member, whether the row goes on with the member before, the place of its membership bytes, and the place
 // after the row.
@@ -38,9 +38,9 @@ pub enum RowAnswer {
 }
 
 // what stands at a place where no whole row does
-fn no_row(register: &[u8], at: usize, last: u64) -> RowAnswer
-    requires { ⌜ length (now register) < at + rowBytes edition1 ⌝ }
-    ensures { λ r. ⌜ rowGives r ≡ frontAt (now (register .entry)) at (keyMember last) ⌝ }
+fn no_row(register: &[u8], edition: u16, at: usize, last: u64) -> RowAnswer
+    requires { ⌜ length (now register) < at + rowBytes (editionOf edition) ⌝ }
+    ensures { λ r. ⌜ rowGives r ≡ frontAt (editionOf edition) (now (register .entry)) at (keyMember last) ⌝ }
 {
     if register.len() <= at {
         return RowAnswer::End;
@@ -67,22 +67,22 @@ fn key_of(number: u32, side: u16) -> u64
 }
 
 // a row at a place
-fn row_found(at: usize, key: u64, joined: bool) -> RowAnswer
-    requires { ⌜ at + rowBytes edition1 < 2 ^ 64 ⌝ }
-    ensures { λ r. ⌜ rowGives r ≡ held (keyMember key) joined (at + rowHead) (at + rowBytes edition1) ⌝ }
+fn row_found(edition: u16, at: usize, key: u64, joined: bool) -> RowAnswer
+    requires { ⌜ at + rowBytes (editionOf edition) < 2 ^ 64 ⌝ }
+    ensures { λ r. ⌜ rowGives r ≡ held (keyMember key) joined (at + rowHead) (at + rowBytes (editionOf edition)) ⌝ }
 {
     RowAnswer::Row(RowFound {
         key,
         joined,
         bits: at + ROW_BITS,
-        next: at + ROW_BYTES,
+        next: at + row_bytes(edition),
     })
 }
 
 // the row at a place where length and kind are a row's
-fn row_framed(register: &[u8], at: usize, last: u64) -> RowAnswer
-    requires { ⌜ (at + rowBytes edition1 ≤ length (now register)) × (u32At (now register) at ≡ rowFrame) ⌝ }
-    ensures { λ r. ⌜ rowGives r ≡ frontAt (now (register .entry)) at (keyMember last) ⌝ }
+fn row_framed(register: &[u8], edition: u16, at: usize, last: u64) -> RowAnswer
+    requires { ⌜ (at + rowBytes (editionOf edition) ≤ length (now register)) × (u32At (now register) at ≡ rowFrame (editionOf edition)) ⌝ }
+    ensures { λ r. ⌜ rowGives r ≡ frontAt (editionOf edition) (now (register .entry)) at (keyMember last) ⌝ }
 {
     let number = bytes::long(register, at + ROW_MEMBER);
     let side = bytes::word(register, at + ROW_SIDE);
@@ -94,58 +94,57 @@ fn row_framed(register: &[u8], at: usize, last: u64) -> RowAnswer
     }
     let key = key_of(number, side);
     if last < key {
-        return row_found(at, key, false);
+        return row_found(edition, at, key, false);
     }
     if key == last {
-        return row_found(at, key, true);
+        return row_found(edition, at, key, true);
     }
     RowAnswer::Refused(12)
 }
 
 // The row at a place, behind the member with the key `last`, 0 where no row is before.
-pub fn row_at(register: &[u8], at: usize, last: u64) -> RowAnswer
-    ensures { λ r. ⌜ rowGives r ≡ frontAt (now (register .entry)) at (keyMember last) ⌝ }
+pub fn row_at(register: &[u8], edition: u16, at: usize, last: u64) -> RowAnswer
+    ensures { λ r. ⌜ rowGives r ≡ frontAt (editionOf edition) (now (register .entry)) at (keyMember last) ⌝ }
 {
-    if register.len() < ROW_BYTES {
-        return no_row(register, at, last);
+    let whole = row_bytes(edition);
+    if register.len() < whole {
+        return no_row(register, edition, at, last);
     }
-    if register.len() - ROW_BYTES < at {
-        return no_row(register, at, last);
+    if register.len() - whole < at {
+        return no_row(register, edition, at, last);
     }
-    if bytes::long(register, at) != ROW_FRAME {
+    if bytes::long(register, at) != row_frame(edition) {
         return RowAnswer::Refused(11);
     }
-    row_framed(register, at, last)
+    row_framed(register, edition, at, last)
 }
 
 // Word k of the membership bytes at a place.
 pub fn word_at(register: &[u8], place: usize, k: u16) -> u64
-    requires { ⌜ (k < rowWords) × (place + membershipBytes edition1 ≤ length (now register)) ⌝ }
+    requires { ⌜ place + wordBytes * (k + 1) ≤ length (now register) ⌝ }
     ensures { λ r. ⌜ WordAt (now (register .entry)) place k r ⌝ }
 {
     bytes::wide(register, place + WORD_BYTES * (k as usize))
 }
 
-// whether a bit of a group above `groups` is set in a word that comes after `before` groups
+// whether a bit of a group above `groups` is set in a word that comes after `before` groups, `groups` being before its last one
 fn word_above(word: u64, before: u16, groups: u16) -> bool
-    requires { ⌜ before ≤ rowGroups ⌝ }
+    requires { ⌜ groups < before + wordBits ⌝ }
     ensures { λ r. ⌜ Above groups before wordBits (digit word) r ⌝ }
 {
-    if before + WORD_BITS <= groups {
-        return false;
-    }
     if groups <= before {
         return word != 0;
     }
     (word >> (groups - before)) != 0
 }
 
-// whether a bit of a group above `groups` is set in the membership bytes at a place
-pub fn bit_above(register: &[u8], place: usize, groups: u16) -> bool
-    requires { ⌜ place + membershipBytes edition1 ≤ length (now register) ⌝ }
-    ensures { λ r. ⌜ Above groups 0 rowGroups (bitAt (now (register .entry)) place) r ⌝ }
+// Whether a bit of a group above `groups` is set in the membership bytes at a place. The words whose groups are all below are
+// passed over.
+pub fn bit_above(register: &[u8], edition: u16, place: usize, groups: u16) -> bool
+    requires { ⌜ place + membershipBytes (editionOf edition) ≤ length (now register) ⌝ }
+    ensures { λ r. ⌜ Above groups 0 (groupLimit (editionOf edition)) (bitAt (now (register .entry)) place) r ⌝ }
 {
-    for k in 0..ROW_WORDS {
+    for k in groups / WORD_BITS..row_words(edition) {
         if word_above(word_at(register, place, k), WORD_BITS * k, groups) {
             return true;
         }

@@ -5,7 +5,7 @@ use crate::limits::ROW_TOO_MANY;
 use crate::limits::ROWS;
 use crate::reader::row_of;
 ghost use mathlib.Core.Path.{_≡_};
-ghost use Rattle.wire.specs.Edition.{edition1};
+ghost use Rattle.wire.specs.Edition.{editionOf};
 ghost use Rattle.wire.specs.RegisterFormat.{readRegister};
 ghost use Rattle.rows.specs.RowsRead.{rowsGive};
 
@@ -15,15 +15,15 @@ pub enum Rows {
     Refused(u32, u32),
 }
 
-// All rows, each tested before the next is read.
-pub fn read_rows(register: &[u8], groups: u16) -> Rows
-    ensures { λ r. ⌜ rowsGive (now (register .entry)) r ≡ readRegister edition1 groups (now (register .entry)) ⌝ }
+// All rows, each tested before the next is read, under a sheet of this edition and so many groups.
+pub fn read_rows(register: &[u8], edition: u16, groups: u16) -> Rows
+    ensures { λ r. ⌜ rowsGive (editionOf edition) (now (register .entry)) r ≡ readRegister (editionOf edition) groups (now (register .entry)) ⌝ }
 {
     let mut at = 0;
     let mut last = 0u64;
     for row in 0..ROWS {
         let number = row as u32 + 1;
-        match row_of(register, at, last) {
+        match row_of(register, edition, at, last) {
             RowAnswer::End => {
                 return Rows::Count(row);
             }
@@ -31,7 +31,7 @@ pub fn read_rows(register: &[u8], groups: u16) -> Rows
                 return Rows::Refused(n, number);
             }
             RowAnswer::Row(r) => {
-                if bit_above(register, r.bits, groups) {
+                if bit_above(register, edition, r.bits, groups) {
                     return Rows::Refused(13, number);
                 }
                 last = r.key;

@@ -1,6 +1,6 @@
-// The program: a sheet from standard input, of which at most 8,192 bytes are taken, gives a line for each group and each
+// The program: a sheet from standard input, of which at most 16,384 bytes are taken, gives a line for each group and each
 // claim, or the line of its refusal.
-// Document 01, "Worked sheets", the printed case.
+// Document 01, "Worked sheets", the printed case; document 02, card 5 (how many bytes).
 use libc::STDIN_FILENO;
 use libc::STDOUT_FILENO;
 use measuring::spans::NO_GREATEST;
@@ -15,7 +15,7 @@ ghost use Prim.Native.Nat.{_<_};
 ghost use Rattle.wire.specs.Capacity.{groupCapacity};
 
 // most bytes that are taken as a sheet
-const SHEET_BYTES: usize = 8192;
+const SHEET_BYTES: usize = 16384;
 
 // the longest replies: ranges, and a verdict with sets
 const RANGES_BYTES: usize = RANGE_BYTES * GROUP_CAPACITY;

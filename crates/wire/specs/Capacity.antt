@@ -5,7 +5,7 @@ use Rattle.wire.specs.Edition.{Edition, groupLimit, labelLimit}
 
 -- the groups that tables hold; no edition has more (`groups-within`)
 abbrev pub groupCapacity : ℕ
-groupCapacity = 128
+groupCapacity = 256
 
 -- bytes of the records of a sheet, length field and kind among them: kind 1 (head), 2 (group), 4 to 7 (claim, the most)
 abbrev pub headBytes : ℕ

@@ -4,7 +4,7 @@ use mathlib.Core.Path.{_≡_, refl}
 use mathlib.Core.Bool.{true, false}
 use mathlib.Core.List.{List, [], _∷_}
 use Rattle.laws.specs.Digit.{digit}
-use Rattle.wire.specs.Edition.{edition1, membershipBytes, rowKind}
+use Rattle.wire.specs.Edition.{edition1, groupLimit, membershipBytes, rowKind, rowLength}
 use Rattle.wire.specs.Bytes.{u16At, u32At}
 use Rattle.wire.specs.Record.{refusal}
 use Rattle.wire.specs.Member.{Side, left, right, sideNumber, isSide, sideOf, Member, precedes, oneMember, noMember}
@@ -38,6 +38,6 @@ pub record Ears : Type 0 where
   pub old : (refusedBehind noMember (rowWith 32 0 3) ≡ 11) × (refusedBehind noMember (oldRow 7 []) ≡ 11) × (refusedBehind noMember (oldRow 7 (oldRow 8 [])) ≡ 11)
 
 pub ears : Ears
-unfolding refusal rowTests membershipBytes rowKind u16At u32At isSide sideNumber sideOf precedes oneMember memberOf rowOf clearAbove inGroup digit
+unfolding refusal rowTests groupLimit membershipBytes rowKind rowLength u16At u32At isSide sideNumber sideOf precedes oneMember memberOf rowOf clearAbove inGroup digit
 ears =
     record { two = (refl, refl, refl); rise = (refl, refl, refl); fall = (refl, refl, refl); sideless = (refl, refl, refl); old = (refl, refl, refl) }

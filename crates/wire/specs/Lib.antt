@@ -9,6 +9,7 @@ pub mod Record
 pub mod SheetFormat
 pub mod RegisterFormat
 pub mod Ears
+pub mod Editions
 pub mod Encoding
 pub mod Passing
 pub mod Many

@@ -1,5 +1,6 @@
 -- The reading of a register's rows, to an end or to a refusal: document 01, "Registers" and "Turned back", 10 to 13;
--- document 02, cards 2 and 4 (15 comes before 12, which is kept for the number 0 and for a falling pair).
+-- document 02, cards 2 and 4 (15 comes before 12, which is kept for the number 0 and for a falling pair) and 5 (11 and 13 read
+-- the edition).
 use Prim.Native.Nat.{ℕ, zero, suc, _+_, _-_, _/_, _%_}
 use mathlib.Core.Bool.{Bool, true, false, cond, not, _&&_}
 use mathlib.Core.List.{List, [], _∷_, _++_}
@@ -7,7 +8,7 @@ use lib.ListN.{length, take, drop, getD}
 use lib.Dec.{leb, ltb, eqb}
 use Rattle.laws.specs.Digit.{digit}
 use Rattle.wire.specs.Limits.{rowLimit}
-use Rattle.wire.specs.Edition.{Edition, membershipBytes, groupLimit, rowKind, rowHead, rowBytes}
+use Rattle.wire.specs.Edition.{Edition, groupLimit, membershipBytes, rowKind, rowLength, rowBytes, rowHead}
 use Rattle.wire.specs.Member.{isSide, sideOf, Member, precedes, noMember}
 use Rattle.wire.specs.Bytes.{u16At, u32At}
 use Rattle.wire.specs.Record.{Test, test, refusal, Reading, read, onward}
@@ -47,7 +48,7 @@ lastMember (r ∷ (q ∷ rs)) = lastMember (q ∷ rs)
 -- `last`; 13, a bit above the groups is set.
 unfoldable pub rowTests : Edition → ℕ → Member → List ℕ → List Test
 rowTests e groups last b =
-    test 11 (leb (rowBytes e) (length b) && eqb (u16At b 0) (rowBytes e - 2) && eqb (u16At b 2) (rowKind e))
+    test 11 (leb (rowBytes e) (length b) && eqb (u16At b 0) (rowLength e) && eqb (u16At b 2) (rowKind e))
     ∷ test 15 (isSide (sideField b))
     ∷ test 12 (ltb 0 (memberOf b .number) && not (precedes (memberOf b) last))
     ∷ test 13 (clearAbove (rowOf e b) groups (groupLimit e - groups))

@@ -9,9 +9,9 @@ use lib.Seq.{drop-drop, take-at, drop-at}
 use lib.Dec.{leb, ltb, eqb}
 use borrow.Author.Tests.{leb-true, ltb-true, eqb-true, not-true, le-leb, lt-ltb, eq-eqb, ne-eqb}
 use Rattle.wire.specs.Limits.{rowLimit, noEnd}
-use Rattle.wire.specs.Edition.{Edition, membershipBytes, rowKind, rowHead, rowBytes}
+use Rattle.wire.specs.Edition.{Edition, membershipBytes, rowKind, rowLength, rowBytes, rowHead}
 use Rattle.wire.specs.Member.{sideNumber, isSide, precedes}
-use Rattle.wire.specs.EditionFacts.{groups-within, row-kind-fits}
+use Rattle.wire.specs.EditionFacts.{row-parts, row-kind-fits, row-length-fits}
 use Rattle.wire.specs.Bytes.{u16At, le16}
 use Rattle.wire.specs.Record.{lengthOf, kindOf, after, Test, test, read}
 use Rattle.wire.specs.RegisterFormat.{Row, sideField, memberOf, rowOf, lastMember, rowTests, readRows, readRegister}
@@ -58,9 +58,9 @@ module _ (e : Edition) (groups : ℕ) where
   row-frame : (rs : List Row) (b : List ℕ) → Pass (testsAfter e groups rs b) → RowFrame e b
   unfolding rowTests
   row-frame rs b p =
-      let s = and-true (leb (rowBytes e) (length b) && eqb (u16At b 0) (rowBytes e - 2)) (eqb (u16At b 2) (rowKind e)) (p .0) in
-      let t = and-true (leb (rowBytes e) (length b)) (eqb (u16At b 0) (rowBytes e - 2)) (s .0) in
-      let size = eqb-true (u16At b 0) (rowBytes e - 2) (t .1) in
+      let s = and-true (leb (rowBytes e) (length b) && eqb (u16At b 0) (rowLength e)) (eqb (u16At b 2) (rowKind e)) (p .0) in
+      let t = and-true (leb (rowBytes e) (length b)) (eqb (u16At b 0) (rowLength e)) (s .0) in
+      let size = eqb-true (u16At b 0) (rowLength e) (t .1) in
       record { whole = leb-true _ _ (t .0); size = omega arith; kind = eqb-true _ _ (s .1) }
 
   row-sided : (rs : List Row) (b : List ℕ) → Pass (testsAfter e groups rs b) → isSide (sideField b) ≡ true
@@ -79,7 +79,7 @@ module _ (e : Edition) (groups : ℕ) where
       record {
         someone = unfold rowOf in ltb-true _ _ (order .0);
         follows = unfold rowOf in not-true (precedes (memberOf b) (lastMember rs)) (order .1);
-        width = unfold rowOf in simp (length-take, length-drop) (omega arith);
+        width = unfold rowOf in simp (length-take, length-drop) (omega (arith, row-parts e));
         clear = p .1 .1 .1 .0;
       }
 
@@ -98,11 +98,11 @@ module _ (e : Edition) (groups : ℕ) where
       let f = row-frame rs b p in
       let bits = take (membershipBytes e) (drop rowHead b) in
       let tail : take (membershipBytes e) (drop rowHead b) ++ after b ≡ drop rowHead b =
-      rw (← after-row rs b p, ← drop-drop (membershipBytes e) rowHead b) (take-append-drop (membershipBytes e) (drop rowHead b)) in
+      rw (← after-row rs b p, row-parts e, ← drop-drop (membershipBytes e) rowHead b) (take-append-drop (membershipBytes e) (drop rowHead b)) in
       rw (← f .kind)
-      (encode-read b k (omega arith) (memberBytes (memberOf b) ++ take (membershipBytes e) (drop rowHead b))
-      (rw (append-assoc, tail) (member-bytes b k (omega arith) (row-sided rs b p)))
-      (omega (arith, member-size (memberOf b) bits, length-take (membershipBytes e) (drop rowHead b), length-drop rowHead b)))
+      (encode-read b k (omega (arith, row-parts e)) (memberBytes (memberOf b) ++ take (membershipBytes e) (drop rowHead b))
+      (rw (append-assoc, tail) (member-bytes b k (omega (arith, row-parts e)) (row-sided rs b p)))
+      (omega (arith, row-parts e, member-size (memberOf b) bits, length-take (membershipBytes e) (drop rowHead b), length-drop rowHead b)))
 
   -- an encoded row that is right passes, and is read with what follows it
   module _ (rs : List Row) (r : Row) (c : List ℕ) (R : RowRight e groups rs r) (F : RowFits r) where
@@ -129,18 +129,18 @@ module _ (e : Edition) (groups : ℕ) where
 
     row-skipped : drop (rowBytes e) (encodeRow e r ++ c) ≡ c
     row-skipped =
-        sym (drop-drop (membershipBytes e) rowHead (encodeRow e r ++ c))
-        ∙ (rw (row-bytes, member-skipped size (rowKind e) (r .member) (r .bits ++ c)) (drop-at (r .bits) c (membershipBytes e) (R .width)))
+        rw (row-parts e, ← drop-drop (membershipBytes e) rowHead (encodeRow e r ++ c)) (
+        rw (row-bytes, member-skipped size (rowKind e) (r .member) (r .bits ++ c)) (drop-at (r .bits) c (membershipBytes e) (R .width)))
 
-    row-begins : (rowBytes e ≤ length (encodeRow e r ++ c)) × (lengthOf (encodeRow e r ++ c) ≡ rowBytes e - 2)
+    row-begins : (rowBytes e ≤ length (encodeRow e r ++ c)) × (lengthOf (encodeRow e r ++ c) ≡ rowLength e)
         × (kindOf (encodeRow e r ++ c) ≡ rowKind e)
     unfolding encodeRow
     row-begins =
         let body = memberBytes (r .member) ++ r .bits in
         let kind = row-kind-fits e in
-        let fits : length body + 2 ≤ noEnd = omega (arith, row-size, groups-within e) in (
-          omega (arith, row-size, length-record (rowKind e) body c kind fits),
-          omega (arith, row-size, length-encoded (rowKind e) body c kind fits),
+        let fits : length body + 2 ≤ noEnd = omega (arith, row-size, row-parts e, row-length-fits e) in (
+          omega (arith, row-size, row-parts e, length-record (rowKind e) body c kind fits),
+          omega (arith, row-size, row-parts e, length-encoded (rowKind e) body c kind fits),
           kind-encoded (rowKind e) body c kind fits,
         )
 

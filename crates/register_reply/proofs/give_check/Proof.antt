@@ -34,7 +34,7 @@ give-answer-requires-2 c κs = search needs
 
 returns : tie.Need-returns
 returns c =
-    let w = rows-under _ (size-in _ _) (c .before .before .before .before .before .check-register .ensures .0) in
+    let w = rows-under _ _ (size-in _ _) (c .before .before .before .before .before .check-register .ensures .0) in
     let g = ap checkGives (c .before .before .n .given .1) in
     record {
       turned = λ n k f. turned-back g (c .pack .ensures) n k (w .refusal n k f);
@@ -46,7 +46,7 @@ same-length c = search needs
 
 returns-2 : tie.Need-returns-2
 returns-2 c =
-    let w = rows-under _ (size-in _ _) (c .before .before .before .before .before .before .before .before .check-register .ensures .0) in
+    let w = rows-under _ _ (size-in _ _) (c .before .before .before .before .before .before .before .before .check-register .ensures .0) in
     let g = ap checkGives (c .before .before .before .before .before .group .given .1) in
     record {
       turned = λ n k f. absurd (rows-passed w g n k f);
@@ -58,7 +58,7 @@ same-length-2 c = search needs
 
 returns-3 : tie.Need-returns-3
 returns-3 c =
-    let w = rows-under _ (size-in _ _) (c .before .before .before .before .before .before .before .check-register .ensures .0) in
+    let w = rows-under _ _ (size-in _ _) (c .before .before .before .before .before .before .before .check-register .ensures .0) in
     let g = ap checkGives (c .before .before .before .before .enum-told .given .1) in
     record {
       turned = λ n k f. absurd (rows-passed w g n k f);

@@ -2,13 +2,12 @@
 use mathlib.Core.Path.{refl}
 use native.Mathlib.Omega.{arith}
 use borrow.Author.Needs.{needs}
-use Rattle.wire.specs.Edition.{editionOf}
 use Rattle.meaning.specs.OfRecords.{sheetOf}
 use Rattle.reading.specs.SheetIn.{sheetIn}
 use Rattle.reading.specs.Loaded.{loaded-sheet, loaded-held, loaded-refused}
 use Rattle.register_reply.specs.RegisterReply.{Register}
 use Rattle.replies.proofs.ReplyLaws.{read-not-refused, as-read, turned-back}
-use Rattle.group_sheet.proofs.TabledLaws.{checkable}
+use Rattle.group_sheet.proofs.TabledLaws.{tabled}
 use Rattle.group_sheet.proofs.register.sheet_register.Statement.{statement}
 use Rattle.group_sheet.proofs.register.sheet_register.Tie as tie
 
@@ -34,7 +33,7 @@ give-check-requires : tie.Need-give-check-requires
 give-check-requires c κs =
     let w = c .before .before .before .before .before .before .load-tree .ensures .loads in
     let e = c .before .before .before .head .given .1 in
-    checkable _ _ _ _ (loaded-sheet w _ e) refl (omega (arith, loaded-held w _ e .limits .fewGroups))
+    tabled _ _ _ _ (loaded-sheet w _ e) refl (omega (arith, loaded-held w _ e .limits .fewGroups))
 
 returns : tie.Need-returns
 returns c =
@@ -48,7 +47,7 @@ same-length : tie.Need-same-length
 same-length c = search needs
 
 returns-2 : tie.Need-returns-2
-unfolding editionOf sheetIn
+unfolding sheetIn
 returns-2 c =
     let e = loaded-sheet (c .before .before .before .before .before .before .before .before .before .load-tree .ensures .loads) _ (c .before .before .before .before .before .before .head .given .1) in
     record {

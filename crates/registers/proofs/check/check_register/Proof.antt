@@ -4,11 +4,12 @@ use mathlib.Core.Path.{_≡_, sym}
 use native.Mathlib.Omega.{arith}
 use native.Mathlib.Nat.{le-refl, le-of-eq}
 use Prim.Native.Nat.{_≤_}
-use Rattle.wire.specs.Edition.{edition1}
+use Rattle.wire.specs.Edition.{editionOf}
 use Rattle.wire.specs.Record.{read}
 use Rattle.wire.specs.RegisterFormat.{readRegister}
 use Rattle.reading.specs.SheetIn.{sheetIn, size-in}
-use Rattle.rows.specs.RowsRead.{rowGroups, rowsBefore}
+use Rattle.wire.specs.Capacity.{groupCapacity}
+use Rattle.rows.specs.RowsRead.{rowsBefore}
 use Rattle.rows.proofs.RowLaws.{rows-most, rows-readable}
 use Rattle.registers.specs.Columns.{columnWords, columnsLength, columnSets}
 use Rattle.registers.specs.Tallies.{sonStarts, Counted}
@@ -18,21 +19,21 @@ use Rattle.registers.proofs.check.check_register.Tie as tie
 
 -- the rows are read
 rows-read : (c : tie.After-rows)
-    → read (rowsBefore (c .before .before .before .before .before .before .before .before .before .before .before .args .register .now) (c .rows .given .0 .0))
-    ≡ readRegister edition1 (c .before .before .before .before .before .before .before .before .before .before .before .args .size)
+    → read (rowsBefore (editionOf (c .before .before .before .before .before .before .before .before .before .before .before .args .edition)) (c .before .before .before .before .before .before .before .before .before .before .before .args .register .now) (c .rows .given .0 .0))
+    ≡ readRegister (editionOf (c .before .before .before .before .before .before .before .before .before .before .before .args .edition)) (c .before .before .before .before .before .before .before .before .before .before .before .args .size)
     (c .before .before .before .before .before .before .before .before .before .before .before .args .register .now)
 rows-read c = rw (c .rows .given .1) at (c .before .before .read-rows .ensures)
 
 -- the counts are those of the columns
 counted : (c : tie.After-count-groups)
-    → Counted (sheetIn (c .before .before .before .before .before .before .before .before .before .before .before .before .before .before .before .before .before .before .before .args .groups .now) (c .before .before .before .before .before .before .before .before .before .before .before .before .before .before .before .before .before .before .before .args .size)) (columnSets (c .before .before .before .before .before .fill-columns .last .1 .1 .0) (c .before .before .before .before .before .fill-columns .result))
+    → Counted (sheetIn (c .before .before .before .before .before .before .before .before .before .before .before .before .before .before .before .before .before .before .before .args .groups .now) (c .before .before .before .before .before .before .before .before .before .before .before .before .before .before .before .before .before .before .before .args .size)) (columnSets (c .before .before .before .before .before .fill-columns .last .1 .1 .1 .0) (c .before .before .before .before .before .fill-columns .result))
     (c .count-groups .last .1 .1 .1 .0)
 counted c =
     let w = c .before .before in
     let f = w .before .before .before in
     let start = f .before .before .before .before .before .before .before .before .before .before .before .before .before .before in
     let z = size-in (start .args .groups .now) (start .args .size) in
-    columns-counted _ (omega (arith, z, start .pre .0 .most)) (f .fill-columns .ensures) (w .blocks-for .ensures) (rw z (c .count-groups .ensures))
+    columns-counted _ (omega (arith, z, start .pre .0 .small)) (f .fill-columns .ensures) (w .blocks-for .ensures) (rw z (c .count-groups .ensures))
 
 slice-aggregate-gather-sons : tie.Need-slice-aggregate-gather-sons
 slice-aggregate-gather-sons c = search needs
@@ -42,7 +43,7 @@ slice-aggregate-gather-sons-2 c = search needs
 
 gather-sons-requires : tie.Need-gather-sons-requires
 gather-sons-requires c κs =
-    (c .before .before .before .before .before .pre .0, (le-refl sonStarts, (le-refl rowGroups, zeros sonStarts)))
+    (c .before .before .before .before .before .pre .0, (le-refl sonStarts, (le-refl groupCapacity, zeros sonStarts)))
 
 read-rows-requires : tie.Need-read-rows-requires
 read-rows-requires c κs = search needs
@@ -59,14 +60,14 @@ slice-aggregate-fill-columns c = search needs
 fill-columns-requires : tie.Need-fill-columns-requires
 fill-columns-requires c κs =
     let r = rows-read (c .before .before) in
-    (rows-most _ _ _ r, (rows-readable _ _ _ r, (le-refl columnsLength, record { each = zeros columnsLength })))
+    (rows-most _ _ _ _ r, (rows-readable _ _ _ _ r, (le-refl columnsLength, record { each = zeros columnsLength })))
 
 slice-aggregate-count-groups : tie.Need-slice-aggregate-count-groups
 slice-aggregate-count-groups c = search needs
 
 blocks-for-requires : tie.Need-blocks-for-requires
 blocks-for-requires c κs =
-    let f = c .before .before in members-most _ _ _ (rows-read (f .before .before .before)) (f .fill-columns .ensures)
+    let f = c .before .before in members-most _ _ _ _ (rows-read (f .before .before .before)) (f .fill-columns .ensures)
 
 mul-count-groups : tie.Need-mul-count-groups
 mul-count-groups c = search needs
@@ -100,9 +101,9 @@ scan-requires c κs =
     let z = size-in (start .args .groups .now) (start .args .size) in (
       start .pre .0,
       record {
-        columns = le-of-eq (sym (f .fill-columns .kept .1 .1 .0));
-        members = members-most _ _ _ (rows-read n) (f .fill-columns .ensures);
-        others = λ h i y. others-none (f .fill-columns .ensures) h i (y .first) (omega (arith, y .last, z, start .pre .0 .most));
+        columns = le-of-eq (sym (f .fill-columns .kept .1 .1 .1 .0));
+        members = members-most _ _ _ _ (rows-read n) (f .fill-columns .ensures);
+        others = λ h i y. others-none (f .fill-columns .ensures) h i (y .first) (omega (arith, y .last, z, start .pre .0 .small));
         sons = g .gather-sons .ensures;
         places = omega (arith, k .count-groups .kept .1 .1 .1 .0);
         counts = counted k;
@@ -125,10 +126,10 @@ returns-2 c =
     let f = k .before .before .before .before .before in
     let n = f .before .before .before in
     let start = n .before .before .before .before .before .before .before .before .before .before .before in
-    let z : sheetIn (start .args .groups .now) (start .args .size) .size ≤ rowGroups
-    = omega (arith, size-in (start .args .groups .now) (start .args .size), start .pre .0 .most) in (
-      checked-columns _ z _ _ _ (rows-read n) (f .fill-columns .ensures) _ (start .pre .0 .tabled .tree) (c .before .before .scan .ensures),
-      tallied-columns _ z _ _ _ (rows-read n) (f .fill-columns .ensures) _ _ (counted k),
+    let z : sheetIn (start .args .groups .now) (start .args .size) .size ≤ groupCapacity
+    = omega (arith, size-in (start .args .groups .now) (start .args .size), start .pre .0 .small) in (
+      checked-columns _ z _ _ _ _ (rows-read n) (f .fill-columns .ensures) _ (start .pre .0 .tree) (c .before .before .scan .ensures),
+      tallied-columns _ z _ _ _ _ (rows-read n) (f .fill-columns .ensures) _ _ (counted k),
     )
 
 pub check-register-spec : {M : Type 1} → statement M

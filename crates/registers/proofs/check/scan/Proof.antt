@@ -54,7 +54,7 @@ parent l = joining l .before .before .before
 -- a group's parent comes before it
 below : (s : tie.In-scan Inv-loop2 μ-loop2 Inv-loop μ-loop Inv-scan μ-scan)
     → parentIn (start s .args .groups .now) (s .before .scan .g) < s .before .scan .g
-below s = parent-below (start s .pre .0 .tabled) _ _ (omega arith) refl (s .before .scan .inv .0)
+below s = parent-below (start s .pre .0) _ _ (omega arith) refl (s .before .scan .inv .0)
 
 add-end : tie.Need-add-end Inv-loop2 μ-loop2 Inv-loop μ-loop Inv-scan μ-scan
 add-end c = search needs
@@ -82,7 +82,7 @@ join-asked-requires c κs =
       (
         search needs,
         record {
-          readable = sons-readable (p .1 .sons) (omega (arith, size-in (a .groups .now) (a .size), p .0 .most))
+          readable = sons-readable (p .1 .sons) (omega (arith, size-in (a .groups .now) (a .size), p .0 .small))
               (group-in _ _ (s .before .scan .inv .0) (omega arith));
           most = m;
           columns = p .1 .columns;
@@ -104,7 +104,7 @@ may-break-requires c κs =
     let a = start (q .before) .args in
     let l = below (q .before) in (
       omega (arith, p .1 .sons .long, size-in (a .groups .now) (a .size)),
-      (search needs, (omega (arith, p .0 .tabled .long), (omega (arith, q .parent-of .ensures), q .parent-of .ensures))),
+      (search needs, (omega (arith, p .0 .long), (omega (arith, q .parent-of .ensures), q .parent-of .ensures))),
     )
 
 loop2-holds : tie.Need-loop2-holds Inv-loop2 μ-loop2 Inv-loop μ-loop Inv-scan μ-scan
@@ -121,8 +121,8 @@ block-breaks-requires c κs =
     record {
       columns = p .1 .columns;
       block = omega arith;
-      last = omega (arith, p .0 .most);
-      parent-last = omega (arith, p .0 .most, q .parent-of .ensures);
+      last = omega (arith, p .0 .small);
+      parent-last = omega (arith, p .0 .small, q .parent-of .ensures);
       some-words = omega (arith, p .1 .some-words);
       two-words = omega (arith, p .1 .two-words);
     }

@@ -5,7 +5,7 @@ use native.Mathlib.Omega.{arith}
 use Prim.Native.Nat.{_-_, _*_, _≤_}
 use mathlib.Core.Path.{_≡_, refl}
 use lib.ListN.{length}
-use Rattle.wire.specs.Edition.{edition1, rowBytes}
+use Rattle.wire.specs.Edition.{editionOf, rowBytes}
 use Rattle.wire.specs.MemberKey.{keyMember}
 use Rattle.wire.specs.RegisterFormat.{lastMember}
 use Rattle.meaning.specs.ReadableRows.{Ordered}
@@ -17,29 +17,30 @@ use Rattle.registers.proofs.columns.fill_columns.Statement.{statement}
 use Rattle.registers.proofs.columns.fill_columns.Tie as tie
 
 abbrev Inv-loop : tie.InvT-loop
-Inv-loop register rows columns₀ at₀ last₀ members₀ row₀ columns at last members row =
-    (row ≤ rows) × ((at ≡ rowBytes edition1 * row) × ((keyMember last ≡ lastMember (rowsBefore register row))
-    × ((length columns ≡ length columns₀) × (Ordered (rowsBefore register row) × ColumnsFilled (rowsBefore register row) members columns))))
+Inv-loop register edition rows columns₀ at₀ last₀ members₀ row₀ columns at last members row =
+    (row ≤ rows) × ((at ≡ rowBytes (editionOf edition) * row) × ((keyMember last ≡ lastMember (rowsBefore (editionOf edition) register row))
+    × ((length columns ≡ length columns₀) × (Ordered (rowsBefore (editionOf edition) register row)
+    × ColumnsFilled (rowsBefore (editionOf edition) register row) members columns))))
 
 abbrev μ-loop : tie.MeasureT-loop
-μ-loop register rows columns₀ at₀ last₀ members₀ row₀ columns at last members row = rows - row
+μ-loop register edition rows columns₀ at₀ last₀ members₀ row₀ columns at last members row = rows - row
 
 -- the reader has reached a row that is known to be readable
 known : (c : tie.After-row-of Inv-loop μ-loop)
-    → RowsReadable (c .before .before .before .before .before .args .register .now) (c .before .before .before .before .before .args .rows)
+    → RowsReadable (editionOf (c .before .before .before .before .before .args .edition)) (c .before .before .before .before .before .args .register .now) (c .before .before .before .before .before .args .rows)
 known c = c .before .before .before .before .before .pre .1 .0
 
 -- and hands it up
 found : (c : tie.After-r Inv-loop μ-loop)
-    → Stands (c .before .before .before .before .before .before .before .args .register .now) (c .before .before .before .before .loop .row) (c .r .given .0 .0)
+    → Stands (editionOf (c .before .before .before .before .before .before .before .args .edition)) (c .before .before .before .before .before .before .before .args .register .now) (c .before .before .before .before .loop .row) (c .r .given .0 .0)
 found c =
     let f = c .before .before in
     let l = f .before .before .loop in
-    row-stands (known f) (f .before .loop-test .taken) (l .inv .1 .0) (l .inv .1 .1 .0) _ (rw (c .r .given .1) at (f .row-of .ensures))
+    row-stands _ (known f) (f .before .loop-test .taken) (l .inv .1 .0) (l .inv .1 .1 .0) _ (rw (c .r .given .1) at (f .row-of .ensures))
 
 loop-holds : tie.Need-loop-holds Inv-loop μ-loop
 loop-holds c =
-    (search needs, (omega arith, (last-start _, (refl, (ordered-none-before _, columns-none _ _ (c .before .before .pre .1 .1 .1))))))
+    (search needs, (omega arith, (last-start _ _, (refl, (ordered-none-before _ _, columns-none _ _ _ (c .before .before .pre .1 .1 .1))))))
 
 row-of-requires : tie.Need-row-of-requires Inv-loop μ-loop
 row-of-requires c κs = search needs
@@ -51,7 +52,7 @@ with-row-requires : tie.Need-with-row-requires Inv-loop μ-loop
 with-row-requires c κs =
     let f = c .before .before .before in
     let l = f .before .before .loop in
-    omega (arith, members-within _ (l .row) (l .inv .1 .1 .1 .1 .1), f .before .loop-test .taken, f .before .before .before .before .before .pre .0)
+    omega (arith, members-within _ _ (l .row) (l .inv .1 .1 .1 .1 .1), f .before .loop-test .taken, f .before .before .before .before .before .pre .0)
 
 sub-put-row : tie.Need-sub-put-row Inv-loop μ-loop
 sub-put-row c =
@@ -64,8 +65,8 @@ put-row-requires c κs =
     let r = c .before .before .before in
     let f = r .before .before in
     let l = f .before .before .loop in (
-      held-within _ _ _ _ (rw (r .r .given .1) at (f .row-of .ensures)),
-      (omega (arith, with-row-most (r .r .given .0 .0 .joined) (l .members), c .before .with-row .ensures, members-within _ (l .row) (l .inv .1 .1 .1 .1 .1), f .before .loop-test .taken, f .before .before .before .before .before .pre .0), search needs),
+      held-within _ _ _ _ _ (rw (r .r .given .1) at (f .row-of .ensures)),
+      (omega (arith, with-row-most (r .r .given .0 .0 .joined) (l .members), c .before .with-row .ensures, members-within _ _ (l .row) (l .inv .1 .1 .1 .1 .1), f .before .loop-test .taken, f .before .before .before .before .before .pre .0), search needs),
     )
 
 enum-told : tie.Need-enum-told Inv-loop μ-loop
@@ -78,7 +79,7 @@ returns : tie.Need-returns Inv-loop μ-loop
 returns c =
     let f = c .before .before in
     let l = f .before .before .loop in
-    absurd (not-ended (known f) (f .before .loop-test .taken) (l .inv .1 .0) (l .inv .1 .1 .0) (rw (c .enum-told .given .1) at (f .row-of .ensures)))
+    absurd (not-ended _ (known f) (f .before .loop-test .taken) (l .inv .1 .0) (l .inv .1 .1 .0) (rw (c .enum-told .given .1) at (f .row-of .ensures)))
 
 enum-told-2 : tie.Need-enum-told-2 Inv-loop μ-loop
 enum-told-2 c = search needs
@@ -90,7 +91,7 @@ returns-2 : tie.Need-returns-2 Inv-loop μ-loop
 returns-2 c =
     let f = c .before .before in
     let l = f .before .before .loop in
-    absurd (not-refused (known f) (f .before .loop-test .taken) (l .inv .1 .0) (l .inv .1 .1 .0) _
+    absurd (not-refused _ (known f) (f .before .loop-test .taken) (l .inv .1 .0) (l .inv .1 .1 .0) _
     (rw (c .enum-told2 .given .1) at (f .row-of .ensures)))
 
 add-row : tie.Need-add-row Inv-loop μ-loop

@@ -4,30 +4,42 @@ use native.Mathlib.Omega.{arith}
 use Prim.Native.Nat.{_-_, _≤_}
 use mathlib.Core.Path.{_≡_, refl}
 use lib.ListN.{length}
+use Rattle.wire.specs.Edition.{editionOf}
+use Rattle.wire.specs.EditionFacts.{groups-within}
 use Rattle.rows.specs.RowsRead.{rowWords}
-use Rattle.registers.specs.ColumnSteps.{Put}
-use Rattle.registers.proofs.PutLaws.{firstBits, bits-none, bits-more, bits-all}
+use Rattle.rows.proofs.RowBits.{words-groups, words-bytes}
+use Rattle.registers.specs.ColumnSteps.{Put, firstBits}
+use Rattle.registers.proofs.PutLaws.{bits-none, bits-more}
 use Rattle.registers.proofs.columns.put_row.Statement.{statement}
 use Rattle.registers.proofs.columns.put_row.Tie as tie
 
 abbrev Inv-loop : tie.InvT-loop
-Inv-loop register place member columns₀ k₀ columns k =
-    (k ≤ rowWords) × ((length columns ≡ length columns₀) × Put (firstBits register place k) member columns₀ columns)
+Inv-loop register edition place member columns₀ k₀ k-end columns k =
+    (k-end ≡ rowWords (editionOf edition)) × ((k ≤ k-end) × ((length columns ≡ length columns₀) × Put (firstBits register place k) member columns₀ columns))
 
 abbrev μ-loop : tie.MeasureT-loop
-μ-loop register place member columns₀ k₀ columns k = rowWords - k
+μ-loop register edition place member columns₀ k₀ k-end columns k = k-end - k
+
+row-words-requires : tie.Need-row-words-requires Inv-loop μ-loop
+row-words-requires c κs = search needs
 
 loop-holds : tie.Need-loop-holds Inv-loop μ-loop
-loop-holds c = (search needs, (refl, bits-none _ _ _ _))
+loop-holds c = (c .row-words .ensures, (search needs, (refl, bits-none _ _ _ _)))
 
 word-at-requires : tie.Need-word-at-requires Inv-loop μ-loop
-word-at-requires c κs = search needs
+word-at-requires c κs =
+    let ed = editionOf (c .before .before .before .before .before .args .edition) in
+    omega (arith, words-bytes ed, c .before .loop .inv .0, c .before .before .before .before .before .pre .0)
 
 mul-put-word : tie.Need-mul-put-word Inv-loop μ-loop
-mul-put-word c = search needs
+mul-put-word c =
+    let ed = editionOf (c .before .before .before .before .before .before .args .edition) in
+    omega (arith, words-groups ed, groups-within ed, c .before .before .loop .inv .0)
 
 put-word-requires : tie.Need-put-word-requires Inv-loop μ-loop
-put-word-requires c κs = search needs
+put-word-requires c κs =
+    let ed = editionOf (c .before .before .before .before .before .before .before .args .edition) in
+    (omega (arith, words-groups ed, groups-within ed, c .before .before .before .loop .inv .0), search needs)
 
 add-k : tie.Need-add-k Inv-loop μ-loop
 add-k c = search needs
@@ -40,15 +52,18 @@ loop-again c =
     let p = c .before .before in
     let w = p .before .before in
     let l = w .before .before .loop in (
-      search needs,
-      (search needs, bits-more (l .inv .1 .1) (w .word-at .ensures) (search needs) (p .put-word .ensures)),
+      l .inv .0,
+      (search needs, (search needs, bits-more (l .inv .1 .1 .1) (w .word-at .ensures) (search needs) (p .put-word .ensures))),
     )
 
 same-length : tie.Need-same-length Inv-loop μ-loop
 same-length c = search needs
 
 returns : tie.Need-returns Inv-loop μ-loop
-returns c = bits-all _ _ _ _ (c .before .loop .inv .1 .1) (omega arith)
+returns c =
+    let l = c .before .loop in
+    let all : l .k ≡ rowWords (editionOf (c .before .before .before .before .before .args .edition)) = omega (arith, l .inv .0) in
+    rw all at (l .inv .1 .1 .1)
 
 pub put-row-spec : {M : Type 1} → statement M
 put-row-spec =
@@ -56,6 +71,7 @@ put-row-spec =
     (tie.spec
     Inv-loop
     μ-loop
+    row-words-requires
     loop-holds
     word-at-requires
     mul-put-word

@@ -6,7 +6,7 @@ use Prim.Native.Nat.{_-_, _≤_}
 use mathlib.Core.Path.{_≡_}
 use lib.ListN.{length, getD}
 use lib.Seq.{slice}
-use Rattle.rows.specs.RowsRead.{rowGroups}
+use Rattle.wire.specs.Capacity.{groupCapacity}
 use Rattle.registers.proofs.JoinLaws.{JoinedBut, joined-none, left-listed, joined-more, joined-all}
 use Rattle.registers.proofs.joins.join_sons.Statement.{statement}
 use Rattle.registers.proofs.joins.join_sons.Tie as tie
@@ -28,7 +28,7 @@ within c =
 
 group : (c : tie.In-loop Inv-loop μ-loop)
     → getD (c .before .before .before .before .before .before .before .before .before .before .before .before .before .before .before .before .before .args .order .now)
-    (c .before .loop .k) 0 ≤ rowGroups
+    (c .before .loop .k) 0 ≤ groupCapacity
 group c =
     let u = c .before .before in
     u .before .before .before .before .before .before .before .before .before .before .before .before .before .before .before .pre .0 .groups _

@@ -5,6 +5,8 @@ use mathlib.Core.Path.{_≡_, sym, _∙_}
 use mathlib.Core.Bool.{true}
 use native.Mathlib.Omega.{arith}
 use borrow.Author.Tests.{not-true, not-false}
+use Rattle.wire.specs.Edition.{editionOf}
+use Rattle.wire.specs.EditionFacts.{row-parts}
 use Rattle.wire.specs.Member.{isSide}
 use Rattle.rows.proofs.RowLaws.{RowFields, front-no-side, front-nobody, front-rises, front-joined, front-falls}
 use Rattle.rows.proofs.decode.row_framed.Statement.{statement}
@@ -14,20 +16,20 @@ add-long : tie.Need-add-long
 add-long c = search needs
 
 long-requires : tie.Need-long-requires
-long-requires c κs = search needs
+long-requires c κs = omega (arith, row-parts (editionOf (c .before .args .edition)))
 
 add-word : tie.Need-add-word
 add-word c = search needs
 
 word-requires : tie.Need-word-requires
-word-requires c κs = search needs
+word-requires c κs = omega (arith, row-parts (editionOf (c .before .before .args .edition)))
 
 is-side-requires : tie.Need-is-side-requires
 is-side-requires c κs = search needs
 
 -- the row's fields; its side is one of the two; it names somebody
 fields : (c : tie.After-word)
-    → RowFields (c .before .before .before .args .register .now) (c .before .before .before .args .at) (c .before .long .result) (c .word .result)
+    → RowFields (editionOf (c .before .before .before .args .edition)) (c .before .before .before .args .register .now) (c .before .before .before .args .at) (c .before .long .result) (c .word .result)
 fields c =
     let k = c .before .before in
     record {
@@ -46,11 +48,11 @@ named c = omega (arith, c .if2 .left)
 
 returns : tie.Need-returns
 returns c =
-    front-no-side (fields (c .before .before)) _
+    front-no-side _ (fields (c .before .before)) _
     (sym (c .before .is-side .ensures) ∙ not-true (c .before .is-side .result) (c .if1 .taken))
 
 returns-2 : tie.Need-returns-2
-returns-2 c = front-nobody (fields (c .before .before .before)) (sided (c .before)) _ (omega (arith, c .if2 .taken))
+returns-2 c = front-nobody _ (fields (c .before .before .before)) (sided (c .before)) _ (omega (arith, c .if2 .taken))
 
 key-of-requires : tie.Need-key-of-requires
 key-of-requires c κs = sided (c .before)
@@ -62,7 +64,7 @@ returns-3 : tie.Need-returns-3
 returns-3 c =
     let k = c .before .before in
     c .row-found .ensures
-    ∙ sym (front-rises (fields (k .before .before .before .before)) (sided (k .before .before)) (named (k .before)) _ _ (k .key-of .ensures)
+    ∙ sym (front-rises _ (fields (k .before .before .before .before)) (sided (k .before .before)) (named (k .before)) _ _ (k .key-of .ensures)
     (omega (arith, c .before .if3 .taken)))
 
 row-found-requires-2 : tie.Need-row-found-requires-2
@@ -72,13 +74,13 @@ returns-4 : tie.Need-returns-4
 returns-4 c =
     let k = c .before .before .before in
     c .row-found2 .ensures
-    ∙ sym (front-joined (fields (k .before .before .before .before)) (sided (k .before .before)) (named (k .before)) _ _ (k .key-of .ensures)
+    ∙ sym (front-joined _ (fields (k .before .before .before .before)) (sided (k .before .before)) (named (k .before)) _ _ (k .key-of .ensures)
     (omega (arith, c .before .before .if3 .left, c .before .if4 .taken)))
 
 returns-5 : tie.Need-returns-5
 returns-5 c =
     let k = c .before .before in
-    front-falls (fields (k .before .before .before .before)) (sided (k .before .before)) (named (k .before)) _ _ (k .key-of .ensures)
+    front-falls _ (fields (k .before .before .before .before)) (sided (k .before .before)) (named (k .before)) _ _ (k .key-of .ensures)
     (omega (arith, c .before .if3 .left, c .if4 .left))
 
 pub row-framed-spec : {M : Type 1} → statement M

@@ -1,0 +1,16 @@
+-- `row_kind` meets its contract: the number of either edition.
+use Rattle.wire.specs.Edition.{rowKind}
+use Rattle.wire.specs.EditionFacts.{second-of, first-of}
+use Rattle.wire.proofs.edition.row_kind.Statement.{statement}
+use Rattle.wire.proofs.edition.row_kind.Tie as tie
+
+returns : tie.Need-returns
+unfolding rowKind
+returns c = rw (second-of (c .if1 .taken))
+
+returns-2 : tie.Need-returns-2
+unfolding rowKind
+returns-2 c = rw (first-of (c .if1 .left))
+
+pub row-kind-spec : {M : Type 1} → statement M
+row-kind-spec = tie.close (tie.spec returns returns-2)
