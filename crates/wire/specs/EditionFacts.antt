@@ -8,14 +8,14 @@ use Rattle.wire.specs.Capacity.{groupCapacity, nameBytes}
 use Rattle.wire.specs.Edition.{Edition, edition1, edition2, editionNumber, editionOf, groupLimit, labelLimit, membershipBytes}
 use Rattle.wire.specs.Edition.{rowKind, rowLength, rowBytes, rowHead}
 
--- the number 2 is the second edition's, and no other is
-pub second-of : {n : ℕ} → n ≡ 2 → editionOf n ≡ edition2
-unfolding editionOf editionNumber
-second-of {n} e = rw (eq-eqb n 2 e)
+-- the edition with a number: the second where it is its number, and else the first
+pub second-of : {n : ℕ} → n ≡ editionNumber edition2 → editionOf n ≡ edition2
+unfolding editionOf
+second-of {n} e = rw (eq-eqb n (editionNumber edition2) e)
 
-pub first-of : {n : ℕ} → (n ≡ 2 → ⊥) → editionOf n ≡ edition1
-unfolding editionOf editionNumber
-first-of {n} e = rw (ne-eqb n 2 e)
+pub first-of : {n : ℕ} → (n ≡ editionNumber edition2 → ⊥) → editionOf n ≡ edition1
+unfolding editionOf
+first-of {n} e = rw (ne-eqb n (editionNumber edition2) e)
 
 -- no two editions have one number
 pub edition-back : (e : Edition) → editionOf (editionNumber e) ≡ e

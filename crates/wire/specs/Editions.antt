@@ -34,7 +34,7 @@ pub record Editions : Type 0 where
   -- a longer label is turned back by 3
   pub labels : (nameRefusal edition1 16 ≡ 0) × (nameRefusal edition1 17 ≡ 3) × (nameRefusal edition2 32 ≡ 0) × (nameRefusal edition2 33 ≡ 3)
   -- labels that differ behind their first 16 bytes are two
-  pub whole : sameLabel (replicate 16 65 ++ (65 ∷ [])) (replicate 16 65 ++ (66 ∷ [])) ≡ false
+  pub whole : used (record { group = 1; label = replicate 16 65 ++ (65 ∷ []) } ∷ []) (replicate 16 65 ++ (66 ∷ [])) ≡ false
   -- each edition takes its own rows, and turns the other's back by 11
   pub rows : (rowRefusal edition1 1 24 33 0 1 15 ≡ 0) × (rowRefusal edition2 1 40 34 0 1 31 ≡ 0)
   pub others : (rowRefusal edition1 1 40 34 0 1 31 ≡ 11) × (rowRefusal edition2 1 24 33 0 1 31 ≡ 11)

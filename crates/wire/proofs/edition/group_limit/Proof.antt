@@ -1,15 +1,15 @@
 -- `group_limit` meets its contract: the number of either edition.
-use Rattle.wire.specs.Edition.{groupLimit}
+use Rattle.wire.specs.Edition.{editionNumber, groupLimit}
 use Rattle.wire.specs.EditionFacts.{second-of, first-of}
 use Rattle.wire.proofs.edition.group_limit.Statement.{statement}
 use Rattle.wire.proofs.edition.group_limit.Tie as tie
 
 returns : tie.Need-returns
-unfolding groupLimit
+unfolding editionNumber groupLimit
 returns c = rw (second-of (c .if1 .taken))
 
 returns-2 : tie.Need-returns-2
-unfolding groupLimit
+unfolding editionNumber groupLimit
 returns-2 c = rw (first-of (c .if1 .left))
 
 pub group-limit-spec : {M : Type 1} → statement M

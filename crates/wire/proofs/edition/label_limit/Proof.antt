@@ -1,15 +1,15 @@
 -- `label_limit` meets its contract: the number of either edition.
-use Rattle.wire.specs.Edition.{labelLimit}
+use Rattle.wire.specs.Edition.{editionNumber, labelLimit}
 use Rattle.wire.specs.EditionFacts.{second-of, first-of}
 use Rattle.wire.proofs.edition.label_limit.Statement.{statement}
 use Rattle.wire.proofs.edition.label_limit.Tie as tie
 
 returns : tie.Need-returns
-unfolding labelLimit
+unfolding editionNumber labelLimit
 returns c = rw (second-of (c .if1 .taken))
 
 returns-2 : tie.Need-returns-2
-unfolding labelLimit
+unfolding editionNumber labelLimit
 returns-2 c = rw (first-of (c .if1 .left))
 
 pub label-limit-spec : {M : Type 1} → statement M

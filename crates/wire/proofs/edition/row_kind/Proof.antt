@@ -1,15 +1,15 @@
 -- `row_kind` meets its contract: the number of either edition.
-use Rattle.wire.specs.Edition.{rowKind}
+use Rattle.wire.specs.Edition.{editionNumber, rowKind}
 use Rattle.wire.specs.EditionFacts.{second-of, first-of}
 use Rattle.wire.proofs.edition.row_kind.Statement.{statement}
 use Rattle.wire.proofs.edition.row_kind.Tie as tie
 
 returns : tie.Need-returns
-unfolding rowKind
+unfolding editionNumber rowKind
 returns c = rw (second-of (c .if1 .taken))
 
 returns-2 : tie.Need-returns-2
-unfolding rowKind
+unfolding editionNumber rowKind
 returns-2 c = rw (first-of (c .if1 .left))
 
 pub row-kind-spec : {M : Type 1} → statement M

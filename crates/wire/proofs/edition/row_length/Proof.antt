@@ -1,15 +1,15 @@
 -- `row_length` meets its contract: the number of either edition.
-use Rattle.wire.specs.Edition.{rowLength}
+use Rattle.wire.specs.Edition.{editionNumber, rowLength}
 use Rattle.wire.specs.EditionFacts.{second-of, first-of}
 use Rattle.wire.proofs.edition.row_length.Statement.{statement}
 use Rattle.wire.proofs.edition.row_length.Tie as tie
 
 returns : tie.Need-returns
-unfolding rowLength
+unfolding editionNumber rowLength
 returns c = rw (second-of (c .if1 .taken))
 
 returns-2 : tie.Need-returns-2
-unfolding rowLength
+unfolding editionNumber rowLength
 returns-2 c = rw (first-of (c .if1 .left))
 
 pub row-length-spec : {M : Type 1} → statement M
