@@ -16,7 +16,12 @@
 
    All fields, of sheets, registers and replies, are unsigned and have their low byte first. A record
    is a two-byte length L of all that follows it, a two-byte kind, and a body of L - 2 bytes: it
-   takes L + 2 bytes in all. */
+   takes L + 2 bytes in all.
+
+   A sheet is of edition 1 or 2, as its head says. The edition sets how many groups there may be, how
+   long labels are and which rows a register has; all else is the same in both. Write edition 1 where
+   a sheet has at most 128 groups and labels of up to 16 bytes, since older readers read no other, and
+   edition 2 elsewhere. */
 #ifndef GROUP_SHEET_H
 #define GROUP_SHEET_H
 
@@ -27,19 +32,24 @@
 extern "C" {
 #endif
 
-/* Limits of a sheet and of a register. */
+/* Limits of a sheet and of a register. A name that ends in _1 or _2 is for sheets of that edition. */
 enum {
-    SHEET_EDITION = 1,
-    SHEET_MAX_GROUPS = 128,
+    SHEET_EDITION_1 = 1,
+    SHEET_EDITION_2 = 2,
+    SHEET_MAX_GROUPS_1 = 128,
+    SHEET_MAX_GROUPS_2 = 256,
     SHEET_MAX_NAMES = 128,
     SHEET_MAX_CLAIMS = 64,
-    SHEET_MAX_LABEL = 16,
+    SHEET_MAX_LABEL_1 = 16,
+    SHEET_MAX_LABEL_2 = 32,
     SHEET_MAX_LIST = 8,         /* names in one list of a claim of kind 5, 6 or 7 */
     SHEET_MAX_BOUND = 65534,    /* greatest lo, and greatest hi that is an end */
     SHEET_NO_UPPER_END = 65535, /* as hi, in a group and in a count claim */
-    SHEET_MAX_BYTES = 6924,     /* the longest sheet that can be read */
+    SHEET_MAX_BYTES_1 = 6924,   /* the longest sheet that can be read */
+    SHEET_MAX_BYTES_2 = 10508,
     SHEET_MAX_ROWS = 2048,
-    SHEET_ROW_BYTES = 26
+    SHEET_ROW_BYTES_1 = 26,
+    SHEET_ROW_BYTES_2 = 42
 };
 
 /* In a reply of sheet_ranges, for a greatest count that doesn't exist. */
@@ -49,7 +59,8 @@ enum {
 enum sheet_kind {
     SHEET_KIND_HEAD = 1,    /* L = 10: edition, groups G, names S, claims Q; two bytes each */
     SHEET_KIND_GROUP = 2,   /* L = 10: parent, lo, hi, mode; two bytes each */
-    SHEET_KIND_NAME = 3,    /* L = 5 to 20: group (0: the empty set), label of 1 to 16 bytes */
+    SHEET_KIND_NAME = 3,    /* L = 5 to 20, in edition 2 to 36: group (0: the empty set), label of
+                               1 to 16 bytes, in edition 2 to 32 */
     SHEET_KIND_COUNT = 4,   /* L = 8: name, lo, hi; two bytes each */
     SHEET_KIND_INSIDE = 5,  /* L = 6 + 2(m + n): m, n, m left names, n right names */
     SHEET_KIND_APART = 6,   /* the same */
@@ -58,8 +69,9 @@ enum sheet_kind {
     SHEET_KIND_VERDICT = 18,/* reply, L = 4: verdict, two bytes */
     SHEET_KIND_SHOWN = 19,  /* reply, L = 12: first, count (four bytes each), mark (two bytes) */
     SHEET_KIND_RESULT = 20, /* reply, L = 6: group, rule; two bytes each */
-    SHEET_KIND_ROW = 33     /* register, L = 24: member (four bytes), side (two bytes), 16 bytes of
+    SHEET_KIND_ROW_1 = 33,  /* register, L = 24: member (four bytes), side (two bytes), 16 bytes of
                                membership */
+    SHEET_KIND_ROW_2 = 34   /* register, L = 40: the same with 32 bytes of membership */
 };
 
 /* A group's mode is a sum of these. */
@@ -81,8 +93,10 @@ enum sheet_refusal {
     SHEET_CUT = 1,               /* fewer than four bytes or than the length asks remain, or the
                                     length is below 2 [the record] */
     SHEET_WRONG_KIND = 2,        /* the kind is not one for this place [the record] */
-    SHEET_WRONG_LENGTH = 3,      /* the length is not that kind's [the record] */
-    SHEET_FIELD_RANGE = 4,       /* a field outside its range, or m and n don't give the length
+    SHEET_WRONG_LENGTH = 3,      /* the length is not that kind's (for a name, in this edition)
+                                    [the record] */
+    SHEET_FIELD_RANGE = 4,       /* a field outside its range (for G, in this edition), an edition
+                                    other than 1 and 2, or m and n don't give the length
                                     [the record] */
     SHEET_BAD_REFERENCE = 5,     /* a parent, group or name number not allowed there [the record] */
     SHEET_LABEL_TWICE = 6,       /* a label was used before [the record] */
@@ -91,7 +105,8 @@ enum sheet_refusal {
     SHEET_NO_SUCH_CLAIM = 9,     /* the claim number is 0 or above Q [0]; claim only */
     SHEET_TOO_MANY_ROWS = 10,    /* bytes follow the 2,048th row [2049]; 10 to 13 and 15 register
                                     only */
-    SHEET_BAD_ROW = 11,          /* a row is cut, or its kind or length is wrong [the row] */
+    SHEET_BAD_ROW = 11,          /* a row is cut, or its kind or length is not this edition's
+                                    [the row] */
     SHEET_BAD_SIDE = 15,         /* a side other than 1 or 2 [the row] */
     SHEET_MEMBER_ORDER = 12,     /* a row's member is 0, or its member and side are below the
                                     row before [the row] */
@@ -121,8 +136,8 @@ enum sheet_verdict {
 #define SHEET_VERDICT_REPLY ((size_t)6)                               /* the verdict alone */
 #define SHEET_SHOWN_REPLY(groups) ((size_t)6 + (size_t)14 * (groups)) /* a verdict with sets */
 #define SHEET_REGISTER_REPLY ((size_t)8)
-/* Enough for every reply. */
-#define SHEET_MAX_REPLY ((size_t)20 * SHEET_MAX_GROUPS)
+/* Enough for every reply, in both editions. */
+#define SHEET_MAX_REPLY ((size_t)20 * SHEET_MAX_GROUPS_2)
 
 /* The two halves of what an operation returns. */
 static inline uint32_t sheet_refusal_of(uint64_t returned) { return (uint32_t)(returned >> 32); }
@@ -153,9 +168,10 @@ static inline void sheet_put32(uint8_t *at, uint32_t value)
        at 4 least, at 8 greatest (SHEET_NO_GREATEST for none), at 12 first, at 16 count.
    In the arrangement group g has the members first, first + 1, .., first + count - 1. No sets that
    fit have fewer members in group 1 than the arrangement, and every member of every group of it is in
-   group 1's run. Where every finite end, least or greatest, is at most SHEET_MAX_BOUND, the ranges may
-   be written into the sheet as lo and hi (SHEET_NO_UPPER_END where there is no greatest): the same sets
-   fit it, and the reply is the same. */
+   group 1's run. No finite end, least or greatest, exceeds 127 x 65,534 = 8,322,818 in edition 1 and
+   255 x 65,534 = 16,711,170 in edition 2: SHEET_MAX_BOUND for each group but one. Where every finite
+   end is at most SHEET_MAX_BOUND, the ranges may be written into the sheet as lo and hi
+   (SHEET_NO_UPPER_END where there is no greatest): the same sets fit it, and the reply is the same. */
 uint64_t sheet_ranges(const uint8_t *sheet, size_t sheet_len,
                       uint8_t *reply, size_t reply_len);
 
@@ -177,7 +193,9 @@ uint64_t sheet_claim(const uint8_t *sheet, size_t sheet_len, uint32_t claim,
                      uint8_t *reply, size_t reply_len);
 
 /* Whether the sets that a register lists fit the sheet.
-   Its rows are of kind 33 (SHEET_ROW_BYTES each):
+   The sheet's edition decides which rows a register has: under edition 1 all are of kind 33
+   (SHEET_ROW_BYTES_1 each, 16 bytes of membership), under edition 2 all are of kind 34
+   (SHEET_ROW_BYTES_2 each, 32 bytes of membership), also where the sheet has few groups. In both:
        at 4 member (its number, 1 upward), at 8 side (enum sheet_side), at 10 membership.
    Group g is bit (g - 1) % 8 of membership byte (g - 1) / 8, bit 0 the lowest. Ears are counted: a
    member here is a number with a side, so a recipient with two implants is two members. Rows rise

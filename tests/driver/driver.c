@@ -8,7 +8,7 @@
 
 #include "group_sheet.h"
 
-#define MOST 65536
+#define MOST 131072
 
 static uint8_t *unhex(const char *text, size_t *len)
 {
@@ -36,11 +36,11 @@ int main(void)
         memset(reply, 0xa5, len + 1);
         if (*op == 'c' && scanf("%u", &claim) != 1)
             return 2;
-        if (scanf("%131079s", one) != 1)
+        if (scanf("%262151s", one) != 1)
             return 2;
         a = unhex(one, &al);
         if (*op == 'g') {
-            if (scanf("%131079s", two) != 1)
+            if (scanf("%262151s", two) != 1)
                 return 2;
             b = unhex(two, &bl);
         }

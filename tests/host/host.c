@@ -1,11 +1,11 @@
-/* A small host: builds a sheet and a register, calls the three operations, prints what they say. */
+/* A small host: builds sheets and registers of both editions, calls the three operations, prints what they say. */
 #include <stdio.h>
 #include <string.h>
 
 #include "group_sheet.h"
 
 struct bytes {
-    uint8_t at[8192];
+    uint8_t at[16384];
     size_t len;
 };
 
@@ -22,10 +22,16 @@ static void word(struct bytes *b, uint32_t value)
     b->len += 2;
 }
 
-static void head(struct bytes *b, uint32_t groups, uint32_t names, uint32_t claims)
+/* Which edition to write: older readers read edition 1 and no other. */
+static uint32_t edition_for(uint32_t groups, size_t longest_label)
+{
+    return groups <= SHEET_MAX_GROUPS_1 && longest_label <= SHEET_MAX_LABEL_1 ? SHEET_EDITION_1 : SHEET_EDITION_2;
+}
+
+static void head(struct bytes *b, uint32_t edition, uint32_t groups, uint32_t names, uint32_t claims)
 {
     begin(b, 10, SHEET_KIND_HEAD);
-    word(b, SHEET_EDITION);
+    word(b, edition);
     word(b, groups);
     word(b, names);
     word(b, claims);
@@ -75,23 +81,38 @@ static void pair_claim(struct bytes *b, uint32_t kind, uint32_t left, uint32_t r
     list_claim(b, kind, 1, &left, 1, &right);
 }
 
-/* groups: bit g - 1 for group g, for the first 32 groups. */
+/* A row of edition 1. groups: bit g - 1 for group g, for the first 32 groups. */
 static void row(struct bytes *b, uint32_t member, uint32_t side, uint32_t groups)
 {
-    begin(b, SHEET_ROW_BYTES - 2, SHEET_KIND_ROW);
-    sheet_put32(b->at + b->len, member);
-    b->len += 4;
-    word(b, side);
-    memset(b->at + b->len, 0, 16);
-    sheet_put32(b->at + b->len, groups);
-    b->len += 16;
+    uint8_t *at = b->at + b->len;
+    memset(at, 0, SHEET_ROW_BYTES_1);
+    sheet_put16(at, SHEET_ROW_BYTES_1 - 2);
+    sheet_put16(at + 2, SHEET_KIND_ROW_1);
+    sheet_put32(at + 4, member);
+    sheet_put16(at + 8, side);
+    sheet_put32(at + 10, groups);
+    b->len += SHEET_ROW_BYTES_1;
+}
+
+/* A row of edition 2, in so many groups. */
+static void row_2(struct bytes *b, uint32_t member, uint32_t side, size_t n, const uint32_t *groups)
+{
+    uint8_t *at = b->at + b->len;
+    memset(at, 0, SHEET_ROW_BYTES_2);
+    sheet_put16(at, SHEET_ROW_BYTES_2 - 2);
+    sheet_put16(at + 2, SHEET_KIND_ROW_2);
+    sheet_put32(at + 4, member);
+    sheet_put16(at + 8, side);
+    for (size_t i = 0; i < n; i++)
+        at[10 + (groups[i] - 1) / 8] |= (uint8_t)(1 << (groups[i] - 1) % 8);
+    b->len += SHEET_ROW_BYTES_2;
 }
 
 /* The printed case of the paper. */
 static void clinic(struct bytes *b)
 {
     b->len = 0;
-    head(b, 4, 4, 3);
+    head(b, edition_for(4, strlen("RIGHT")), 4, 4, 3);
     group(b, 0, 10, 12, SHEET_DISJOINT + SHEET_COVER);
     group(b, 1, 0, 5, 0);
     group(b, 1, 2, 6, 0);
@@ -110,7 +131,7 @@ static void three_sons(struct bytes *b)
 {
     const uint32_t sons[] = {2, 3, 4}, nobody = 5;
     b->len = 0;
-    head(b, 4, 5, 3);
+    head(b, SHEET_EDITION_1, 4, 5, 3);
     group(b, 0, 2, 2, SHEET_COVER);
     for (int i = 0; i < 3; i++)
         group(b, 1, 0, 1, 0);
@@ -124,29 +145,56 @@ static void three_sons(struct bytes *b)
     list_claim(b, SHEET_KIND_PLACE, 1, sons + 2, 2, sons);
 }
 
+/* A large centre: 199 clinics of 1 to 9 members each, which share nobody. */
+static void large_centre(struct bytes *b)
+{
+    const char *north = "CENTRE-NORTH-REHABILITATION", *east = "CENTRE-NORTH-REHABILITATION-EAST";
+    const uint32_t all = 1, two[] = {2, 3};
+    b->len = 0;
+    head(b, edition_for(200, strlen(east)), 200, 3, 4);
+    group(b, 0, 0, SHEET_NO_UPPER_END, SHEET_DISJOINT + SHEET_COVER);
+    for (int i = 2; i <= 200; i++)
+        group(b, 1, 1, 9, 0);
+    name(b, 1, "ALL");
+    name(b, 129, north);
+    name(b, 200, east);
+    count_claim(b, 3, 1, 9);
+    pair_claim(b, SHEET_KIND_APART, 2, 3);
+    list_claim(b, SHEET_KIND_INSIDE, 1, &all, 2, two);
+    pair_claim(b, SHEET_KIND_PLACE, 3, 2);
+}
+
 static void refused(const char *what, uint64_t got)
 {
     printf("%s: refused %u %u\n", what, (unsigned)sheet_refusal_of(got), (unsigned)sheet_second_of(got));
 }
 
-static void show_ranges(const char *what, const struct bytes *sheet, uint8_t *reply, size_t len)
+static void show_range(const uint8_t *reply, size_t g)
+{
+    const uint8_t *range = reply + SHEET_RANGES_REPLY(g - 1);
+    uint32_t greatest = sheet_get32(range + 8);
+    printf("  group %u: %u to ", (unsigned)g, (unsigned)sheet_get32(range + 4));
+    if (greatest == SHEET_NO_GREATEST)
+        printf("any");
+    else
+        printf("%u", (unsigned)greatest);
+    printf(" members, arranged from %u, %u of them\n", (unsigned)sheet_get32(range + 12),
+           (unsigned)sheet_get32(range + 16));
+}
+
+/* Prints the ranges, of the first two groups alone where there are more than eight; how many groups there are. */
+static size_t show_ranges(const char *what, const struct bytes *sheet, uint8_t *reply, size_t len)
 {
     uint64_t got = sheet_ranges(sheet->at, sheet->len, reply, len);
     if (sheet_refusal_of(got) != SHEET_OK) {
         refused(what, got);
-        return;
+        return 0;
     }
+    size_t groups = sheet_second_of(got) / SHEET_RANGES_REPLY(1);
     printf("%s: %u bytes\n", what, (unsigned)sheet_second_of(got));
-    for (size_t at = 0, g = 1; at < sheet_second_of(got); at += 20, g++) {
-        uint32_t greatest = sheet_get32(reply + at + 8);
-        printf("  group %u: %u to ", (unsigned)g, (unsigned)sheet_get32(reply + at + 4));
-        if (greatest == SHEET_NO_GREATEST)
-            printf("any");
-        else
-            printf("%u", (unsigned)greatest);
-        printf(" members, arranged from %u, %u of them\n", (unsigned)sheet_get32(reply + at + 12),
-               (unsigned)sheet_get32(reply + at + 16));
-    }
+    for (size_t g = 1; g <= groups && (groups <= 8 || g <= 2); g++)
+        show_range(reply, g);
+    return groups;
 }
 
 /* Whether the run in a record of kind 19, with its mark, has this member. */
@@ -227,6 +275,69 @@ static int narrow(struct bytes *sheet, const uint8_t *reply, size_t groups)
     return 1;
 }
 
+/* A sheet of edition 2 and registers for it, beside the clinic's. */
+static void show_large_centre(uint8_t *reply, size_t len)
+{
+    static struct bytes centre, small, reg;
+    large_centre(&centre);
+    printf("large centre: edition %u, %u groups\n", (unsigned)sheet_get16(centre.at + 4), (unsigned)sheet_get16(centre.at + 6));
+    if (show_ranges("large centre, ranges", &centre, reply, len) == 200) {
+        show_range(reply, 129);
+        show_range(reply, 200);
+    }
+    show_ranges("large centre, buffer of 3999", &centre, reply, SHEET_RANGES_REPLY(200) - 1);
+    for (uint32_t c = 1; c <= 5; c++)
+        if (show_claim(&centre, c, reply, len) && c == 4)
+            show_member(reply, 200);
+    show_claim(&centre, 4, reply, SHEET_SHOWN_REPLY(200) - 1);
+
+    /* The left ears of 1 to 199, one in each clinic. */
+    for (uint32_t m = 1; m <= 199; m++) {
+        const uint32_t of[] = {1, m + 1};
+        row_2(&reg, m, SHEET_LEFT, 2, of);
+    }
+    size_t fits = reg.len;
+    show_register("large centre, an ear in each clinic", &centre, &reg, reply, len);
+    reg.len = fits - SHEET_ROW_BYTES_2;
+    show_register("large centre, nobody in the last clinic", &centre, &reg, reply, len);
+    /* One ear on two rows: its clinic in one, the centre in the other. */
+    const uint32_t all[] = {1}, east[] = {200}, shared[] = {1, 129, 200}, beyond[] = {1, 201};
+    reg.len = fits;
+    row_2(&reg, 200, SHEET_RIGHT, 1, east);
+    show_register("large centre, rehabilitation's row of 200, right", &centre, &reg, reply, len);
+    row_2(&reg, 200, SHEET_RIGHT, 1, all);
+    show_register("large centre, surgery's row of 200, right, too", &centre, &reg, reply, len);
+    reg.len = fits;
+    row_2(&reg, 200, SHEET_RIGHT, 3, shared);
+    show_register("large centre, an ear in clinics 129 and 200", &centre, &reg, reply, len);
+    reg.len = fits;
+    row_2(&reg, 200, SHEET_RIGHT, 2, beyond);
+    show_register("large centre, an ear in group 201", &centre, &reg, reply, len);
+    /* The sheet's edition decides which rows there are, however few groups it has. */
+    reg.len = fits;
+    row(&reg, 200, SHEET_RIGHT, 1 + 2);
+    show_register("large centre, a row of edition 1", &centre, &reg, reply, len);
+    clinic(&small);
+    reg.len = 0;
+    row_2(&reg, 1, SHEET_LEFT, 1, all);
+    show_register("the clinic, a row of edition 2", &small, &reg, reply, len);
+    sheet_put16(small.at + 4, SHEET_EDITION_2);
+    show_register("the clinic in edition 2, a row of edition 2", &small, &reg, reply, len);
+    show_ranges("the clinic in edition 2", &small, reply, len);
+
+    sheet_put16(centre.at + 4, SHEET_EDITION_1);
+    show_ranges("200 groups in edition 1", &centre, reply, len);
+    sheet_put16(centre.at + 4, 3);
+    show_ranges("edition 3", &centre, reply, len);
+    small.len = 0;
+    head(&small, SHEET_EDITION_1, 1, 1, 0);
+    group(&small, 0, 0, 9, 0);
+    name(&small, 1, "CENTRE-NORTH-WEST");
+    show_ranges("a label of 17 bytes in edition 1", &small, reply, len);
+    sheet_put16(small.at + 4, edition_for(1, strlen("CENTRE-NORTH-WEST")));
+    show_ranges("a label of 17 bytes in edition 2", &small, reply, len);
+}
+
 int main(void)
 {
     static struct bytes sheet, other, reg;
@@ -295,7 +406,7 @@ int main(void)
 
     /* A clinic that cannot be. */
     other.len = 0;
-    head(&other, 3, 0, 0);
+    head(&other, SHEET_EDITION_1, 3, 0, 0);
     group(&other, 0, 0, 3, SHEET_DISJOINT);
     group(&other, 1, 2, SHEET_NO_UPPER_END, 0);
     group(&other, 1, 2, SHEET_NO_UPPER_END, 0);
@@ -311,6 +422,8 @@ int main(void)
     int same = sheet_refusal_of(got) == SHEET_OK && got == once_more && memcmp(reply, again, sheet_second_of(got)) == 0;
     printf("ranges as bounds: %s, %s\n", !done ? "an end too large" : memcmp(other.at, sheet.at, sheet.len) != 0 ? "other bounds" : "the same bounds",
            same ? "the same reply" : "another reply");
+
+    show_large_centre(reply, sizeof reply);
 
     refused("no bytes at all", sheet_ranges(NULL, 0, NULL, 0));
     refused("no bytes, a claim", sheet_claim(NULL, 0, 1, NULL, 0));

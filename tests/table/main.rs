@@ -2,6 +2,7 @@
 #![allow(unexpected_cfgs)]
 #![allow(dead_code)]
 
+mod editions;
 #[path = "../oracle/format.rs"]
 mod format;
 
@@ -49,8 +50,61 @@ fn words(ws: &[u16]) -> Bytes {
     ws.iter().flat_map(|w| w.to_le_bytes()).collect()
 }
 
+// What an edition sets: its number, most groups, most bytes of a label; of a row the kind, length, bytes in all and
+// membership bytes.
+#[derive(Clone, Copy)]
+struct Edition {
+    number: u16,
+    groups: u16,
+    label: usize,
+    kind: u16,
+    length: u16,
+    row: usize,
+    membership: usize,
+}
+
+const FIRST: Edition = Edition { number: 1, groups: 128, label: 16, kind: 33, length: 24, row: 26, membership: 16 };
+const SECOND: Edition = Edition { number: 2, groups: 256, label: 32, kind: 34, length: 40, row: 42, membership: 32 };
+
+impl Edition {
+    fn head(self, g: u16, s: u16, q: u16) -> Bytes {
+        record(1, &words(&[self.number, g, s, q]))
+    }
+
+    fn groups(self, list: &[(u16, u16, u16, u16)]) -> Bytes {
+        self.sheet(list, &[], &[])
+    }
+
+    fn sheet(self, list: &[(u16, u16, u16, u16)], names: &[u16], claims: &[Bytes]) -> Bytes {
+        let mut b = self.head(list.len() as u16, names.len() as u16, claims.len() as u16);
+        for &(parent, lo, hi, mode) in list {
+            b.extend(group(parent, lo, hi, mode));
+        }
+        for (i, &g) in names.iter().enumerate() {
+            b.extend(name(g, &format!("N{}", i + 1)));
+        }
+        b.extend(claims.concat());
+        b
+    }
+
+    fn row_of(self, (number, side): Ear, groups: &[usize]) -> Bytes {
+        let mut b = number.to_le_bytes().to_vec();
+        b.extend(side.to_le_bytes());
+        b.extend(self.membership(groups));
+        record(self.kind, &b)
+    }
+
+    fn membership(self, groups: &[usize]) -> Bytes {
+        let mut bits = vec![0u8; self.membership];
+        for g in groups {
+            bits[(g - 1) / 8] |= 1 << ((g - 1) % 8);
+        }
+        bits
+    }
+}
+
 fn head(g: u16, s: u16, q: u16) -> Bytes {
-    record(1, &words(&[1, g, s, q]))
+    FIRST.head(g, s, q)
 }
 
 fn group(parent: u16, lo: u16, hi: u16, mode: u16) -> Bytes {
@@ -86,24 +140,17 @@ fn place(left: &[u16], right: &[u16]) -> Bytes {
     lists(7, left, right)
 }
 
-const ROW: usize = format::ROW;
+const ROW: usize = FIRST.row;
 const LEFT: u16 = 1;
 const RIGHT: u16 = 2;
 
 // A row of an ear: number and side.
-fn row_of((number, side): Ear, groups: &[usize]) -> Bytes {
-    let mut b = number.to_le_bytes().to_vec();
-    b.extend(side.to_le_bytes());
-    b.extend(membership(groups));
-    record(33, &b)
+fn row_of(ear: Ear, groups: &[usize]) -> Bytes {
+    FIRST.row_of(ear, groups)
 }
 
-fn membership(groups: &[usize]) -> [u8; 16] {
-    let mut bits = [0u8; 16];
-    for g in groups {
-        bits[(g - 1) / 8] |= 1 << ((g - 1) % 8);
-    }
-    bits
+fn membership(groups: &[usize]) -> Bytes {
+    FIRST.membership(groups)
 }
 
 // A row of the k-th ear, where everybody has two: 1 left, 1 right, 2 left and so on. Of 0 the number is 0.
@@ -132,15 +179,7 @@ fn groups(list: &[(u16, u16, u16, u16)]) -> Bytes {
 }
 
 fn sheet(list: &[(u16, u16, u16, u16)], names: &[u16], claims: &[Bytes]) -> Bytes {
-    let mut b = head(list.len() as u16, names.len() as u16, claims.len() as u16);
-    for &(parent, lo, hi, mode) in list {
-        b.extend(group(parent, lo, hi, mode));
-    }
-    for (i, &g) in names.iter().enumerate() {
-        b.extend(name(g, &format!("N{}", i + 1)));
-    }
-    b.extend(claims.concat());
-    b
+    FIRST.sheet(list, names, claims)
 }
 
 // The table's own sheet: records 1 head, 2 to 4 groups, 5 to 7 names, 8 to 10 claims.
@@ -177,6 +216,88 @@ fn cut(no: usize, keep: usize) -> Bytes {
     let mut s = b[..no - 1].concat();
     s.extend(&b[no - 1][..keep]);
     s
+}
+
+// The same in edition 2.
+
+// A sheet of edition 1 with edition 2 in its head; none where the head doesn't say edition 1.
+fn second(sheet: &[u8]) -> Option<Bytes> {
+    (sheet.len() >= 6 && sheet[4..6] == [1, 0]).then(|| [&sheet[..4], &[2, 0], &sheet[6..]].concat())
+}
+
+// A readable sheet of edition 1 as one of edition 2 with so many groups before its own: a root, whose last son its own root
+// becomes, and other sons of it, all free. The sets of its own groups that fit are the same.
+fn after(others: u16, sheet: &[u8]) -> Bytes {
+    let word = |at: usize| u16::from_le_bytes([sheet[at], sheet[at + 1]]);
+    let (g, s, q) = (word(6), word(8), word(10));
+    let mut b = SECOND.head(others + g, s, q);
+    b.extend(group(0, 0, NO_END, 0));
+    b.extend(group(1, 0, NO_END, 0).repeat(others as usize - 1));
+    let mut at = 12;
+    for k in 0..g + s {
+        // Parent or group, the field at 4.
+        let of = match word(at + 4) {
+            0 if k == 0 => 1,
+            0 => 0,
+            of => others + of,
+        };
+        let end = at + 2 + word(at) as usize;
+        b.extend(&sheet[at..at + 4]);
+        b.extend(of.to_le_bytes());
+        b.extend(&sheet[at + 6..end]);
+        at = end;
+    }
+    b.extend(&sheet[at..]);
+    b
+}
+
+// Rows of edition 1 as rows of edition 2, their groups moved up by 0, or by 128 or more and then in the root too; none
+// where these are not whole rows of edition 1.
+fn second_rows(others: u16, reg: &[u8]) -> Option<Bytes> {
+    let mut b = Vec::new();
+    for row in reg.chunks(FIRST.row) {
+        if row.len() < FIRST.row || row[..4] != [24, 0, 33, 0] {
+            return None;
+        }
+        let bits = u128::from_le_bytes(row[10..].try_into().unwrap());
+        let (low, high) = if others == 0 { (bits, 0) } else { ((bits != 0) as u128, bits << (others - 128)) };
+        b.extend([40, 0, 34, 0]);
+        b.extend(&row[4..10]);
+        b.extend(low.to_le_bytes());
+        b.extend(high.to_le_bytes());
+    }
+    Some(b)
+}
+
+// A readable sheet as it is, and where it is of edition 1 what it is in edition 2: with the same groups, with these as the
+// last of 256, with these after 128 others. 'others' is how many are before them; none for the sheet as it is.
+struct Form {
+    what: &'static str,
+    others: Option<u16>,
+    sheet: Bytes,
+}
+
+impl Form {
+    fn rows(&self, reg: &[u8]) -> Bytes {
+        self.others.map_or_else(|| reg.to_vec(), |n| second_rows(n, reg).expect("rows of edition 1"))
+    }
+
+    fn group(&self, g: u16) -> u16 {
+        if g == 0 { 0 } else { g + self.others.unwrap_or(0) }
+    }
+}
+
+fn forms(sheet: &[u8]) -> Vec<Form> {
+    let mut all = vec![Form { what: "", others: None, sheet: sheet.to_vec() }];
+    if let Some(same) = second(sheet) {
+        let last = 256 - sheet[6] as u16;
+        all.push(Form { what: ", edition 2", others: Some(0), sheet: same });
+        all.push(Form { what: ", edition 2, the last groups", others: Some(last), sheet: after(last, sheet) });
+        if last != 128 {
+            all.push(Form { what: ", edition 2, after 128 groups", others: Some(128), sheet: after(128, sheet) });
+        }
+    }
+    all
 }
 
 // Calls.
@@ -250,9 +371,17 @@ impl Table {
         self.note(what, ok, why);
     }
 
-    // A sheet that every operation turns back.
+    // A sheet that every operation turns back, in edition 2 too.
     fn sheet(&mut self, what: &str, sheet: &[u8], n: u64, r: u64) {
-        for len in [0, 8, 3000] {
+        self.sheet_once(what, sheet, n, r);
+        if let Some(sheet) = second(sheet) {
+            self.sheet_once(&format!("{what}, edition 2"), &sheet, n, r);
+        }
+    }
+
+    // The same in its own edition alone.
+    fn sheet_once(&mut self, what: &str, sheet: &[u8], n: u64, r: u64) {
+        for len in [0, 8, 6000] {
             if RANGES {
                 self.turned(&format!("{what} (ranges)"), Op::Ranges, sheet, len, n, r);
             }
@@ -265,7 +394,20 @@ impl Table {
         }
     }
 
+    // A register that is turned back; in edition 2 too, where these are whole rows of edition 1.
     fn register_refused(&mut self, what: &str, sheet: &[u8], reg: &[u8], n: u64, r: u64) {
+        self.register_refused_once(what, sheet, reg, n, r);
+        if let Some((same, rows)) = second(sheet).zip(second_rows(0, reg)) {
+            self.register_refused_once(&format!("{what}, edition 2"), &same, &rows, n, r);
+            // The sheet is readable.
+            if n >= 10 {
+                let rows = second_rows(128, reg).unwrap();
+                self.register_refused_once(&format!("{what}, edition 2, after 128 groups"), &after(128, sheet), &rows, n, r);
+            }
+        }
+    }
+
+    fn register_refused_once(&mut self, what: &str, sheet: &[u8], reg: &[u8], n: u64, r: u64) {
         if REGISTER {
             for len in [0, 7, 8, 50] {
                 self.turned(what, Op::Register(reg), sheet, len, n, r);
@@ -274,13 +416,29 @@ impl Table {
     }
 
     fn register(&mut self, what: &str, sheet: &[u8], reg: &[u8], group: u16, rule: u16) {
-        if REGISTER {
-            let want = framed(6, 20, &words(&[group, rule]));
-            for len in 0..8 {
-                self.turned(&format!("{what}, {len} bytes"), Op::Register(reg), sheet, len, 14, 0);
-            }
-            for len in [8, 9, 40] {
-                self.written(&format!("{what}, {len} bytes"), Op::Register(reg), sheet, len, &want);
+        self.register_with(what, sheet, reg, group, rule, &[0, 1, 2, 3, 4, 5, 6, 7, 8, 9, 40]);
+    }
+
+    // The same with fewer buffers, for the many registers by size.
+    fn checked(&mut self, what: &str, sheet: &[u8], reg: &[u8], group: u16, rule: u16) {
+        self.register_with(what, sheet, reg, group, rule, &[7, 8, 40]);
+    }
+
+    // With buffers of these lengths; a register of edition 1 in all its forms.
+    fn register_with(&mut self, what: &str, sheet: &[u8], reg: &[u8], group: u16, rule: u16, lengths: &[usize]) {
+        if !REGISTER {
+            return;
+        }
+        for form in forms(sheet) {
+            let reg = form.rows(reg);
+            let want = framed(6, 20, &words(&[form.group(group), rule]));
+            for &len in lengths {
+                let what = format!("{what}{}, {len} bytes", form.what);
+                if len < 8 {
+                    self.turned(&what, Op::Register(&reg), &form.sheet, len, 14, 0);
+                } else {
+                    self.written(&what, Op::Register(&reg), &form.sheet, len, &want);
+                }
             }
         }
     }
@@ -294,18 +452,22 @@ impl Table {
         }
     }
 
-    // The same as 'register' with fewer buffers, for the many registers by size.
-    fn checked(&mut self, what: &str, sheet: &[u8], reg: &[u8], group: u16, rule: u16) {
-        if REGISTER {
-            self.turned(&format!("{what}, 7 bytes"), Op::Register(reg), sheet, 7, 14, 0);
-            for len in [8, 40] {
-                self.written(&format!("{what}, {len} bytes"), Op::Register(reg), sheet, len, &framed(6, 20, &words(&[group, rule])));
+    // For each group least, greatest, first, count; a sheet of edition 1 in all its forms. The root before other groups is
+    // as small as the greatest least among its sons, and may have any number.
+    fn ranges(&mut self, what: &str, sheet: &[u8], want: &[[u32; 4]]) {
+        for form in forms(sheet) {
+            let mut all = Vec::new();
+            if let Some(others @ 1..) = form.others {
+                let least = want[0][0];
+                all.push([least, NONE, 1, least]);
+                all.extend(vec![[0, NONE, 1, 0]; others as usize - 1]);
             }
+            all.extend(want);
+            self.ranges_once(&format!("{what}{}", form.what), &form.sheet, &all);
         }
     }
 
-    // For each group least, greatest, first, count.
-    fn ranges(&mut self, what: &str, sheet: &[u8], want: &[[u32; 4]]) {
+    fn ranges_once(&mut self, what: &str, sheet: &[u8], want: &[[u32; 4]]) {
         if RANGES {
             let mut bytes = Vec::new();
             for w in want {
@@ -329,30 +491,41 @@ impl Table {
     }
 
     fn impossible(&mut self, what: &str, sheet: &[u8]) {
-        for len in [0, 3000] {
-            if RANGES {
-                self.turned(what, Op::Ranges, sheet, len, 8, 0);
-            }
-            if CLAIM {
-                for c in [0, 1, 2, 65, 65537, NONE] {
-                    self.turned(&format!("{what}, claim {c}"), Op::Claim(c), sheet, len, 8, 0);
+        for Form { what: form, sheet, .. } in forms(sheet) {
+            for len in [0, 6000] {
+                if RANGES {
+                    self.turned(&format!("{what}{form}"), Op::Ranges, &sheet, len, 8, 0);
+                }
+                if CLAIM {
+                    for c in [0, 1, 2, 65, 65537, NONE] {
+                        self.turned(&format!("{what}{form}, claim {c}"), Op::Claim(c), &sheet, len, 8, 0);
+                    }
                 }
             }
         }
     }
 
     fn no_claim(&mut self, what: &str, sheet: &[u8], numbers: &[u32]) {
-        if CLAIM {
+        if !CLAIM {
+            return;
+        }
+        for Form { what: form, sheet, .. } in forms(sheet) {
             for &c in numbers {
-                for len in [0, 5, 6, 3000] {
-                    self.turned(&format!("{what}, claim {c}"), Op::Claim(c), sheet, len, 9, 0);
+                for len in [0, 5, 6, 6000] {
+                    self.turned(&format!("{what}{form}, claim {c}"), Op::Claim(c), &sheet, len, 9, 0);
                 }
             }
         }
     }
 
-    // The verdicts on all claims of a sheet, with buffers around both lengths.
+    // The verdicts on all claims of a sheet, of edition 1 in all its forms, with buffers around both lengths.
     fn verdicts(&mut self, what: &str, sheet: &[u8], want: &[Verdict]) {
+        for form in forms(sheet) {
+            self.verdicts_once(&format!("{what}{}", form.what), &form.sheet, want);
+        }
+    }
+
+    fn verdicts_once(&mut self, what: &str, sheet: &[u8], want: &[Verdict]) {
         if !CLAIM {
             return;
         }
@@ -415,6 +588,7 @@ fn main() {
     planners(&mut t);
     claims(&mut t);
     places(&mut t);
+    editions::editions(&mut t);
     println!("table: {} passed, {} failed", t.passed, t.failed);
     if t.failed > 0 || t.passed == 0 {
         exit(1);
@@ -465,7 +639,7 @@ fn reading(t: &mut Table) {
     t.sheet("group of length 11", &with(3, record(2, &[0; 9])), 3, 3);
     t.sheet("name without label", &with(5, name(1, "")), 3, 5);
     t.sheet("name of length 3", &with(5, record(3, &[1])), 3, 5);
-    t.sheet("label of 17", &with(6, name(1, "ABCDEFGHIJKLMNOPQ")), 3, 6);
+    t.sheet_once("label of 17", &with(6, name(1, "ABCDEFGHIJKLMNOPQ")), 3, 6);
     t.sheet("count of length 6", &with(8, record(4, &words(&[1, 0]))), 3, 8);
     t.sheet("count of length 10", &with(8, record(4, &words(&[1, 0, 9, 0]))), 3, 8);
     t.sheet("inside of length 8", &with(9, record(5, &words(&[1, 1, 1]))), 3, 9);
@@ -475,10 +649,10 @@ fn reading(t: &mut Table) {
 
     // 4.
     t.sheet("edition 0", &with(1, record(1, &words(&[0, 3, 3, 3]))), 4, 1);
-    t.sheet("edition 2", &with(1, record(1, &words(&[2, 3, 3, 3]))), 4, 1);
+    t.sheet("edition 3", &with(1, record(1, &words(&[3, 3, 3, 3]))), 4, 1);
     t.sheet("edition 257", &with(1, record(1, &words(&[257, 3, 3, 3]))), 4, 1);
     t.sheet("no groups", &with(1, head(0, 3, 3)), 4, 1);
-    t.sheet("129 groups", &with(1, head(129, 3, 3)), 4, 1);
+    t.sheet_once("129 groups", &with(1, head(129, 3, 3)), 4, 1);
     t.sheet("129 names", &with(1, head(3, 129, 3)), 4, 1);
     t.sheet("65 claims", &with(1, head(3, 3, 65)), 4, 1);
     t.sheet("root with lo 65535", &with(2, group(0, 65535, 65535, 0)), 4, 2);
@@ -577,9 +751,9 @@ fn reading_pairs(t: &mut Table) {
     t.sheet("2+3 middle", &with(5, record(4, &[0; 30])), 2, 5);
     t.sheet("2+3 last", &with(10, record(9, &[])), 2, 10);
     // 3 and 4.
-    t.sheet("3+4 first", &with(1, record(1, &words(&[2, 0, 129, 65, 0]))), 3, 1);
+    t.sheet("3+4 first", &with(1, record(1, &words(&[3, 0, 129, 65, 0]))), 3, 1);
     t.sheet("3+4 group", &with(3, record(2, &words(&[1, 65535, 0, 8, 0]))), 3, 3);
-    t.sheet("3+4 name", &with(5, name(1, "abcdefghijklmnopq")), 3, 5);
+    t.sheet_once("3+4 name", &with(5, name(1, "abcdefghijklmnopq")), 3, 5);
     t.sheet("3+4 count", &with(8, record(4, &words(&[1, 65535, 0, 0]))), 3, 8);
     t.sheet("3+4 last", &with(10, record(6, &[0, 0, 9, 0, 1, 0, 1, 0, 1])), 3, 10);
     // 4 and 5.
