@@ -1,10 +1,11 @@
 -- The groups of a sheet that was read, as its table holds them, and their sons, as the check keeps them.
 use Prim.Native.Nat.{ℕ, _*_, _≤_}
-use mathlib.Core.Path.{_≡_, ap, _∙_}
+use mathlib.Core.Path.{_≡_, refl, ap, _∙_}
 use mathlib.Core.List.{List}
 use native.Mathlib.Omega.{arith}
 use lib.ListN.{length}
 use Rattle.wire.specs.Record.{read}
+use Rattle.wire.specs.Capacity.{groupCapacity}
 use Rattle.wire.specs.SheetFormat.{Records, readSheet}
 use Rattle.wire.specs.Facts.{read-right, right-few}
 use Rattle.meaning.specs.Sheet.{Group}
@@ -13,10 +14,14 @@ use Rattle.meaning.specs.OfRecords.{sheetOf}
 use Rattle.meaning.specs.Readable.{tree-of-right, rooted-of-right}
 use Rattle.reading.specs.Tables.{groupFields, groupsIn, length-groupsIn}
 use Rattle.reading.specs.SheetIn.{sheetIn, Tabled}
+use Rattle.reading.specs.Loaded.{Loads, loaded-sheet, loaded-held}
+use Rattle.reading.specs.declared.records.Head.{Head}
+use Rattle.reading.specs.declared.load.Loaded.{Loaded}
+use Rattle.reading.specs.declared.load.Loaded.the-variants as loaded
 use Rattle.registers.specs.SonLists.{keptSons, SonsListed}
 
 -- the groups of a readable sheet, as the table holds them
-pub tabled : (b t : List ℕ) (n : ℕ) (d : Records) → readSheet b ≡ read d → d .groups ≡ groupsIn t n
+tabled : (b t : List ℕ) (n : ℕ) (d : Records) → readSheet b ≡ read d → d .groups ≡ groupsIn t n
     → groupFields * n ≤ length t → Tabled t n
 unfolding sheetIn
 tabled b t n d e f l =
@@ -29,6 +34,11 @@ tabled b t n d e f l =
       tree = rw (← f) (tree-of-right R);
       rooted = rw (← f) (rooted-of-right R);
     }
+
+-- those of a sheet that was loaded
+pub loaded-tabled : {r : Loaded} {b t names labels claims places : List ℕ} → Loads r (readSheet b) b t names labels claims places → (h : Head)
+    → r ≡ loaded.Sheet h → groupFields * groupCapacity ≤ length t → Tabled t (h .groups)
+loaded-tabled w h e l = tabled _ _ _ _ (loaded-sheet w h e) refl (omega (arith, loaded-held w h e .limits .fewGroups))
 
 -- the list that is read off what was gathered from that table is, for each group of the sheet, its sons in number order
 -- (document 02, card 3)

@@ -5,7 +5,7 @@ use mathlib.Core.List.{List}
 use native.Mathlib.Omega.{arith}
 use Rattle.wire.specs.Record.{Reading, read, refused}
 use Rattle.replies.specs.Wrote.{Wrote, rest-kept}
-use Rattle.replies.specs.Reply.{call, packed, Refused, Replied}
+use Rattle.replies.specs.Reply.{Call, call, packed, Refused, Replied, OnceRead}
 
 -- a reading is one of the two, and of one value
 pub read-once : {A : Type 0} {x : Reading A} {d e : A} → x ≡ read d → x ≡ read e → d ≡ e
@@ -25,6 +25,14 @@ turned-back {n = n} {k = k} p e m j q =
     let a : n ≡ m = cc in
     let b : k ≡ j = cc in
     record { returned = e ∙ (rw (a, b)); unchanged = refl }
+
+-- a call whose reading is turned back, and one whose reading passes
+pub once-turned : {A : Type 0} {x : Reading A} {P : A → Type 0} {n k r : ℕ} {l : List ℕ} → x ≡ refused n k → r ≡ packed n k
+    → OnceRead x (call l r l) P
+once-turned e p = record { turned = turned-back e p; passed = λ d f. absurd (read-not-refused f e) }
+
+pub once-passed : {A : Type 0} {x : Reading A} {d : A} {c : Call} (P : A → Type 0) → x ≡ read d → P d → OnceRead x c P
+once-passed P e w = record { turned = λ n k f. absurd (read-not-refused e f); passed = as-read P e w }
 
 -- one write from the front on
 pub written : {l m : List ℕ} {r n k : ℕ} → n ≡ k → Wrote l 0 n m → r ≡ packed 0 n → Replied k (call l r m)

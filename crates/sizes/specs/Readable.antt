@@ -1,6 +1,6 @@
 -- What the contracts of the operations leave to be said of readable sheets.
 use Prim.Native.Nat.{ℕ, _-_, _*_, _≤_, max, zero-le}
-use mathlib.Core.Path.{_≡_}
+use mathlib.Core.Path.{_≡_, refl}
 use mathlib.Core.List.{List}
 use mathlib.Core.Logic.{_⊎_}
 use native.Mathlib.Omega.{arith}
@@ -9,7 +9,7 @@ use borrow.Author.Tests.{eqb-false}
 use lib.Dec.{eqb}
 use lib.ListN.{length}
 use Rattle.wire.specs.Limits.{boundLimit, noEnd}
-use Rattle.wire.specs.Edition.{Edition, groupLimit}
+use Rattle.wire.specs.Edition.{Edition, edition1, edition2, groupLimit}
 use Rattle.wire.specs.EditionFacts.{groups-many}
 use Rattle.wire.specs.Record.{read}
 use Rattle.wire.specs.SheetFormat.{Records, readSheet}
@@ -58,9 +58,14 @@ small-of-within {d} w = record {
       (λ e. let n : h ≡ noEnd → ⊥ = eqb-false h noEnd e in rw e (omega (arith, hi-most w g q)));
 }
 
--- "No finite end exceeds 127 × 65,534 = 8,322,818." (document 01, "Ranges")
+-- "No finite end exceeds 127 × 65,534 = 8,322,818." (document 01, "Ranges"); "A finite end is at most 255 × 65,534 = 16,711,170."
+-- (document 02, card 5)
 abbrev pub endLimit : Edition → ℕ
 endLimit e = (groupLimit e - 1) * boundLimit
+
+pub end-limits : (endLimit edition1 ≡ 8322818) × (endLimit edition2 ≡ 16711170)
+unfolding groupLimit
+end-limits = (refl, refl)
 
 pub readable-end-limit : (b : List ℕ) → Bytes b → (d : Records) → readSheet b ≡ read d → (g n : ℕ) → Group (sheetOf (d .groups)) g
     → End (sheetOf (d .groups)) g n → n ≤ endLimit (d .edition)

@@ -1,10 +1,8 @@
 -- `sheet_claim` meets its contract: the sheet's refusal, or the answer under it.
-use mathlib.Core.Path.{refl}
-use native.Mathlib.Omega.{arith}
 use borrow.Author.Needs.{needs}
 use Rattle.reading.specs.Loaded.{loaded-sheet, loaded-held, loaded-refused}
-use Rattle.replies.proofs.ReplyLaws.{read-not-refused, turned-back}
-use Rattle.group_sheet.proofs.TabledLaws.{tabled}
+use Rattle.replies.proofs.ReplyLaws.{read-not-refused, once-turned}
+use Rattle.group_sheet.proofs.TabledLaws.{loaded-tabled}
 use Rattle.group_sheet.proofs.claim.sheet_claim.Statement.{statement}
 use Rattle.group_sheet.proofs.claim.sheet_claim.Tie as tie
 
@@ -51,23 +49,18 @@ give-claim-requires : tie.Need-give-claim-requires
 give-claim-requires c κs =
     let load = c .before .before .before .before .before .before .before .before .before .before .before .before .before .load-sheet .ensures in
     let told = c .before .before .before .before .before .before .head .given .1 in
-    let e = loaded-sheet load _ told in
-    let held = loaded-held load _ told in
     record {
       labels = _;
-      reads = e;
-      held = held;
-      tabled = tabled _ _ _ _ e refl (omega (arith, held .limits .fewGroups));
+      reads = loaded-sheet load _ told;
+      held = loaded-held load _ told;
+      tabled = loaded-tabled load _ told (search needs);
       rooms = search needs;
     }
 
 returns : tie.Need-returns
 returns c =
-    let e = loaded-refused (c .before .before .before .before .before .before .before .before .before .load-sheet .ensures) _ _ (c .before .before .n .given .1) in
-    record {
-      turned = turned-back e (c .pack .ensures);
-      passed = λ d f. absurd (read-not-refused f e);
-    }
+    once-turned (loaded-refused (c .before .before .before .before .before .before .before .before .before .load-sheet .ensures) _ _ (c .before .before .n .given .1))
+    (c .pack .ensures)
 
 same-length : tie.Need-same-length
 same-length c = search needs

@@ -1,13 +1,11 @@
 -- `sheet_ranges` meets its contract: the sheet's refusal, or the answer under it.
-use mathlib.Core.Path.{refl}
-use native.Mathlib.Omega.{arith}
 use borrow.Author.Needs.{needs}
 use Rattle.meaning.specs.OfRecords.{sheetOf}
 use Rattle.reading.specs.SheetIn.{sheetIn}
-use Rattle.reading.specs.Loaded.{loaded-sheet, loaded-held, loaded-refused}
+use Rattle.reading.specs.Loaded.{loaded-sheet, loaded-refused}
 use Rattle.range_reply.specs.RangesReply.{Ranges}
-use Rattle.replies.proofs.ReplyLaws.{read-not-refused, as-read, turned-back}
-use Rattle.group_sheet.proofs.TabledLaws.{tabled}
+use Rattle.replies.proofs.ReplyLaws.{once-turned, once-passed}
+use Rattle.group_sheet.proofs.TabledLaws.{loaded-tabled}
 use Rattle.group_sheet.proofs.ranges.sheet_ranges.Statement.{statement}
 use Rattle.group_sheet.proofs.ranges.sheet_ranges.Tie as tie
 
@@ -31,17 +29,11 @@ slice-aggregate-give-ranges c = search needs
 
 give-ranges-requires : tie.Need-give-ranges-requires
 give-ranges-requires c κs =
-    let w = c .before .before .before .before .before .before .load-tree .ensures .loads in
-    let e = c .before .before .before .head .given .1 in
-    tabled _ _ _ _ (loaded-sheet w _ e) refl (omega (arith, loaded-held w _ e .limits .fewGroups))
+    loaded-tabled (c .before .before .before .before .before .before .load-tree .ensures .loads) _ (c .before .before .before .head .given .1) (search needs)
 
 returns : tie.Need-returns
 returns c =
-    let e = loaded-refused (c .before .before .before .before .before .load-tree .ensures .loads) _ _ (c .before .before .n .given .1) in
-    record {
-      turned = turned-back e (c .pack .ensures);
-      passed = λ d f. absurd (read-not-refused f e);
-    }
+    once-turned (loaded-refused (c .before .before .before .before .before .load-tree .ensures .loads) _ _ (c .before .before .n .given .1)) (c .pack .ensures)
 
 same-length : tie.Need-same-length
 same-length c = search needs
@@ -49,11 +41,9 @@ same-length c = search needs
 returns-2 : tie.Need-returns-2
 unfolding sheetIn
 returns-2 c =
-    let e = loaded-sheet (c .before .before .before .before .before .before .before .before .before .load-tree .ensures .loads) _ (c .before .before .before .before .before .before .head .given .1) in
-    record {
-      turned = λ n k f. absurd (read-not-refused e f);
-      passed = as-read (λ d. Ranges (sheetOf (d .groups)) _) e (c .before .before .give-ranges .ensures);
-    }
+    once-passed (λ d. Ranges (sheetOf (d .groups)) _)
+    (loaded-sheet (c .before .before .before .before .before .before .before .before .before .load-tree .ensures .loads) _ (c .before .before .before .before .before .before .head .given .1))
+    (c .before .before .give-ranges .ensures)
 
 pub sheet-ranges-spec : {M : Type 1} → statement M
 sheet-ranges-spec =
