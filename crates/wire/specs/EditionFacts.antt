@@ -47,6 +47,12 @@ unfolding groupLimit
 groups-many edition1 = omega arith
 groups-many edition2 = omega arith
 
+-- every edition takes labels of two bytes
+pub labels-long : (e : Edition) → 2 ≤ labelLimit e
+unfolding labelLimit
+labels-long edition1 = omega arith
+labels-long edition2 = omega arith
+
 -- numbers, kinds and lengths fit two bytes
 pub edition-fits : (e : Edition) → editionNumber e ≤ noEnd
 unfolding editionNumber

@@ -189,7 +189,7 @@ each-end xs (count n lo hi ∷ cs) h =
     more (h n lo hi (List·Memᴰ·head refl)) (each-end (xs ++ (count n lo hi ∷ [])) cs (λ m l u i. h m l u (List·Memᴰ·tail i)))
 each-end xs (lists k l r ∷ cs) h = more tt (each-end (xs ++ (lists k l r ∷ [])) cs (λ m l u i. h m l u (List·Memᴰ·tail i)))
 
-end-of-each : {xs cs : List ClaimRecord} → Each ClaimEnd xs cs → (n lo hi : ℕ) → List·Memᴰ (count n lo hi) cs → hi ≤ noEnd
+pub end-of-each : {xs cs : List ClaimRecord} → Each ClaimEnd xs cs → (n lo hi : ℕ) → List·Memᴰ (count n lo hi) cs → hi ≤ noEnd
 end-of-each none n lo hi i = absurd (List·Memᴰ·not-nil i)
 end-of-each {xs} (more p e) n lo hi i =
     ⊎-elim (λ q. subst (ClaimEnd xs) (sym q) p) (λ j. end-of-each e n lo hi j) (List·Memᴰ·cases-cons i)

@@ -22,3 +22,4 @@ pub mod RoundTripRecords
 pub mod RoundTripSheet
 pub mod MemberKey
 pub mod RowFacts
+pub mod Longest

@@ -1,0 +1,184 @@
+-- The longest readable sheet of an edition (document 01, "Records of a sheet"; document 02, card 5) has `sheetLimit` bytes: 6,924 in
+-- edition 1, 10,508 in edition 2. It has all groups, all names with labels of the greatest length, and all claims with two full lists.
+use Prim.Native.Nat.{ℕ, zero, suc, _+_, _-_, _/_, _%_, _≤_, _<_}
+use mathlib.Core.Path.{_≡_, refl}
+use mathlib.Core.Bool.{Bool, true, false, _&&_}
+use mathlib.Core.List.{List, [], _∷_, _++_, flatMap}
+use native.Mathlib.Omega.{arith}
+use native.Mathlib.Nat.{zero-add, add-zero}
+use lib.ListN.{length, replicate, length-replicate}
+use lib.Dec.{ltb, eqb}
+use borrow.Author.Tests.{eqb-true, ltb-true, ne-eqb, le-leb, lt-ltb}
+use Rattle.laws.specs.Cases.{split, and-true}
+use Rattle.wire.specs.Limits.{nameLimit, claimLimit, listLimit}
+use Rattle.wire.specs.Edition.{Edition, edition1, edition2, editionNumber, groupLimit, labelLimit}
+use Rattle.wire.specs.EditionFacts.{groups-many, labels-long}
+use Rattle.wire.specs.Capacity.{sheetLimit}
+use Rattle.wire.specs.Bytes.{le16}
+use Rattle.wire.specs.Record.{read}
+use Rattle.wire.specs.SheetFormat.{GroupRecord, NameRecord, inside, listNumber, ClaimRecord, lists, Records}
+use Rattle.wire.specs.SheetFormat.{parentAllowed, labelByte, labelBytes, sameLabel, used, allWithin, readSheet}
+use Rattle.wire.specs.Encoding.{Bytes, encodeRecord, encodeHead, encodeGroup, encodeName, encodeClaim, encodeSheet}
+use Rattle.wire.specs.Encoding.{Each, none, more, GroupRight, NameRight, ListRight, SheetWithin}
+use Rattle.wire.specs.Facts.{end-of-each, readable-length}
+use Rattle.wire.specs.RoundTripSheet.{read-encoded-sheet}
+
+-- a readable sheet of edition e, and no readable sheet of e is longer
+pub record Longest (e : Edition) : Type 0 where
+  pub sheet : List ℕ
+  pub records : Records
+  pub bytes : Bytes sheet
+  pub reads : readSheet sheet ≡ read records
+  pub edition : records .edition ≡ e
+  pub size : length sheet ≡ sheetLimit e
+  pub most : (b : List ℕ) (d : Records) → readSheet b ≡ read d → d .edition ≡ e → length b ≤ length sheet
+
+-- n items from f i on
+unfoldable from : {A : Type 0} → (ℕ → A) → ℕ → ℕ → List A
+from f i zero = []
+from f i (suc n) = f i ∷ from f (suc i) n
+
+module _ {A : Type 0} (f : ℕ → A) where
+  length-from : (i n : ℕ) → length (from f i n) ≡ n
+  unfolding from
+  length-from i zero = refl
+  length-from i (suc n) = omega (arith, length-from (suc i) n)
+
+  from-last : (i n : ℕ) → from f i n ++ (f (i + n) ∷ []) ≡ from f i (suc n)
+  unfolding from
+  from-last i zero = rw add-zero
+  from-last i (suc n) =
+      let same : i + suc n ≡ suc i + n = omega arith in
+      rw (same, from-last (suc i) n)
+
+  -- items each of which is right after those before it
+  each-rest : {P : List A → A → Type 0} (i n : ℕ) → ((k : ℕ) → k < i + n → P (from f 0 k) (f k)) → Each P (from f 0 i) (from f i n)
+  unfolding from
+  each-rest i zero right = none
+  each-rest {P} i (suc n) right =
+      let last : from f 0 i ++ (f i ∷ []) ≡ from f 0 (suc i) = rw zero-add at (from-last 0 i) in
+      let rest : Each P (from f 0 (suc i)) (from f (suc i) n) = each-rest (suc i) n (λ k l. right k (omega arith)) in
+      more (right i (omega arith)) (rw (← last) at rest)
+
+  each-from : {P : List A → A → Type 0} (n : ℕ) → ((k : ℕ) → k < n → P (from f 0 k) (f k)) → Each P [] (from f 0 n)
+  unfolding from
+  each-from n right = each-rest 0 n (λ k l. right k (omega arith))
+
+-- Each group is the son of the one before it; names are for the empty set, and their labels differ in the first two bytes.
+abbrev group : ℕ → GroupRecord
+group i = record { parent = i; lo = 0; hi = 0; mode = 0 }
+
+abbrev label : Edition → ℕ → List ℕ
+label e i = (65 + i / 16) ∷ (65 + i % 16) ∷ replicate (labelLimit e - 2) 65
+
+abbrev name : Edition → ℕ → NameRecord
+name e i = record { group = 0; label = label e i }
+
+abbrev claim : ℕ → ClaimRecord
+claim i = lists inside (replicate listLimit 1) (replicate listLimit 1)
+
+abbrev longest : Edition → Records
+longest e = record {
+  edition = e;
+  groups = from group 0 (groupLimit e);
+  names = from (name e) 0 nameLimit;
+  claims = from claim 0 claimLimit;
+}
+
+parent-allowed : (i : ℕ) → parentAllowed (i + 1) i ≡ true
+unfolding parentAllowed
+parent-allowed zero = refl
+parent-allowed (suc i) =
+    rw (ne-eqb (suc i + 1) 1 (λ z. omega arith), le-leb 1 (suc i) (omega arith), lt-ltb (suc i) (suc i + 1) (omega arith))
+
+group-right : (i : ℕ) → GroupRight (from group 0 i) (group i)
+group-right i = record { parent = rw (length-from group 0 i) (parent-allowed i); lo = omega arith; mode = omega arith }
+
+list-right : ListRight nameLimit (replicate listLimit 1)
+unfolding allWithin
+list-right = record { first = omega arith; last = omega arith; allowed = refl }
+
+fill-bytes : (n : ℕ) → labelBytes (replicate n 65) ≡ true
+unfolding labelBytes labelByte
+fill-bytes zero = refl
+fill-bytes (suc n) = fill-bytes n
+
+label-bytes : (e : Edition) (i : ℕ) → i < nameLimit → labelBytes (label e i) ≡ true
+unfolding labelBytes labelByte
+label-bytes e i l =
+    rw (
+      le-leb 65 (65 + i / 16) (omega arith),
+      le-leb (65 + i / 16) 90 (omega arith),
+      le-leb 65 (65 + i % 16) (omega arith),
+      le-leb (65 + i % 16) 90 (omega arith),
+    ) (fill-bytes (labelLimit e - 2))
+
+labels-differ : (e : Edition) (i j : ℕ) → i < j → sameLabel (label e i) (label e j) ≡ false
+unfolding sameLabel
+labels-differ e i j l =
+    split (eqb (65 + i / 16) (65 + j / 16))
+    (λ t. let same = eqb-true (65 + i / 16) (65 + j / 16) t in rw (t, ne-eqb (65 + i % 16) (65 + j % 16) (λ z. omega arith)))
+    (λ t. rw t)
+
+label-new : (e : Edition) (i n j : ℕ) → i + n ≤ j → used (from (name e) i n) (label e j) ≡ false
+unfolding used from
+label-new e i zero j l = refl
+label-new e i (suc n) j l = rw (labels-differ e i j (omega arith), label-new e (suc i) n j (omega arith))
+
+name-right : (e : Edition) (groups i : ℕ) → i < nameLimit → NameRight e groups (from (name e) 0 i) (name e i)
+name-right e groups i l = record {
+  group = omega arith;
+  first = omega arith;
+  last = omega (arith, length-replicate {A = ℕ} (labelLimit e - 2) 65, labels-long e);
+  bytes = label-bytes e i l;
+  new = label-new e 0 i i (omega arith);
+}
+
+longest-within : (e : Edition) → SheetWithin (longest e)
+longest-within e = record {
+  right = record {
+    someGroup = omega (arith, length-from group 0 (groupLimit e), groups-many e);
+    groupCount = omega (arith, length-from group 0 (groupLimit e));
+    nameCount = omega (arith, length-from (name e) 0 nameLimit);
+    claimCount = omega (arith, length-from claim 0 claimLimit);
+    groups = each-from group (groupLimit e) (λ i l. group-right i);
+    names = each-from (name e) nameLimit (name-right e _);
+    claims = rw (length-from (name e) 0 nameLimit) (each-from claim claimLimit (λ i l. (list-right, list-right)));
+  };
+  groupEnds = each-from group (groupLimit e) (λ i l. omega arith);
+  claimEnds = end-of-each (each-from claim claimLimit (λ i l. tt));
+}
+
+-- every number is a byte, as a test
+unfoldable allBytes : List ℕ → Bool
+allBytes [] = true
+allBytes (x ∷ b) = ltb x 256 && allBytes b
+
+bytes-all : (b : List ℕ) → allBytes b ≡ true → Bytes b
+unfolding allBytes
+bytes-all [] h i = omega arith
+bytes-all (x ∷ b) h zero = ltb-true x 256 (and-true (ltb x 256) (allBytes b) h .0)
+bytes-all (x ∷ b) h (suc i) = bytes-all b (and-true (ltb x 256) (allBytes b) h .1) i
+
+-- computed from the bytes, in each edition
+longest-written : (e : Edition) → (length (encodeSheet (longest e)) ≡ sheetLimit e) × (allBytes (encodeSheet (longest e)) ≡ true)
+unfolding editionNumber groupLimit labelLimit from flatMap le16 listNumber encodeRecord encodeHead encodeGroup encodeName encodeClaim encodeSheet allBytes
+longest-written edition1 = (refl, refl)
+longest-written edition2 = (refl, refl)
+
+pub longest-readable : (e : Edition) → Longest e
+longest-readable e =
+    let written = longest-written e in
+    record {
+      sheet = encodeSheet (longest e);
+      records = longest e;
+      bytes = bytes-all (encodeSheet (longest e)) (written .1);
+      reads = read-encoded-sheet (longest e) (longest-within e);
+      edition = refl;
+      size = written .0;
+      most = λ b d r same. rw (written .0, ← same) (readable-length b d r);
+    }
+
+pub longest-bytes : (sheetLimit edition1 ≡ 6924) × (sheetLimit edition2 ≡ 10508)
+unfolding groupLimit labelLimit
+longest-bytes = (refl, refl)
