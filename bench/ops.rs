@@ -1,6 +1,7 @@
-// Our operations beside ordinary Rust of the same algorithm, on the same bytes, in turns.
-//   ops FOLDER [WHAT]     FOLDER has the sheets NAME.sheet and the registers NAME.rows; prints a line 'what ours rust' in
-//                         ns for each, or for WHAT alone
+// Our operations beside ordinary Rust of the same algorithm, on the same bytes, in turns; and ours at 128 groups beside 256.
+//   ops FOLDER [WHAT]     FOLDER has the sheets NAME.sheet and the registers NAME.rows; prints a line 'what first second
+//                         ratio' for each, or for WHAT alone: ours and Rust's in ns, of 'growth ..' ours at 128 and at 256
+//                         groups, and the middle ratio of second to first
 
 #[path = "engine.rs"]
 mod engine;
@@ -35,32 +36,35 @@ fn register(s: &[u8], g: &[u8], r: &mut [u8]) -> u64 {
 }
 
 const RUNS: usize = 101;
+const REPLY: usize = 20 * 256; // bytes of the longest reply
+const LARGE: [usize; 2] = [128, 256]; // most groups of each edition
 
-// The middle of 101 runs of each, in nanoseconds per call; a run is long enough to be measured.
-fn middle(mut a: impl FnMut(), mut b: impl FnMut()) -> (f64, f64) {
-    let times = |f: &mut dyn FnMut(), n: u32| {
+// The middle of 101 runs of each, in nanoseconds per call, and of the ratios of b to a; a run is long enough to be measured.
+fn middle(mut a: impl FnMut() -> u64, mut b: impl FnMut() -> u64) -> [f64; 3] {
+    let times = |f: &mut dyn FnMut() -> u64, n: u32| {
         let start = Instant::now();
         for _ in 0..n {
-            f();
+            black_box(f());
         }
         start.elapsed().as_nanos() as f64 / n as f64
     };
     let warm = times(&mut a, 20).max(times(&mut b, 20));
     let turns = ((100_000.0 / warm) as u32).clamp(1, 2000);
-    let (mut x, mut y) = (Vec::new(), Vec::new());
-    for _ in 0..RUNS {
-        x.push(times(&mut a, turns));
-        y.push(times(&mut b, turns));
+    let mut runs = [[0.0; RUNS]; 3];
+    for i in 0..RUNS {
+        let (x, y) = (times(&mut a, turns), times(&mut b, turns));
+        (runs[0][i], runs[1][i], runs[2][i]) = (x, y, y / x);
     }
-    x.sort_by(f64::total_cmp);
-    y.sort_by(f64::total_cmp);
-    (x[RUNS / 2], y[RUNS / 2])
+    runs.map(|mut of| {
+        of.sort_by(f64::total_cmp);
+        of[RUNS / 2]
+    })
 }
 
-fn measure(what: &str, ours: impl FnMut(), rust: impl FnMut()) {
+fn measure(what: &str, a: impl FnMut() -> u64, b: impl FnMut() -> u64) {
     if std::env::args().nth(2).map_or(true, |only| only == what) {
-        let times = middle(ours, rust);
-        println!("{what}\t{:.0}\t{:.0}", times.0, times.1);
+        let [first, second, ratio] = middle(a, b);
+        println!("{what}\t{first:.0}\t{second:.0}\t{ratio:.4}");
     }
 }
 
@@ -75,88 +79,80 @@ fn word(b: &[u8], at: usize) -> usize {
 }
 
 // All claims of a sheet.
-fn claims(what: &str, s: &[u8], x: &mut [u8], y: &mut [u8]) {
-    let q = word(s, 10) as u32;
-    for c in 1..=q {
-        let (a, b) = (claim(s, c, x), engine::claim(s, c, y));
-        assert!(a == b && x[..6] == y[..6], "{what}, claim {c}");
-    }
-    measure(
-        what,
-        || {
-            for c in 1..=q {
-                black_box(claim(black_box(s), c, x));
-            }
-        },
-        || {
-            for c in 1..=q {
-                black_box(engine::claim(black_box(s), c, y));
-            }
-        },
-    );
+fn each_claim(s: &[u8], one: impl Fn(&[u8], u32, &mut [u8]) -> u64, r: &mut [u8]) -> u64 {
+    (1..=word(s, 10) as u32).fold(0, |all, c| all ^ black_box(one(s, c, r)))
 }
 
 fn main() {
     let folder = std::env::args().nth(1).expect("a folder of sheets");
-    let mut x = vec![0u8; 2560];
-    let mut y = vec![0u8; 2560];
+    let (x, y) = (&mut vec![0u8; REPLY][..], &mut vec![0u8; REPLY][..]);
     let sheet = |name: &str| fs::read(format!("{folder}/{name}.sheet")).expect(name);
 
     // Reading: a largest sheet, an empty register.
-    for place in ["first", "last"] {
-        let s = sheet(&format!("largest-{place}"));
-        same("reading", (register(&s, &[], &mut x), &x), (engine::register_walk(&s, &[], &mut y), &y));
+    for (place, n) in ["first", "last"].iter().flat_map(|place| LARGE.map(|n| (place, n))) {
+        let s = &sheet(&format!("largest-{place}-{n}"))[..];
+        same("reading", (register(s, &[], x), x), (engine::register_walk(s, &[], y), y));
         measure(
-            &format!("reading a largest sheet, labels differ in the {place} bytes"),
-            || {
-                black_box(register(black_box(&s), &[], &mut x));
-            },
-            || {
-                black_box(engine::register_walk(black_box(&s), &[], &mut y));
-            },
+            &format!("reading {place} {n}"),
+            || register(black_box(s), &[], x),
+            || engine::register_walk(black_box(s), &[], y),
         );
     }
 
     for shape in ["chain", "star", "bushy"] {
-        for size in [16, 32, 64, 128] {
-            let s = sheet(&format!("{shape}-{size}"));
-            same(shape, (ranges(&s, &mut x), &x), (engine::ranges(&s, &mut y), &y));
-            measure(
-                &format!("ranges {shape} {size}"),
-                || {
-                    black_box(ranges(black_box(&s), &mut x));
-                },
-                || {
-                    black_box(engine::ranges(black_box(&s), &mut y));
-                },
-            );
-            claims(&format!("claims {shape} {size}"), &s, &mut x, &mut y);
+        let of = |what: &str, n| sheet(&format!("{shape}-{what}-{n}"));
+        for (what, from) in [("ranges", "claims"), ("bare", "bare")] {
+            for n in [16, 32, 64, 128, 256] {
+                let s = &of(from, n)[..];
+                same(shape, (ranges(s, x), x), (engine::ranges(s, y), y));
+                measure(&format!("{what} {shape} {n}"), || ranges(black_box(s), x), || engine::ranges(black_box(s), y));
+            }
+            let [a, b] = LARGE.map(|n| of(from, n));
+            measure(&format!("growth {what} {shape}"), || ranges(&a, x), || ranges(&b, y));
         }
-        claims(&format!("places {shape} 128"), &sheet(&format!("{shape}-places")), &mut x, &mut y);
+        for what in ["claims", "places", "count", "inside", "apart", "place"] {
+            for n in [16, 32, 64, 128, 256] {
+                let s = &of(what, n)[..];
+                for c in 1..=word(s, 10) as u32 {
+                    let (a, b) = (claim(s, c, x), engine::claim(s, c, y));
+                    assert!(a == b && x[..6] == y[..6], "{what} {shape} {n}, claim {c}");
+                    assert!(c > 1 || a == 6 + 14 * n as u64, "{what} {shape} {n}: the first claim shows no sets");
+                }
+                measure(
+                    &format!("{what} {shape} {n}"),
+                    || each_claim(black_box(s), claim, x),
+                    || each_claim(black_box(s), engine::claim, y),
+                );
+            }
+            let [a, b] = LARGE.map(|n| of(what, n));
+            measure(&format!("growth {what} {shape}"), || each_claim(&a, claim, x), || each_claim(&b, claim, y));
+        }
     }
 
     // Registers: a sheet that the rows fit, and one that they break at its last group alone.
     let trees = ["star", "bushy", "caterpillar", "chain"];
     for shape in ["", "-two-rows"].iter().flat_map(|rows| trees.map(|tree| format!("{tree}{rows}"))) {
-        let reg = fs::read(format!("{folder}/register-{shape}.rows")).expect(&shape);
-        for (which, what, last) in [("fits", "fits", 0), ("broken", "broken at the last group", 128)] {
-            let s = sheet(&format!("register-{shape}-{which}"));
-            for (how, rust) in [
-                ("walk", engine::register_walk as fn(&[u8], &[u8], &mut [u8]) -> u64),
-                ("columns", engine::register_columns),
-            ] {
-                same(what, (register(&s, &reg, &mut x), &x[..8]), (rust(&s, &reg, &mut y), &y[..8]));
-                assert!(word(&x, 4) == last, "{shape} {what}: group {}", word(&x, 4));
-                measure(
-                    &format!("register {shape} {what}, Rust by {how}"),
-                    || {
-                        black_box(register(black_box(&s), &reg, &mut x));
-                    },
-                    || {
-                        black_box(rust(black_box(&s), &reg, &mut y));
-                    },
-                );
+        let rows = |n| fs::read(format!("{folder}/register-{shape}-{n}.rows")).expect(&shape);
+        let under = |n, which| sheet(&format!("register-{shape}-{n}-{which}"));
+        for n in LARGE {
+            let reg = &rows(n)[..];
+            for (which, last) in [("fits", 0), ("broken", n)] {
+                let s = &under(n, which)[..];
+                for (how, rust) in [
+                    ("walk", engine::register_walk as fn(&[u8], &[u8], &mut [u8]) -> u64),
+                    ("columns", engine::register_columns),
+                ] {
+                    same(&shape, (register(s, reg, x), x), (rust(s, reg, y), y));
+                    assert!(word(x, 4) == last, "{shape} {n} {which}: group {}", word(x, 4));
+                    measure(
+                        &format!("register {shape} {n} {which} {how}"),
+                        || register(black_box(s), reg, x),
+                        || rust(black_box(s), reg, y),
+                    );
+                }
             }
         }
+        let (a, b) = (LARGE.map(|n| under(n, "fits")), LARGE.map(rows));
+        measure(&format!("growth register {shape}"), || register(&a[0], &b[0], x), || register(&a[1], &b[1], y));
     }
 }

@@ -1,7 +1,7 @@
 /* How deep the stack goes in one call: a thread on a painted stack, and the lowest byte that the
    call changed.  stack SHEET PLACES OF-REGISTER ROWS  prints a line 'operation bytes' for each. The first claims
-   of SHEET are of kinds 4, 5 and 6; the first claim of PLACES is of kind 7 and a yes; the register ROWS is full
-   and fits the sheet OF-REGISTER. With - for SHEET the register alone is measured. */
+   of SHEET are of kinds 4, 5 and 6 and denied; the first claim of PLACES is of kind 7 and a yes; the register ROWS is
+   full and fits the sheet OF-REGISTER. With - for SHEET the register alone is measured. */
 #define _GNU_SOURCE
 #include <pthread.h>
 #include <stdio.h>
@@ -11,10 +11,11 @@
 
 #include "group_sheet.h"
 
-enum { STACK = 8 << 20, PAINT = 0xa7 };
+/* A stack of 32 times the limit, 256 KiB; buffers for the edition with the longer sheets, rows and replies. */
+enum { STACK = 8 << 20, PAINT = 0xa7, MOST_SHEET = 16384, ROWS = 2048, MOST_ROW = 42, MOST_REPLY = 20 * 256 };
 
-static uint8_t sheet[8192], places[8192], of_register[8192], rows[SHEET_ROW_BYTES * SHEET_MAX_ROWS];
-static uint8_t reply[SHEET_MAX_REPLY], *stack;
+static uint8_t sheet[MOST_SHEET], places[MOST_SHEET], of_register[MOST_SHEET], rows[MOST_ROW * ROWS];
+static uint8_t reply[MOST_REPLY], *stack;
 static size_t len, places_len, of_register_len, rows_len;
 static int what;
 static size_t used;
@@ -35,9 +36,10 @@ static void *run(void *unused)
     case 5: got = sheet_claim(places, places_len, 1, reply, sizeof reply); break;
     case 6: got = sheet_register(of_register, of_register_len, rows, rows_len, reply, sizeof reply); break;
     }
-    if (sheet_refusal_of(got) != 0 || (what == 5 && sheet_get16(reply + 4) != SHEET_HOLDS) ||
+    int of_claim = what >= 2 && what <= 5;
+    if (sheet_refusal_of(got) != 0 || (of_claim && sheet_second_of(got) == SHEET_VERDICT_REPLY) ||
         (what == 6 && sheet_get16(reply + 4) != 0)) {
-        fprintf(stderr, "operation %d: refused %u, a no, or a broken rule\n", what, (unsigned)sheet_refusal_of(got));
+        fprintf(stderr, "operation %d: refused %u, no sets, or a broken rule\n", what, (unsigned)sheet_refusal_of(got));
         exit(1);
     }
     uint8_t *p = stack;
@@ -69,7 +71,7 @@ int main(int argc, char **argv)
     }
     of_register_len = load(argv[3], of_register, sizeof of_register);
     rows_len = load(argv[4], rows, sizeof rows);
-    if (rows_len != sizeof rows)
+    if (rows_len != ROWS * (sheet_get16(rows) + 2))
         return 2;
     stack = mmap(NULL, STACK, PROT_READ | PROT_WRITE, MAP_PRIVATE | MAP_ANONYMOUS, -1, 0);
     if (stack == MAP_FAILED)

@@ -2,6 +2,7 @@
 
     compare.py DRIVER [--seed N] [--small N] [--large N] [--operations 'ranges claim']
 
+N small sheets, of both editions by turns, and N large ones of each edition: of 20 to 128 groups and of 129 to 256.
 A disagreement prints the sheet and ends the run with status 1. A question that a solver leaves
 unanswered in its time is not counted; more than two in a hundred of them fail the run."""
 import argparse
@@ -10,10 +11,21 @@ import sys
 from collections import Counter
 
 from models import Cvc5Sets, GlpkSizes, Unanswered, Z3Sizes, claims_shown, ends_questions
-from sheets import KINDS, Library, by_hand, fits, may_show, random_sheet, shown_sets
+from sheets import EDITIONS, FIRST, KINDS, Library, at_limit, by_hand, fits, may_show, random_sheet, shown_sets
 
 tally, missing = Counter(), Counter()
 VERDICT = '%s claims, %s'
+POSSIBLE = {True: 'possible', False: 'impossible'}
+SETS_CHECKED = 'replies whose sets were checked'
+OVER = ', over %d groups' % FIRST.groups  # what only edition 2 has is counted by itself
+
+
+def over(sheet):
+    return OVER if len(sheet.groups) > FIRST.groups else ''
+
+
+def sheets_counted(size, edition, possible):
+    return '%s sheets of edition %d, %s' % (size, edition.number, POSSIBLE[possible])
 
 
 def differ(sheet, solver, what):
@@ -26,7 +38,7 @@ def agree(sheet, solver, what, ours, theirs):
     """One answer; it is counted under what comes before the colon."""
     if ours != theirs:
         differ(sheet, solver, '%s: library %s, solver %s' % (what, ours, theirs))
-    tally['%s: %s' % (solver, what.split(':')[0])] += 1
+    tally['%s: %s%s' % (solver, what.split(':')[0], over(sheet))] += 1
 
 
 def agree_claims(sheet, solver, ours, answers):
@@ -57,7 +69,7 @@ class Ours:
                         sets = shown_sets(runs)
                         if not fits(sheet, sets) or not may_show(sheet.claims[i], sets):
                             differ(sheet, 'plain check', 'sets shown of claim %d: %s' % (i + 1, runs))
-                        tally['replies whose sets were checked'] += 1
+                        tally[SETS_CHECKED + over(sheet)] += 1
 
 
 def with_cvc5(sheet, ours):
@@ -67,13 +79,13 @@ def with_cvc5(sheet, ours):
     ends = []
     if ours.possible:
         if ours.ranges:
-            ends = list(ends_questions(ours.ranges))
+            ends = list(ends_questions(sheet, ours.ranges))
             for g, op, k, _ in ends:
                 model.check(model.end(g, op, k))
         for c in sheet.claims if ours.shown else []:
             model.check(model.shown(c))
     answers = model.answers()
-    agree(sheet, name, 'possible', ours.possible, answers.pop(0))
+    agree(sheet, name, POSSIBLE[ours.possible], ours.possible, answers.pop(0))
     for g, op, k, want in ends:
         agree(sheet, name, 'range end: group %d %s %d' % (g, op, k), want, answers.pop(0))
     if ours.shown:
@@ -83,10 +95,10 @@ def with_cvc5(sheet, ours):
 def with_z3(sheet, ours):
     name = Z3Sizes.name
     model = Z3Sizes(sheet).plain()
-    agree(sheet, name, 'possible', ours.possible, model.check())
+    agree(sheet, name, POSSIBLE[ours.possible], ours.possible, model.check())
     if not ours.possible:
         return
-    for g, op, k, want in ends_questions(ours.ranges or []):
+    for g, op, k, want in ends_questions(sheet, ours.ranges or []):
         agree(sheet, name, 'range end: group %d %s %d' % (g, op, k), want, model.end(g, op, k))
     if ours.shown:
         agree_claims(sheet, name, ours, claims_shown(model, Z3Sizes(sheet).marked(), sheet))
@@ -95,7 +107,7 @@ def with_z3(sheet, ours):
 def with_glpk(sheet, ours):
     name = GlpkSizes.name
     model = GlpkSizes(sheet)
-    agree(sheet, name, 'possible', ours.possible, model.solve())
+    agree(sheet, name, POSSIBLE[ours.possible], ours.possible, model.solve())
     if not ours.possible:
         return
     for g, r in enumerate(ours.ranges or []):
@@ -115,20 +127,21 @@ def main():
     rng = random.Random(o.seed)
     library = Library(o.driver)
     operations = o.operations.split()
-    sheets = [(s, [with_cvc5, with_z3, with_glpk], True) for s in by_hand()]
-    for _ in range(o.small):
+    sheets = [(s, 'small', [with_cvc5, with_z3, with_glpk]) for s in by_hand()]
+    for i in range(o.small):
         n = rng.randint(1, 6)
-        sheets.append((random_sheet(rng, n, 4), [with_cvc5, with_z3, with_glpk], True))
-    for i in range(o.large):
-        n = 128 if i % 4 == 0 else rng.randint(20, 128)
-        s = random_sheet(rng, n, 12, most=12)
-        sheets.append((s, [with_z3, with_glpk] if i % 3 == 0 else [with_glpk], False))
-    for s, solvers, small in sheets:
-        ours = Ours(library, s, operations, small and all(g[1] < 1000 for g in s.groups))
+        sheets.append((random_sheet(rng, n, 4, edition=EDITIONS[i % 2]), 'small', [with_cvc5, with_z3, with_glpk]))
+    for edition in EDITIONS:
+        sheets += [(s, 'large', [with_z3, with_glpk]) for s in at_limit(edition)]
+        for i in range(o.large):
+            n = edition.groups if i % 4 == 0 else rng.randint(20 if edition == FIRST else FIRST.groups + 1, edition.groups)
+            s = random_sheet(rng, n, 24, 12, edition)
+            sheets.append((s, 'large', [with_z3, with_glpk] if i % 3 == 0 else [with_glpk]))
+    for s, size, solvers in sheets:
+        ours = Ours(library, s, operations, size == 'small' and all(g[1] < 1000 for g in s.groups))
         if ours.possible is None:
             continue
-        kind = 'small' if small else 'large'
-        tally['%s sheets, %s' % (kind, 'possible' if ours.possible else 'impossible')] += 1
+        tally[sheets_counted(size, s.edition, ours.possible)] += 1
         for solver in solvers:
             try:
                 solver(s, ours)
@@ -142,13 +155,18 @@ def main():
         print('too many questions left unanswered')
         sys.exit(1)
     agreed = sum(n for k, n in tally.items() if ' (sets): ' in k or ' (sizes): ' in k)
-    if agreed == 0 or not tally['small sheets, possible']:
-        print('nothing was compared')
-        sys.exit(1)
-    wanted = ['%s: %s' % (model.name, VERDICT % (kind, verdict)) for model in (Cvc5Sets, Z3Sizes, GlpkSizes)
-              for kind in KINDS for verdict in ('hold', 'denied')]
+    wanted = [sheets_counted(size, edition, possible) for size in ('small', 'large') for edition in EDITIONS
+              for possible in POSSIBLE]
+    models = [(Cvc5Sets, ''), (Z3Sizes, ''), (GlpkSizes, ''), (Z3Sizes, OVER), (GlpkSizes, OVER)]
+    wanted += ['%s: %s%s' % (model.name, possible, size) for model, size in models for possible in POSSIBLE.values()]
+    if 'ranges' in operations:
+        wanted += ['%s: %s%s' % (model.name, 'range' if model == GlpkSizes else 'range end', size) for model, size in models]
+    if 'claim' in operations:
+        wanted += ['%s: %s%s' % (model.name, VERDICT % (kind, verdict), size) for model, size in models
+                   for kind in KINDS for verdict in ('hold', 'denied')]
+        wanted += [SETS_CHECKED, SETS_CHECKED + OVER]
     unmet = [k for k in wanted if not tally[k]]
-    if 'claim' in operations and unmet:
+    if unmet:
         print('never met: ' + '; '.join(unmet))
         sys.exit(1)
     print('solvers: %d answers agree on %d sheets, seed %d' % (agreed, len(sheets), o.seed))

@@ -10,7 +10,7 @@ member, the others' sizes f, and lo <= f + m <= hi.
 A question on a claim is whether its reply shows sets: some that fit break it, or have a place's member."""
 import subprocess
 
-from sheets import COVER, DISJOINT, MOST, SAME
+from sheets import COVER, DISJOINT, SAME
 
 
 class Unanswered(Exception):
@@ -94,13 +94,13 @@ def union(groups):
     return out
 
 
-def ends_questions(ranges):
+def ends_questions(sheet, ranges):
     """For each end of each range: (group, comparison, number, the answer it must have)."""
     for i, (least, greatest) in enumerate(ranges):
         yield i + 1, '=', least, True
         yield i + 1, '<', least, False
         if greatest is None:
-            yield i + 1, '>', MOST, True
+            yield i + 1, '>', sheet.most, True
         else:
             yield i + 1, '=', greatest, True
             yield i + 1, '>', greatest, False
@@ -212,7 +212,7 @@ class Z3Sizes:
 
 class GlpkSizes:
     name = 'GLPK (sizes)'
-    CAP = 20_000_000   # stands for no upper end; above every end that can be
+    CAP = 40_000_000   # stands for no upper end; above twice every finite end, since others may take as many
 
     def __init__(self, sheet, marked=False):
         import swiglpk as glp
@@ -309,7 +309,7 @@ class GlpkSizes:
     def range(self, g):
         least = self.best(g, self.glp.GLP_MIN)
         greatest = self.best(g, self.glp.GLP_MAX)
-        return least, None if greatest > MOST else greatest
+        return least, None if greatest > self.sheet.most else greatest
 
     def count_shown(self, claim):
         _, g, lo, hi = claim
@@ -414,15 +414,16 @@ def claims_shown(plain, marked, sheet):
 
 def search_range(model, g):
     """Both ends by bisection; model.at_most and at_least give False or a count found."""
-    low, found = -1, model.at_most(g, MOST)
+    most = model.sheet.most
+    low, found = -1, model.at_most(g, most)
     while found - low > 1:
         k = (low + found) // 2
         got = model.at_most(g, k)
         low, found = (k, found) if got is False else (low, got)
     least = found
-    if model.at_least(g, MOST + 1) is not False:
+    if model.at_least(g, most + 1) is not False:
         return least, None
-    found, high = least, MOST + 1
+    found, high = least, most + 1
     while high - found > 1:
         k = (found + high + 1) // 2
         got = model.at_least(g, k)

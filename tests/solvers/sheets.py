@@ -1,24 +1,32 @@
 """Sheets for the solvers: by hand, by chance, and as bytes; the library through the driver."""
-import random
 import struct
 import subprocess
+from collections import namedtuple
 
 NO_END = 65535
 NONE = 4294967295
-MOST = 127 * 65534
+NAMES = 128
 DISJOINT, COVER, SAME = 1, 2, 4
 KINDS = {'count': 4, 'inside': 5, 'apart': 6, 'place': 7}
+
+# What an edition sets: most groups, most bytes of a label, kind of its rows and their membership bytes.
+Edition = namedtuple('Edition', 'number groups label row_kind membership')
+EDITIONS = [Edition(1, 128, 16, 33, 16), Edition(2, 256, 32, 34, 32)]
+FIRST = EDITIONS[0]
 
 
 class Sheet:
     """groups: (parent, lo, hi or None, mode), parents from 1, 0 for the root.
     claims: ('count', set, lo, hi or None), ('inside', 'apart' or 'place', left sets, right sets);
-    a set is a group's number, or 0 for the empty one."""
+    a set is a group's number, or 0 for the empty one. Labels are filled up to `width` bytes."""
 
-    def __init__(self, groups, claims=(), what=''):
+    def __init__(self, groups, claims=(), what='', edition=FIRST, width=0):
         self.groups = list(groups)
         self.claims = list(claims)
         self.what = what
+        self.edition = edition
+        self.width = width
+        self.most = (edition.groups - 1) * 65534  # no finite end of a range is above
         self.numbers = range(1, len(self.groups) + 1)
         self.sons = {g: [s for s in self.numbers if self.groups[s - 1][0] == g]
                      for g in self.numbers}
@@ -48,16 +56,16 @@ class Sheet:
             else:
                 left, right = [name(s) for s in c[1]], [name(s) for s in c[2]]
                 claims.append(record(KINDS[c[0]], [len(left), len(right)] + left + right))
-        out = record(1, [1, len(self.groups), len(named), len(claims)])
+        out = record(1, [self.edition.number, len(self.groups), len(named), len(claims)])
         for parent, lo, hi, mode in self.groups:
             out += record(2, [parent, lo, end(hi), mode])
         for i, s in enumerate(named):
-            label = b'N%d' % (i + 1)
+            label = (b'N%d' % (i + 1)).rjust(self.width, b'-')
             out += struct.pack('<HHH', 4 + len(label), 3, s) + label
         return out + b''.join(claims)
 
     def __str__(self):
-        lines = [self.what]
+        lines = ['%s, edition %d' % (self.what, self.edition.number)]
         for g in self.numbers:
             parent, lo, hi, mode = self.groups[g - 1]
             lines.append('group %d: parent %d, %d to %s, mode %d'
@@ -65,6 +73,11 @@ class Sheet:
         for i, c in enumerate(self.claims):
             lines.append('claim %d: %s' % (i + 1, c))
         return '\n'.join(lines)
+
+
+def named_sets(claims):
+    """The sets that claims speak of; each of them has one name."""
+    return {s for c in claims for s in ([c[1]] if c[0] == 'count' else c[1] + c[2])}
 
 
 def record(kind, fields):
@@ -84,7 +97,7 @@ class Library:
 
     def ranges(self, sheet):
         """None for an impossible sheet, else (least, greatest or None) for each group."""
-        refusal, second, reply = self.ask('r 2560 ' + sheet.bytes().hex())
+        refusal, second, reply = self.ask('r %d %s' % (20 * len(sheet.groups), sheet.bytes().hex()))
         if refusal == 8:
             return None
         assert (refusal, second) == (0, 20 * len(sheet.groups)), (refusal, second, str(sheet))
@@ -98,7 +111,7 @@ class Library:
     def claim(self, sheet, number):
         """None for an impossible sheet, else whether the claim holds and the runs shown, None where no sets are: those
         of a denial, and of a place's yes."""
-        refusal, second, reply = self.ask('c 2560 %d %s' % (number, sheet.bytes().hex()))
+        refusal, second, reply = self.ask('c %d %d %s' % (6 + 14 * len(sheet.groups), number, sheet.bytes().hex()))
         if refusal == 8:
             return None
         assert refusal == 0, (refusal, second, str(sheet))
@@ -195,12 +208,31 @@ def by_hand():
     ]
 
 
+def at_limit(edition):
+    """As many groups as the edition has: sons of one group, with the greatest ends that can be, and a chain."""
+    n = edition.groups
+    star = lambda root, son: [root] + [son] * (n - 1)
+    chain = lambda hi: [(0, 0, hi, 0)] + [(g, 0, None, 0) for g in range(1, n - 1)] + [(n - 1, 5, None, 0)]
+    claims = [('count', 1, 0, 65534), ('count', 1, 0, None), ('apart', [2], [n]), ('apart', [1], [n]),
+              ('inside', [n], [1]), ('inside', [1], [n]), ('inside', [1], [2, n]), ('place', [1], [n]),
+              ('place', [n], [1]), ('place', [2, n], [0]), ('place', [n], list(range(2, 10)))]
+    return [Sheet(groups, claims, what, edition, edition.label) for what, groups in [
+        ('the greatest end: cover over sons of 65,534', star((0, 0, None, 2), (1, 0, 65534, 0))),
+        ('the greatest least: disjoint sons of 65,534', star((0, 0, None, 1), (1, 65534, None, 0))),
+        ('one end for all: disjoint cover of 65,534', star((0, 65534, 65534, 3), (1, 1, None, 0))),
+        ('no room for the last: disjoint sons of 1', star((0, 0, n - 2, 1), (1, 1, None, 0))),
+        ('a chain of equal sets', chain(5)),
+        ('a chain with one member to spare', chain(6)),
+        ('a chain with one too few', chain(4)),
+    ]]
+
+
 def way_up(parents, g):
     """A group and all above it."""
     return [g] + way_up(parents, parents[g - 1]) if g else []
 
 
-def random_sheet(rng, n, claims, most=4):
+def random_sheet(rng, n, claims, most=4, edition=FIRST):
     """Bounds drawn around members drawn at random, so that about half are possible."""
     shape = rng.randrange(5)
     parents = [0]
@@ -267,7 +299,9 @@ def random_sheet(rng, n, claims, most=4):
         else:
             asked.append((kind, [near(g) for _ in range(rng.randint(1, 2))],
                           [near(g) for _ in range(rng.randint(1, 3))]))
-    return Sheet(groups, asked, 'by chance')
+    while len(named_sets(asked)) > NAMES:
+        asked.pop()
+    return Sheet(groups, asked, 'by chance', edition, rng.randint(0, edition.label))
 
 
 def large_tree(n, shape):
@@ -288,26 +322,40 @@ def large_tree(n, shape):
     return parents, groups, sizes
 
 
+def with_names(n, rng):
+    """The groups that claims speak of: all, or as many as there may be names, the first and the last group among them."""
+    return range(1, n + 1) if n <= NAMES else [1] + sorted(rng.sample(range(2, n), NAMES - 2)) + [n]
+
+
+def edition_of(n):
+    """The first edition that has so many groups."""
+    return next(e for e in EDITIONS if n <= e.groups)
+
+
 def largest(n, shape, rng):
-    """With 64 claims of kinds 4 to 6."""
+    """With 64 claims of kinds 4 to 6; the first three, one of each kind, are denied."""
     parents, groups, sizes = large_tree(n, shape)
+    named = with_names(n, rng)
     asked = []
     for c in range(64):
-        g, h = rng.randint(1, n), rng.randint(1, n)
+        g, h = rng.choice(named), rng.choice(named)
+        above = next(p for p in way_up(parents, parents[g - 1] or 1) if p in named)
         asked.append([
             ('count', g, max(0, sizes[g] - 5), sizes[g] + 5),
-            ('inside', [g, rng.randint(1, n)], [h, rng.randint(1, n), parents[g - 1] or 1]),
-            ('apart', [g], [h, rng.randint(1, n)])][c % 3])
-    return Sheet(groups, asked, '%s of %d' % (shape, n))
+            ('inside', [g, rng.choice(named)], [h, rng.choice(named), above]),
+            ('apart', [g], [h, rng.choice(named)])][c % 3])
+    asked[:3] = [('count', n, 0, 0), ('inside', [1], [n]), ('apart', [1], [n])]
+    return Sheet(groups, asked, '%s of %d' % (shape, n), edition_of(n))
 
 
 def largest_places(n, shape, rng):
     """With 64 places of 8 names a list, the left ones by turns on one way up and anywhere; the first is a yes."""
     parents, groups, _ = large_tree(n, shape)
+    named = with_names(n, rng)
     asked = []
     for c in range(64):
-        way = way_up(parents, rng.randint(1, n - 1) if c else 1)
-        left = rng.choices(way if c % 2 == 0 else range(1, n + 1), k=8)
-        right = [s for s in range(1, n + 1) if s not in (way if c % 2 == 0 else left)]
+        way = [g for g in way_up(parents, rng.choice(named[:-1]) if c else 1) if g in named]
+        left = rng.choices(way if c % 2 == 0 else named, k=8)
+        right = [s for s in named if s not in (way if c % 2 == 0 else left)]
         asked.append(('place', left, rng.choices(right, k=8)))
-    return Sheet(groups, asked, 'places in a %s of %d' % (shape, n))
+    return Sheet(groups, asked, 'places in a %s of %d' % (shape, n), edition_of(n))
