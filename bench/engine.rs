@@ -2,7 +2,8 @@
 // group to the first, then flat passes from 2 to G; a register by one walk over its rows, and by
 // columns. It is what the library's speed is held to.
 
-const MAX_G: usize = 128;
+use std::array::from_fn;
+
 const MAX_S: usize = 128;
 const MAX_Q: usize = 64;
 const MAX_LIST: usize = 8;
@@ -16,15 +17,35 @@ const SAME: u16 = 4;
 
 type Refusal = (u32, u32);
 
-pub struct Tables {
+// What an edition sets: the greatest numbers of groups and of bytes in a label, and the first four bytes of a row.
+struct Edition {
+    groups: u16,
+    label: usize,
+    row: u32,
+}
+
+const EDITIONS: [Edition; 2] =
+    [Edition { groups: 128, label: 16, row: 24 | 33 << 16 }, Edition { groups: 256, label: 32, row: 40 | 34 << 16 }];
+
+// A table of groups has N places: one for each that the edition may have, from 1.
+const NARROW: usize = 129;
+const WIDE: usize = 257;
+
+// Whether a sheet wants wide tables.
+fn wide(s: &[u8]) -> bool {
+    s.len() >= 6 && get16(s, 4) == 2
+}
+
+pub struct Tables<const N: usize> {
+    edition: &'static Edition,
     groups: usize,
     names: usize,
     claims: usize,
-    parent: [u16; MAX_G + 1],
-    lo: [u32; MAX_G + 1],
-    hi: [u32; MAX_G + 1],
-    mode: [u16; MAX_G + 1],
-    sons: [u16; MAX_G + 1],
+    parent: [u16; N],
+    lo: [u32; N],
+    hi: [u32; N],
+    mode: [u16; N],
+    sons: [u16; N],
     named: [u16; MAX_S + 1],
     claim_at: [u16; MAX_Q + 1],
 }
@@ -62,7 +83,7 @@ fn label_byte(b: u8) -> bool {
     b.is_ascii_uppercase() || b.is_ascii_digit() || b == b'-'
 }
 
-pub fn read(s: &[u8], t: &mut Tables) -> Result<(), Refusal> {
+pub fn read<const N: usize>(s: &[u8], t: &mut Tables<N>) -> Result<(), Refusal> {
     let (len, kind) = frame(s, 0, 1)?;
     if kind != 1 {
         return Err((2, 1));
@@ -70,10 +91,12 @@ pub fn read(s: &[u8], t: &mut Tables) -> Result<(), Refusal> {
     if len != 10 {
         return Err((3, 1));
     }
+    let Some(edition) = EDITIONS.get((get16(s, 4) as usize).wrapping_sub(1)) else { return Err((4, 1)) };
     let (g, n, q) = (get16(s, 6), get16(s, 8), get16(s, 10));
-    if get16(s, 4) != 1 || g == 0 || g > 128 || n > 128 || q > 64 {
+    if g == 0 || g > edition.groups || n > 128 || q > 64 {
         return Err((4, 1));
     }
+    t.edition = edition;
     t.groups = g as usize;
     t.names = n as usize;
     t.claims = q as usize;
@@ -113,7 +136,7 @@ pub fn read(s: &[u8], t: &mut Tables) -> Result<(), Refusal> {
         if kind != 3 {
             return Err((2, no));
         }
-        if !(5..=20).contains(&len) {
+        if !(5..=4 + edition.label).contains(&len) {
             return Err((3, no));
         }
         let label = &s[at + 6..at + 2 + len];
@@ -285,13 +308,13 @@ fn meet_bounds(a: Span, lo: u32, hi: u32, c: u32) -> Span {
 
 // The fold of one state: z[g] is what the part of the tree at g can take, before[i] what the later
 // sons of i's parent gave before i was joined.
-struct Plain {
-    z: [Span; MAX_G + 1],
-    before: [Span; MAX_G + 1],
+struct Plain<const N: usize> {
+    z: [Span; N],
+    before: [Span; N],
 }
 
-fn fold_plain(t: &Tables, lo: &[u32; MAX_G + 1], hi: &[u32; MAX_G + 1], f: &mut Plain) {
-    let mut acc = [ANY; MAX_G + 1];
+fn fold_plain<const N: usize>(t: &Tables<N>, lo: &[u32; N], hi: &[u32; N], f: &mut Plain<N>) {
+    let mut acc = [ANY; N];
     for g in 1..=t.groups {
         if shut(t.mode[g], t.sons[g]) {
             acc[g] = ZERO;
@@ -308,11 +331,15 @@ fn fold_plain(t: &Tables, lo: &[u32; MAX_G + 1], hi: &[u32; MAX_G + 1], f: &mut 
 }
 
 pub fn ranges(sheet: &[u8], reply: &mut [u8]) -> u64 {
-    let mut t = EMPTY;
+    if wide(sheet) { ranges_of::<WIDE>(sheet, reply) } else { ranges_of::<NARROW>(sheet, reply) }
+}
+
+fn ranges_of<const N: usize>(sheet: &[u8], reply: &mut [u8]) -> u64 {
+    let mut t = Tables::<N>::EMPTY;
     if let Err((n, r)) = read(sheet, &mut t) {
         return pack(n, r);
     }
-    let mut f = Plain { z: [NONE; MAX_G + 1], before: [NONE; MAX_G + 1] };
+    let mut f = Plain { z: [NONE; N], before: [NONE; N] };
     fold_plain(&t, &t.lo, &t.hi, &mut f);
     if f.z[1].none() {
         return pack(8, 0);
@@ -322,8 +349,8 @@ pub fn ranges(sheet: &[u8], reply: &mut [u8]) -> u64 {
         return pack(14, 0);
     }
     // Ranges: take the sons off, first first, as the fold joined them last.
-    let mut range = [NONE; MAX_G + 1];
-    let mut rest = [NONE; MAX_G + 1];
+    let mut range = [NONE; N];
+    let mut rest = [NONE; N];
     range[1] = f.z[1];
     rest[1] = range[1];
     for i in 2..=t.groups {
@@ -334,11 +361,11 @@ pub fn ranges(sheet: &[u8], reply: &mut [u8]) -> u64 {
         rest[i] = range[i];
     }
     // The arrangement.
-    let mut first = [0u32; MAX_G + 1];
-    let mut count = [0u32; MAX_G + 1];
-    let mut ended = [0u32; MAX_G + 1];
-    let mut left = [0u32; MAX_G + 1];
-    let mut later = [0u32; MAX_G + 1];
+    let mut first = [0u32; N];
+    let mut count = [0u32; N];
+    let mut ended = [0u32; N];
+    let mut left = [0u32; N];
+    let mut later = [0u32; N];
     for i in 2..=t.groups {
         later[t.parent[i] as usize] += f.z[i].lo;
     }
@@ -387,9 +414,9 @@ pub fn ranges(sheet: &[u8], reply: &mut [u8]) -> u64 {
 }
 
 // The fold of two states: without and with the member that is asked for.
-struct Marked {
-    z: [[Span; 2]; MAX_G + 1],
-    before: [[Span; 2]; MAX_G + 1],
+struct Marked<const N: usize> {
+    z: [[Span; 2]; N],
+    before: [[Span; 2]; N],
 }
 
 fn marks_join(j: Joint, x: usize, y: usize, z: usize) -> bool {
@@ -401,14 +428,14 @@ fn marks_join(j: Joint, x: usize, y: usize, z: usize) -> bool {
 }
 
 // may[g]: bit 0 the member may be out of g, bit 1 it may be in.
-fn fold_marked(
-    t: &Tables,
-    lo: &[u32; MAX_G + 1],
-    hi: &[u32; MAX_G + 1],
-    may: &[u8; MAX_G + 1],
-    f: &mut Marked,
+fn fold_marked<const N: usize>(
+    t: &Tables<N>,
+    lo: &[u32; N],
+    hi: &[u32; N],
+    may: &[u8; N],
+    f: &mut Marked<N>,
 ) {
-    let mut acc = [[ANY; 2]; MAX_G + 1];
+    let mut acc = [[ANY; 2]; N];
     for g in 1..=t.groups {
         if shut(t.mode[g], t.sons[g]) {
             acc[g] = [ZERO, NONE];
@@ -437,16 +464,16 @@ fn fold_marked(
     }
 }
 
-struct Shown {
-    first: [u32; MAX_G + 1],
-    count: [u32; MAX_G + 1],
-    mark: [u8; MAX_G + 1],
+struct Shown<const N: usize> {
+    first: [u32; N],
+    count: [u32; N],
+    mark: [u8; N],
 }
 
 // Sizes, marks and starts from the root's state c, in one visit per group.
-fn unfold(t: &Tables, f: &Marked, c: usize, out: &mut Shown) {
-    let mut rest = [0u32; MAX_G + 1];
-    let mut rest_mark = [0usize; MAX_G + 1];
+fn unfold<const N: usize>(t: &Tables<N>, f: &Marked<N>, c: usize, out: &mut Shown<N>) {
+    let mut rest = [0u32; N];
+    let mut rest_mark = [0usize; N];
     out.count[1] = f.z[1][c].lo;
     out.mark[1] = c as u8;
     rest[1] = out.count[1];
@@ -479,7 +506,7 @@ fn unfold(t: &Tables, f: &Marked, c: usize, out: &mut Shown) {
             }
         }
     }
-    let mut ended = [0u32; MAX_G + 1];
+    let mut ended = [0u32; N];
     out.first[1] = 1;
     ended[1] = 1;
     for i in 2..=t.groups {
@@ -499,8 +526,8 @@ const OUT: u8 = 1;
 const IN: u8 = 2;
 
 // Sets that fit, with one member in every group of 'within' and in none of 'without'.
-fn place(t: &Tables, within: &[usize], without: &[usize], f: &mut Marked, out: &mut Shown) -> bool {
-    let mut may = [IN | OUT; MAX_G + 1];
+fn place<const N: usize>(t: &Tables<N>, within: &[usize], without: &[usize], f: &mut Marked<N>, out: &mut Shown<N>) -> bool {
+    let mut may = [IN | OUT; N];
     for &g in within {
         may[g] &= IN;
     }
@@ -516,12 +543,12 @@ fn place(t: &Tables, within: &[usize], without: &[usize], f: &mut Marked, out: &
 }
 
 // Sets that fit and break the claim; of kind 7, that have its member.
-fn shows(s: &[u8], t: &Tables, at: usize, f: &mut Marked, out: &mut Shown) -> bool {
+fn shows<const N: usize>(s: &[u8], t: &Tables<N>, at: usize, f: &mut Marked<N>, out: &mut Shown<N>) -> bool {
     let kind = get16(s, at + 2);
     if kind == 4 {
         let g = t.named[get16(s, at + 4) as usize] as usize;
         let (lo, hi) = (get16(s, at + 6) as u32, get16(s, at + 8) as u32);
-        let may = [OUT; MAX_G + 1];
+        let may = [OUT; N];
         if g == 0 {
             if lo == 0 {
                 return false;
@@ -575,11 +602,15 @@ fn shows(s: &[u8], t: &Tables, at: usize, f: &mut Marked, out: &mut Shown) -> bo
 }
 
 pub fn claim(sheet: &[u8], claim: u32, reply: &mut [u8]) -> u64 {
-    let mut t = EMPTY;
+    if wide(sheet) { claim_of::<WIDE>(sheet, claim, reply) } else { claim_of::<NARROW>(sheet, claim, reply) }
+}
+
+fn claim_of<const N: usize>(sheet: &[u8], claim: u32, reply: &mut [u8]) -> u64 {
+    let mut t = Tables::<N>::EMPTY;
     if let Err((n, r)) = read(sheet, &mut t) {
         return pack(n, r);
     }
-    let mut plain = Plain { z: [NONE; MAX_G + 1], before: [NONE; MAX_G + 1] };
+    let mut plain = Plain { z: [NONE; N], before: [NONE; N] };
     fold_plain(&t, &t.lo, &t.hi, &mut plain);
     if plain.z[1].none() {
         return pack(8, 0);
@@ -587,8 +618,8 @@ pub fn claim(sheet: &[u8], claim: u32, reply: &mut [u8]) -> u64 {
     if claim == 0 || claim as usize > t.claims {
         return pack(9, 0);
     }
-    let mut f = Marked { z: [[NONE; 2]; MAX_G + 1], before: [[NONE; 2]; MAX_G + 1] };
-    let mut out = Shown { first: [1; MAX_G + 1], count: [0; MAX_G + 1], mark: [0; MAX_G + 1] };
+    let mut f = Marked { z: [[NONE; 2]; N], before: [[NONE; 2]; N] };
+    let mut out = Shown { first: [1; N], count: [0; N], mark: [0; N] };
     let at = t.claim_at[claim as usize] as usize;
     let shown = shows(sheet, &t, at, &mut f, &mut out);
     let holds = shown == (get16(sheet, at + 2) == 7);
@@ -612,48 +643,52 @@ pub fn claim(sheet: &[u8], claim: u32, reply: &mut [u8]) -> u64 {
     pack(0, size as u32)
 }
 
-const ROW: usize = 26; // length, kind, member, side, 16 bytes of membership
 const LEFT: u16 = 1;
 const RIGHT: u16 = 2;
-const WORDS: usize = MAX_ROWS.div_ceil(64); // of a column: 64 members each
+const COLUMN: usize = MAX_ROWS.div_ceil(64); // words of a column: 64 members each
 
-fn get64(row: &[u8; ROW], at: usize) -> u64 {
+fn get64<const ROW: usize>(row: &[u8; ROW], at: usize) -> u64 {
     u64::from_le_bytes(row[at..at + 8].try_into().unwrap())
 }
 
 // Number, kind and side in one: rows of one kind rise by it as by number, then side.
-fn ear_of(row: &[u8; ROW]) -> u64 {
+fn ear_of<const ROW: usize>(row: &[u8; ROW]) -> u64 {
     get64(row, 2).rotate_left(16)
 }
 
-// Reads the rows in order and gives each member, an ear, with its groups from 1 to 64 and from 65 of all its rows, to 'take';
-// how many members there are. A row is its member's last where the next one has another.
+// Reads the rows in order and gives each member, an ear, with its groups of all its rows, 64 to a word, to 'take'; how many
+// members there are. A row is its member's last where the next one has another. It has ROW bytes: length, kind, member,
+// side and W words of membership.
 #[inline(always)]
-fn each_member(reg: &[u8], groups: usize, mut take: impl FnMut(usize, u64, u64)) -> Result<usize, Refusal> {
+fn each_member<const N: usize, const W: usize, const ROW: usize>(
+    t: &Tables<N>,
+    reg: &[u8],
+    mut take: impl FnMut(usize, [u64; W]),
+) -> Result<usize, Refusal> {
     let (rows, cut) = reg.as_chunks::<ROW>();
-    let too_high = u128::MAX.checked_shl(groups as u32).unwrap_or(0);
-    let (too_high_low, too_high_high) = (too_high as u64, (too_high >> 64) as u64);
+    let frame = t.edition.row;
+    let too_high: [u64; W] = from_fn(|k| u64::MAX.checked_shl(t.groups.saturating_sub(64 * k) as u32).unwrap_or(0));
     let mut last = 1 << 32; // below every ear of number 1
     let mut members = 0;
-    let (mut low, mut high) = (0, 0); // groups of the member so far
+    let mut held = [0; W]; // groups of the member so far
     for (r, row) in rows.iter().enumerate() {
         let no = r as u32 + 1;
         if r == MAX_ROWS {
             return Err((10, no));
         }
         let ear = ear_of(row);
-        let here = (get64(row, 10), get64(row, 18));
-        let framed = get64(row, 0) as u32 == 24 | 33 << 16;
+        let here: [u64; W] = from_fn(|k| get64(row, 10 + 8 * k));
+        let framed = get64(row, 0) as u32 == frame;
         let sided = (LEFT..=RIGHT).contains(&(ear as u16));
         let rises = ear >= last;
-        let clear = here.0 & too_high_low | here.1 & too_high_high == 0;
+        let clear = (0..W).fold(0, |all, k| all | here[k] & too_high[k]) == 0;
         if !(framed & sided & rises & clear) {
             return Err((if !framed { 11 } else if !sided { 15 } else if !rises { 12 } else { 13 }, no));
         }
-        (low, high) = if ear == last { (low | here.0, high | here.1) } else { here };
+        held = if ear == last { from_fn(|k| held[k] | here[k]) } else { here };
         last = ear;
         if rows.get(r + 1).is_none_or(|next| ear_of(next) != ear) {
-            take(members, low, high);
+            take(members, held);
             members += 1;
         }
     }
@@ -663,80 +698,79 @@ fn each_member(reg: &[u8], groups: usize, mut take: impl FnMut(usize, u64, u64))
     Ok(members)
 }
 
-// The bits of the groups that 'of' is true of, as two words.
-fn bits_of(t: &Tables, of: impl Fn(usize) -> bool) -> [u64; 2] {
-    let mut out = [0; 2];
+fn has<const W: usize>(words: [u64; W], g: usize) -> bool {
+    words[(g - 1) / 64] >> ((g - 1) % 64) & 1 == 1
+}
+
+// The bits of the groups that 'of' is true of.
+fn bits_of<const N: usize, const W: usize>(t: &Tables<N>, of: impl Fn(usize) -> bool) -> [u64; W] {
+    let mut out = [0; W];
     for g in (1..=t.groups).filter(|&g| of(g)) {
         out[(g - 1) / 64] |= 1 << ((g - 1) % 64);
     }
     out
 }
 
-// One walk over the members, whose rows are read on the way: each broken rule 1, 3 or 4 leaves a bit in that rule's
-// words. Where a group is part of its parent, the parent has a member that the group lacks when their counts differ.
-fn walk(t: &Tables, reg: &[u8]) -> Result<(u16, u16), Refusal> {
-    // The bit of the parent, for groups from 1 to 64 and from 65; 0 for the root.
-    let mut above = [0u64; 64];
-    let mut above_high = [[0u64; 2]; 64];
+// One walk over the members, whose rows are read on the way: each broken rule 1 or 3 leaves a bit in that rule's words, and
+// the others are seen by counts. Where a group is part of its parent, the parent has a member that the group lacks when
+// their counts differ; and a member is in two sons where the sons count more than there are members in any of them.
+fn walk<const N: usize, const W: usize, const ROW: usize>(t: &Tables<N>, reg: &[u8]) -> Found {
+    // The bit of each group's parent; none for the root.
+    let mut above = [[[0u64; W]; 64]; W];
     for g in 2..=t.groups {
         let p = t.parent[g] as usize - 1;
-        if g <= 64 {
-            above[g - 1] = 1 << p;
-        } else {
-            above_high[g - 65][p / 64] = 1 << (p % 64);
-        }
+        above[(g - 1) / 64][(g - 1) % 64][p / 64] = 1 << (p % 64);
     }
-    let disjoint = bits_of(t, |g| t.mode[g] & DISJOINT != 0);
-    let cover = bits_of(t, |g| t.mode[g] & COVER != 0);
-    let mut counts = [[0u32; 64]; 2];
-    let (mut outside, mut bare, mut shared) = ([0u64; 2], [0u64; 2], [0u64; 2]);
-    each_member(reg, t.groups, |_, low, high| {
-        let held = [low, high];
-        let (mut seen, mut twice) = ([0u64; 2], [0u64; 2]);
-        let mut b = low;
-        while b != 0 {
-            let g = b.trailing_zeros() as usize;
-            counts[0][g] += 1;
-            twice[0] |= seen[0] & above[g];
-            seen[0] |= above[g];
-            b &= b - 1;
-        }
-        let mut b = high;
-        while b != 0 {
-            let g = b.trailing_zeros() as usize;
-            counts[1][g] += 1;
-            for k in 0..2 {
-                twice[k] |= seen[k] & above_high[g][k];
-                seen[k] |= above_high[g][k];
-            }
-            b &= b - 1;
-        }
-        if seen[0] & !low | seen[1] & !high != 0 {
-            let lacks = |g: usize| {
-                let p = t.parent[g] as usize;
-                p > 0 && held[(g - 1) / 64] >> ((g - 1) % 64) & 1 == 1 && held[(p - 1) / 64] >> ((p - 1) % 64) & 1 == 0
-            };
-            let found = bits_of(t, lacks);
-            for k in 0..2 {
-                outside[k] |= found[k];
+    let cover = bits_of::<N, W>(t, |g| t.mode[g] & COVER != 0);
+    let apart = bits_of::<N, W>(t, |g| t.mode[g] & DISJOINT != 0 && t.sons[g] > 1);
+    let mut counts = [[0u32; 64]; W];
+    let mut alone = [[0u32; 64]; W]; // members in no son
+    let mut strays = [0u32; N]; // members of sons that the group lacks
+    let (mut outside, mut bare) = ([0u64; W], [0u64; W]);
+    each_member::<N, W, ROW>(t, reg, |_, held| {
+        let mut seen = [0u64; W]; // groups of whose sons it is in one
+        for k in 0..W {
+            let mut b = held[k];
+            while b != 0 {
+                let g = b.trailing_zeros() as usize;
+                counts[k][g] += 1;
+                for j in 0..W {
+                    seen[j] |= above[k][g][j];
+                }
+                b &= b - 1;
             }
         }
-        for k in 0..2 {
+        if (0..W).any(|k| seen[k] & !held[k] != 0) {
+            for g in (2..=t.groups).filter(|&g| has(held, g) && !has(held, t.parent[g] as usize)) {
+                outside[(g - 1) / 64] |= 1 << ((g - 1) % 64);
+            }
+            for g in (1..=t.groups).filter(|&g| has(seen, g) && !has(held, g)) {
+                strays[g] += 1;
+            }
+        }
+        for k in 0..W {
             bare[k] |= held[k] & cover[k] & !seen[k];
-            shared[k] |= twice[k] & disjoint[k];
+            let mut b = held[k] & apart[k] & !seen[k];
+            while b != 0 {
+                alone[k][b.trailing_zeros() as usize] += 1;
+                b &= b - 1;
+            }
         }
     })?;
-    let counts = counts.as_flattened();
+    let (counts, alone) = (counts.as_flattened(), alone.as_flattened());
+    let mut of_sons = [0u32; N]; // their counts, added up
+    for g in 2..=t.groups {
+        of_sons[t.parent[g] as usize] += counts[g - 1];
+    }
     for g in 1..=t.groups {
         let p = t.parent[g] as usize;
-        let on = |words: [u64; 2]| words[(g - 1) / 64] >> ((g - 1) % 64) & 1 == 1;
-        let rule = if on(outside) {
+        let rule = if has(outside, g) {
             1
         } else if g > 1 && t.mode[p] & SAME != 0 && counts[g - 1] != counts[p - 1] {
             2
-        } else if on(bare) {
+        } else if has(bare, g) {
             3
-        } else if on(shared) {
+        } else if has(apart, g) && of_sons[g] > counts[g - 1] - alone[g - 1] + strays[g] {
             4
         } else {
             count_rule(t, g, counts[g - 1])
@@ -749,7 +783,7 @@ fn walk(t: &Tables, reg: &[u8]) -> Result<(u16, u16), Refusal> {
 }
 
 // Rule 5 or 6, or 0.
-fn count_rule(t: &Tables, g: usize, count: u32) -> u16 {
+fn count_rule<const N: usize>(t: &Tables<N>, g: usize, count: u32) -> u16 {
     if count < t.lo[g] {
         5
     } else if count > t.hi[g] {
@@ -760,27 +794,25 @@ fn count_rule(t: &Tables, g: usize, count: u32) -> u16 {
 }
 
 // A column of bits for each group, a bit for each member; then the rules by whole columns.
-fn columns(t: &Tables, reg: &[u8]) -> Result<(u16, u16), Refusal> {
-    let mut of = [[0u64; WORDS]; MAX_G];
-    let members = each_member(reg, t.groups, |k, low, high| {
-        let (word, bit) = (k / 64, 1 << (k % 64));
-        let mut b = low;
-        while b != 0 {
-            of[b.trailing_zeros() as usize][word] |= bit;
-            b &= b - 1;
-        }
-        let mut b = high;
-        while b != 0 {
-            of[64 + b.trailing_zeros() as usize][word] |= bit;
-            b &= b - 1;
+fn columns<const N: usize, const W: usize, const ROW: usize>(t: &Tables<N>, reg: &[u8]) -> Found {
+    let mut of = [[[0u64; COLUMN]; 64]; W];
+    let members = each_member::<N, W, ROW>(t, reg, |m, held| {
+        let (word, bit) = (m / 64, 1 << (m % 64));
+        for k in 0..W {
+            let mut b = held[k];
+            while b != 0 {
+                of[k][b.trailing_zeros() as usize][word] |= bit;
+                b &= b - 1;
+            }
         }
     })?;
+    let of = of.as_flattened();
     let words = members.div_ceil(64);
     let column = |g: usize| &of[g - 1][..words];
     // Whether some member of a is not in b.
     let beyond = |a: &[u64], b: &[u64]| a.iter().zip(b).fold(0, |all, (a, b)| all | a & !b) != 0;
-    let mut first = [0u16; MAX_G + 1]; // son of a group, and after that the next one; 0 where there is none
-    let mut next = [0u16; MAX_G + 1];
+    let mut first = [0u16; N]; // son of a group, and after that the next one; 0 where there is none
+    let mut next = [0u16; N];
     for g in (2..=t.groups).rev() {
         let p = t.parent[g] as usize;
         next[g] = first[p];
@@ -798,7 +830,7 @@ fn columns(t: &Tables, reg: &[u8]) -> Result<(u16, u16), Refusal> {
             }
         }
         if t.mode[g] & COVER != 0 || t.mode[g] & DISJOINT != 0 && first[g] != 0 {
-            let (mut some, mut two) = ([0u64; WORDS], [0u64; WORDS]);
+            let (mut some, mut two) = ([0u64; COLUMN], [0u64; COLUMN]);
             let mut son = first[g] as usize;
             while son != 0 {
                 for ((some, two), x) in some.iter_mut().zip(&mut two).zip(column(son)) {
@@ -822,17 +854,15 @@ fn columns(t: &Tables, reg: &[u8]) -> Result<(u16, u16), Refusal> {
     Ok((0, 0))
 }
 
-fn check(
-    sheet: &[u8],
-    reg: &[u8],
-    reply: &mut [u8],
-    how: impl Fn(&Tables, &[u8]) -> Result<(u16, u16), Refusal>,
-) -> u64 {
-    let mut t = EMPTY;
+// Where a register is broken, under a sheet that was read.
+type Found = Result<(u16, u16), Refusal>;
+
+fn check<const N: usize>(sheet: &[u8], reg: &[u8], reply: &mut [u8], way: fn(&Tables<N>, &[u8]) -> Found) -> u64 {
+    let mut t = Tables::<N>::EMPTY;
     if let Err((n, r)) = read(sheet, &mut t) {
         return pack(n, r);
     }
-    let (g, rule) = match how(&t, reg) {
+    let (g, rule) = match way(&t, reg) {
         Ok(found) => found,
         Err((n, r)) => return pack(n, r),
     };
@@ -847,22 +877,33 @@ fn check(
 }
 
 pub fn register_walk(sheet: &[u8], reg: &[u8], reply: &mut [u8]) -> u64 {
-    check(sheet, reg, reply, walk)
+    if wide(sheet) {
+        check(sheet, reg, reply, walk::<WIDE, 4, 42>)
+    } else {
+        check(sheet, reg, reply, walk::<NARROW, 2, 26>)
+    }
 }
 
 pub fn register_columns(sheet: &[u8], reg: &[u8], reply: &mut [u8]) -> u64 {
-    check(sheet, reg, reply, columns)
+    if wide(sheet) {
+        check(sheet, reg, reply, columns::<WIDE, 4, 42>)
+    } else {
+        check(sheet, reg, reply, columns::<NARROW, 2, 26>)
+    }
 }
 
-const EMPTY: Tables = Tables {
-    groups: 0,
-    names: 0,
-    claims: 0,
-    parent: [0; MAX_G + 1],
-    lo: [0; MAX_G + 1],
-    hi: [0; MAX_G + 1],
-    mode: [0; MAX_G + 1],
-    sons: [0; MAX_G + 1],
-    named: [0; MAX_S + 1],
-    claim_at: [0; MAX_Q + 1],
-};
+impl<const N: usize> Tables<N> {
+    const EMPTY: Tables<N> = Tables {
+        edition: &EDITIONS[0],
+        groups: 0,
+        names: 0,
+        claims: 0,
+        parent: [0; N],
+        lo: [0; N],
+        hi: [0; N],
+        mode: [0; N],
+        sons: [0; N],
+        named: [0; MAX_S + 1],
+        claim_at: [0; MAX_Q + 1],
+    };
+}

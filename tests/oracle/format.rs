@@ -2,6 +2,85 @@
 
 use std::collections::BTreeMap;
 
+// What an edition sets (document 02, card 5).
+#[derive(Clone, Copy, Debug, PartialEq)]
+pub enum Edition {
+    One,
+    Two,
+}
+
+pub const EDITIONS: [Edition; 2] = [Edition::One, Edition::Two];
+
+impl Edition {
+    pub fn of(number: u16) -> Option<Edition> {
+        match number {
+            1 => Some(Edition::One),
+            2 => Some(Edition::Two),
+            _ => None,
+        }
+    }
+    pub fn number(self) -> u16 {
+        self as u16 + 1
+    }
+    pub fn other(self) -> Edition {
+        EDITIONS[1 - self as usize]
+    }
+    pub fn group_limit(self) -> usize {
+        [128, 256][self as usize]
+    }
+    pub fn label_limit(self) -> usize {
+        [16, 32][self as usize]
+    }
+    pub fn row_kind(self) -> u16 {
+        [33, 34][self as usize]
+    }
+    // L of a row, and all its bytes.
+    pub fn row_length(self) -> u16 {
+        [24, 40][self as usize]
+    }
+    pub fn row(self) -> usize {
+        [26, 42][self as usize]
+    }
+    // No finite end of a range is above it.
+    pub fn greatest_end(self) -> u64 {
+        [8_322_818, 16_711_170][self as usize]
+    }
+}
+
+// Some groups of a sheet, by index from 0: those that one member is in.
+#[derive(Clone, Copy, Debug, Default, PartialEq, Eq, PartialOrd, Ord)]
+pub struct Groups([u128; 2]);
+
+impl Groups {
+    pub fn has(self, g: usize) -> bool {
+        self.0[g / 128] >> (g % 128) & 1 == 1
+    }
+    pub fn put(&mut self, g: usize) {
+        self.0[g / 128] |= 1 << (g % 128);
+    }
+    pub fn remove(&mut self, g: usize) {
+        self.0[g / 128] &= !(1 << (g % 128));
+    }
+    pub fn flip(&mut self, g: usize) {
+        self.0[g / 128] ^= 1 << (g % 128);
+    }
+    pub fn add(&mut self, other: Groups) {
+        self.0[0] |= other.0[0];
+        self.0[1] |= other.0[1];
+    }
+    pub fn none(self) -> bool {
+        self == Groups::default()
+    }
+    pub fn all(self) -> impl Iterator<Item = usize> {
+        (0..256).filter(move |&g| self.has(g))
+    }
+    // As a row of the edition has them.
+    pub fn bytes(self, edition: Edition) -> Vec<u8> {
+        let both = self.0.map(u128::to_le_bytes).concat();
+        both[..edition.group_limit() / 8].to_vec()
+    }
+}
+
 #[derive(Clone, Debug)]
 pub struct Group {
     pub parent: Option<usize>, // index, from 0
@@ -73,6 +152,7 @@ impl Claim {
 
 #[derive(Clone, Debug)]
 pub struct Sheet {
+    pub edition: Edition,
     pub groups: Vec<Group>,
     pub sons: Vec<Vec<usize>>,
     pub names: Vec<Named>,
@@ -137,11 +217,10 @@ pub fn replaced(sheet: &[u8], ranges: impl Iterator<Item = (u32, u32)>) -> Optio
     Some(bytes)
 }
 
-// The kind of the record with this number, where there is one.
-pub fn kind_of(sheet: &[u8], number: u32) -> Option<u16> {
+// Kind and body of each record, as far as there are whole ones.
+pub fn records(sheet: &[u8]) -> impl Iterator<Item = (u16, &[u8])> {
     let mut reader = Reader { rest: sheet, no: 0 };
-    (1..number).try_for_each(|_| reader.next().map(|_| ())).ok()?;
-    Some(reader.next().ok()?.0)
+    std::iter::from_fn(move || reader.next().ok())
 }
 
 fn upper(hi: u16) -> Option<u64> {
@@ -159,7 +238,8 @@ pub fn read_sheet(bytes: &[u8]) -> Result<Sheet, Refusal> {
         return Err((3, 1));
     }
     let (edition, g, s, q) = (word(body, 0), word(body, 2), word(body, 4), word(body, 6));
-    if edition != 1 || g < 1 || g > 128 || s > 128 || q > 64 {
+    let Some(edition) = Edition::of(edition) else { return Err((4, 1)) };
+    if g < 1 || g as usize > edition.group_limit() || s > 128 || q > 64 {
         return Err((4, 1));
     }
 
@@ -197,7 +277,7 @@ pub fn read_sheet(bytes: &[u8]) -> Result<Sheet, Refusal> {
         if kind != 3 {
             return Err((2, no));
         }
-        if body.len() < 3 || body.len() > 18 {
+        if body.len() < 3 || body.len() > 2 + edition.label_limit() {
             return Err((3, no));
         }
         let (group, label) = (word(body, 0), &body[2..]);
@@ -256,28 +336,26 @@ pub fn read_sheet(bytes: &[u8]) -> Result<Sheet, Refusal> {
         return Err((7, reader.no + 1));
     }
     let sons = make_sons(&groups);
-    Ok(Sheet { groups, sons, names, claims })
+    Ok(Sheet { edition, groups, sons, names, claims })
 }
 
 // A member as a row names it: number and side (1 left, 2 right).
 pub type Ear = (u32, u16);
-
-pub const ROW: usize = 26;
 
 pub fn ear(row: &[u8]) -> Ear {
     (dword(row, 4), word(row, 8))
 }
 
 // The rows of a register as they stand: member and membership.
-pub fn read_register(bytes: &[u8], groups: usize) -> Result<Vec<(Ear, u128)>, Refusal> {
-    let mut rows: Vec<(Ear, u128)> = Vec::new();
+pub fn read_register(bytes: &[u8], edition: Edition, groups: usize) -> Result<Vec<(Ear, Groups)>, Refusal> {
+    let mut rows: Vec<(Ear, Groups)> = Vec::new();
     let mut rest = bytes;
     while !rest.is_empty() {
         let no = rows.len() as u32 + 1;
         if no == 2049 {
             return Err((10, no));
         }
-        if rest.len() < ROW || word(rest, 0) != 24 || word(rest, 2) != 33 {
+        if rest.len() < edition.row() || word(rest, 0) != edition.row_length() || word(rest, 2) != edition.row_kind() {
             return Err((11, no));
         }
         let (number, side) = ear(rest);
@@ -289,58 +367,62 @@ pub fn read_register(bytes: &[u8], groups: usize) -> Result<Vec<(Ear, u128)>, Re
         if number == 0 || falls {
             return Err((12, no));
         }
-        let mut bits = 0u128;
-        for g in 0..128 {
-            if rest[10 + g / 8] >> (g % 8) & 1 == 1 {
+        let mut held = Groups::default();
+        for g in 0..edition.group_limit() {
+            if bit(rest, g) {
                 if g >= groups {
                     return Err((13, no));
                 }
-                bits |= 1 << g;
+                held.put(g);
             }
         }
-        rows.push(((number, side), bits));
-        rest = &rest[ROW..];
+        rows.push(((number, side), held));
+        rest = &rest[edition.row()..];
     }
     Ok(rows)
 }
 
+// Whether a row has the bit of the group with this index.
+pub fn bit(row: &[u8], g: usize) -> bool {
+    row[10 + g / 8] >> (g % 8) & 1 == 1
+}
+
 // The members that rows name, each with weight 1: one is in a group where any of its rows is (document 02, card 2), and
 // both ears of a number are two (card 4).
-pub fn members(rows: &[(Ear, u128)]) -> Vec<(u128, u64)> {
+pub fn members(rows: &[(Ear, Groups)]) -> Vec<(Groups, u64)> {
     joined(rows, |ear| ear)
 }
 
 // Rows joined where they have the same 'of'.
-pub fn joined<T: Ord>(rows: &[(Ear, u128)], of: impl Fn(Ear) -> T) -> Vec<(u128, u64)> {
+pub fn joined<T: Ord>(rows: &[(Ear, Groups)], of: impl Fn(Ear) -> T) -> Vec<(Groups, u64)> {
     let mut groups_of = BTreeMap::new();
     for &(ear, groups) in rows {
-        *groups_of.entry(of(ear)).or_insert(0) |= groups;
+        groups_of.entry(of(ear)).or_insert(Groups::default()).add(groups);
     }
     groups_of.into_values().map(|groups| (groups, 1)).collect()
 }
 
 // Lowest broken group, from 1, and its first broken rule; 0 and 0 where all fits. Members come
 // with a weight, so that a run of equal members is one entry.
-pub fn broken_rule(sheet: &Sheet, members: &[(u128, u64)]) -> (u16, u16) {
-    let has = |set: u128, g: usize| set >> g & 1 == 1;
+pub fn broken_rule(sheet: &Sheet, members: &[(Groups, u64)]) -> (u16, u16) {
     for (g, group) in sheet.groups.iter().enumerate() {
         let found = |rule: u16| (g as u16 + 1, rule);
         if let Some(p) = group.parent {
-            if members.iter().any(|&(m, _)| has(m, g) && !has(m, p)) {
+            if members.iter().any(|&(m, _)| m.has(g) && !m.has(p)) {
                 return found(1);
             }
-            if sheet.groups[p].same() && members.iter().any(|&(m, _)| has(m, p) && !has(m, g)) {
+            if sheet.groups[p].same() && members.iter().any(|&(m, _)| m.has(p) && !m.has(g)) {
                 return found(2);
             }
         }
-        let in_sons = |m: u128| sheet.sons[g].iter().filter(|&&s| has(m, s)).count();
-        if group.cover() && members.iter().any(|&(m, _)| has(m, g) && in_sons(m) == 0) {
+        let in_sons = |m: Groups| sheet.sons[g].iter().filter(|&&s| m.has(s)).count();
+        if group.cover() && members.iter().any(|&(m, _)| m.has(g) && in_sons(m) == 0) {
             return found(3);
         }
         if group.disjoint() && members.iter().any(|&(m, _)| in_sons(m) >= 2) {
             return found(4);
         }
-        let count: u64 = members.iter().filter(|&&(m, _)| has(m, g)).map(|&(_, w)| w).sum();
+        let count: u64 = members.iter().filter(|&&(m, _)| m.has(g)).map(|&(_, w)| w).sum();
         if count < group.lo {
             return found(5);
         }
@@ -351,13 +433,13 @@ pub fn broken_rule(sheet: &Sheet, members: &[(u128, u64)]) -> (u16, u16) {
     (0, 0)
 }
 
-fn within(m: u128, set: &Named) -> bool {
-    set.is_some_and(|g| m >> g & 1 == 1)
+fn within(m: Groups, set: &Named) -> bool {
+    set.is_some_and(|g| m.has(g))
 }
 
 // Whether the claim's reply may show these members, the last of them member 0: they break it, or have the member of a
 // place as member 0.
-fn may_show(claim: &Claim, members: &[(u128, u64)]) -> bool {
+fn may_show(claim: &Claim, members: &[(Groups, u64)]) -> bool {
     match claim {
         Claim::Count { set, lo, hi } => {
             let count: u64 =
@@ -398,7 +480,7 @@ pub fn check_shown(sheet: &Sheet, claim: &Claim, reply: &[u8]) -> Result<(), Str
 
 // Runs (first, count, mark) as members with weights, by cutting at all ends. Every entry has
 // weight 1 or more, and the last is member 0.
-pub fn expand(runs: &[(u32, u32, u16)]) -> Vec<(u128, u64)> {
+pub fn expand(runs: &[(u32, u32, u16)]) -> Vec<(Groups, u64)> {
     let mut cuts: Vec<u64> = Vec::new();
     for &(first, count, _) in runs {
         cuts.push(first as u64);
@@ -408,18 +490,18 @@ pub fn expand(runs: &[(u32, u32, u16)]) -> Vec<(u128, u64)> {
     cuts.dedup();
     let mut members = Vec::new();
     for pair in cuts.windows(2) {
-        let mut set = 0u128;
+        let mut held = Groups::default();
         for (g, &(first, count, _)) in runs.iter().enumerate() {
             if first as u64 <= pair[0] && pair[0] < first as u64 + count as u64 {
-                set |= 1 << g;
+                held.put(g);
             }
         }
-        members.push((set, pair[1] - pair[0]));
+        members.push((held, pair[1] - pair[0]));
     }
-    let mut zero = 0u128;
+    let mut zero = Groups::default();
     for (g, &(_, _, mark)) in runs.iter().enumerate() {
         if mark == 1 {
-            zero |= 1 << g;
+            zero.put(g);
         }
     }
     members.push((zero, 1));
@@ -427,7 +509,7 @@ pub fn expand(runs: &[(u32, u32, u16)]) -> Vec<(u128, u64)> {
 }
 
 pub fn show(sheet: &Sheet) -> String {
-    let mut out = String::new();
+    let mut out = format!("edition {}\n", sheet.edition.number());
     let end = |hi: &Option<u64>| hi.map_or("-".to_string(), |h| h.to_string());
     let set = |s: &Named| s.map_or("{}".to_string(), |g| format!("g{}", g + 1));
     let list = |l: &[Named]| l.iter().map(set).collect::<Vec<_>>().join(" ");

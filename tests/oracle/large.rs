@@ -14,8 +14,6 @@
 
 use crate::format::{Claim, Group, ListKind, Sheet};
 
-pub const MOST: u64 = 127 * 65534;
-
 // A span of counts; None as upper end: no end.
 pub type Span = (u64, Option<u64>);
 
@@ -112,10 +110,13 @@ impl<'a> Large<'a> {
         let (lo, hi) = (self.sheet.groups[g].lo, self.sheet.groups[g].hi);
         let under = |k: u64| self.possible_with(g, lo, smaller(hi, Some(k)));
         let over = |k: u64| self.possible_with(g, lo.max(k), hi);
-        assert!(under(MOST) && over(0), "no count of group {} at all", g + 1);
-        let (mut no, mut yes) = (0, MOST); // under: false up to here, true from there
-        let least = if under(0) {
-            0
+        let most = self.sheet.edition.greatest_end();
+        assert!(under(most) && over(0), "no count of group {} at all", g + 1);
+        // No count is outside what the sons allow: most often its ends are the range's.
+        let (first, last) = self.up[g].unwrap();
+        let (mut no, mut yes) = (first, most); // under: false up to here, true from there
+        let least = if under(first) {
+            first
         } else {
             while yes - no > 1 {
                 let k = (no + yes) / 2;
@@ -123,10 +124,15 @@ impl<'a> Large<'a> {
             }
             yes
         };
-        if over(MOST + 1) {
+        if over(most + 1) {
+            assert!(over(1 << 40), "group {} has an end above {most}", g + 1);
             return (least, None);
         }
-        let (mut yes, mut no) = (least, MOST + 1);
+        let last = last.unwrap_or(most + 1);
+        if over(last) {
+            return (least, Some(last));
+        }
+        let (mut yes, mut no) = (least, last);
         while no - yes > 1 {
             let k = (no + yes) / 2;
             if over(k) { yes = k } else { no = k }

@@ -216,7 +216,7 @@ impl Run {
         if let Want::Refused(n, _) = want {
             self.met(&format!("{op}: refusal {n:2}"));
             // No refusal but 14 asks how long the buffer is.
-            let len = rng.pick(&[0, 1, 5, 6, 7, 8, 9, 20, 26, 2560, 4000]);
+            let len = rng.pick(&[0, 1, 5, 6, 7, 8, 9, 20, 26, 2560, 5120, 6000]);
             self.try_one(sheet, ask, len, &want);
             return;
         }
@@ -254,24 +254,27 @@ impl Run {
         self.number = number;
         let mut rng = Rng::new(self.seed.wrapping_mul(1_000_003).wrapping_add(number));
         let rng = &mut rng;
-        if HAS_REGISTER && (number % FULL == 7 || number % JOINED == 5) {
-            let full = number % FULL == 7;
-            let (bytes, registers) = if full { gen::full(rng, number / FULL) } else { gen::joined(rng) };
+        if HAS_REGISTER && (number % FULL == 7 || number % JOINED == 5 || number % LATE == 11) {
+            let (bytes, registers) = if number % FULL == 7 {
+                gen::full(rng, number / FULL)
+            } else if number % LATE == 11 {
+                gen::late(rng)
+            } else {
+                gen::joined(rng)
+            };
             let sheet = read_sheet(&bytes).expect("a readable sheet");
             for reg in &registers {
                 self.register(rng, &bytes, &sheet, reg);
             }
             return;
         }
-        let draft = gen::draft(rng);
+        let mut draft = if number % WIDEST == 3 { gen::widest(rng) } else { gen::draft(rng) };
         let bytes = if rng.chance(35) { gen::damage(rng, &draft) } else { draft.records.concat() };
         let sheet = match read_sheet(&bytes) {
             Ok(s) => s,
             Err((n, r)) => {
                 self.met("sheets: not readable");
-                if let Some(kind @ 4..=9) = kind_of(&bytes, r) {
-                    self.met(&format!("sheets: refusal {n} at kind {kind}"));
-                }
+                self.unreadable(&bytes, n, r);
                 if HAS_RANGES {
                     self.case(rng, &bytes, &Ask::Ranges, Want::Refused(n, r));
                 }
@@ -286,10 +289,15 @@ impl Run {
                 return;
             }
         };
+        self.readable(&bytes, &sheet);
         if HAS_RANGES || HAS_CLAIM {
             self.ranges_and_claims(rng, &bytes, &sheet);
         }
         if HAS_REGISTER {
+            // Where the head has another edition now, registers of either.
+            if rng.chance(50) {
+                draft.edition = sheet.edition;
+            }
             for _ in 0..1 + rng.below(3) {
                 let reg = gen::register(rng, &draft);
                 self.register(rng, &bytes, &sheet, &reg);
@@ -297,8 +305,68 @@ impl Run {
         }
     }
 
+    // What is met where record r of a sheet is turned back by n.
+    fn unreadable(&mut self, bytes: &[u8], n: u32, r: u32) {
+        let Some((kind, body)) = records(bytes).nth(r as usize - 1) else { return };
+        if let 4..=9 = kind {
+            self.met(&format!("sheets: refusal {n} at kind {kind}"));
+        }
+        if (n, r) == (4, 1) {
+            let (number, groups) = (word(body, 0), word(body, 2));
+            if BAD_EDITIONS.contains(&number) {
+                self.met(&of_edition(number));
+            } else if BAD_GROUPS.contains(&(number, groups)) {
+                self.met(&of_groups((number, groups)));
+            }
+        }
+        if kind == 3 && r > 1 {
+            let edition = Edition::of(word(bytes, 4)).expect("a head that was read");
+            if n == 3 && body.len() == 2 + edition.label_limit() + 1 {
+                self.met(&too_long(edition));
+            }
+            if n == 6 && body.len() > 2 + 16 {
+                self.met(LONG_TWICE);
+            }
+        }
+    }
+
+    // What is met where a sheet is readable.
+    fn readable(&mut self, bytes: &[u8], sheet: &Sheet) {
+        let (edition, groups) = (sheet.edition, sheet.groups.len());
+        self.met(&format!("sheets: edition {}", edition.number()));
+        if groups == edition.group_limit() {
+            self.met(&most_groups(edition));
+        }
+        if edition == Edition::Two {
+            match groups {
+                129 => self.met(GROUPS_129),
+                ..=8 => self.met(FEW_GROUPS),
+                _ => {}
+            }
+        }
+        let mut labels: Vec<&[u8]> = records(bytes).filter(|r| r.0 == 3).map(|r| &r.1[2..]).collect();
+        labels.sort_unstable();
+        if labels.iter().any(|l| l.len() == edition.label_limit()) {
+            self.met(&longest_label(edition));
+        }
+        // Those that begin alike are neighbours now: lengths of two, and how many bytes they begin with are alike.
+        let alike = |a: &[u8], b: &[u8]| a.iter().zip(b).take_while(|(a, b)| a == b).count();
+        let pairs = || labels.windows(2).map(|l| (l[0].len(), l[1].len(), alike(l[0], l[1])));
+        let ends: Vec<(usize, &[u8])> = labels.iter().filter(|l| l.len() > 16).map(|l| (l.len(), &l[l.len() - 16..])).collect();
+        for (what, met) in [
+            (ALIKE_16, pairs().any(|(a, b, n)| a == b && a > 16 && n >= 16)),
+            (ALIKE_BUT_LAST, pairs().any(|(a, b, n)| a == b && a > 16 && n == a - 1)),
+            (END_ALIKE_16, (1..ends.len()).any(|k| ends[..k].contains(&ends[k]))),
+            (BEGINS_WITH, pairs().any(|(a, b, n)| a == 16 && b > 16 && n == 16)),
+        ] {
+            if met {
+                self.met(what);
+            }
+        }
+    }
+
     fn register(&mut self, rng: &mut Rng, bytes: &[u8], sheet: &Sheet, reg: &[u8]) {
-        let want = match read_register(reg, sheet.groups.len()) {
+        let want = match read_register(reg, sheet.edition, sheet.groups.len()) {
             Err((n, r)) => {
                 self.refused(sheet, reg, n, r);
                 Want::Refused(n, r)
@@ -307,6 +375,17 @@ impl Run {
                 let members = members(&rows);
                 let (g, rule) = broken_rule(sheet, &members);
                 self.met(&format!("register: rule {rule}"));
+                if !rows.is_empty() {
+                    self.met(&in_edition(sheet.edition, "rule", rule as u32));
+                }
+                if g > 128 {
+                    self.met(&above_128(rule));
+                }
+                for group in AT_EDGES {
+                    if rule == 0 && members.iter().any(|m| m.0.has(group - 1)) {
+                        self.met(&held_at(group));
+                    }
+                }
                 if rows.len() >= 2040 {
                     self.met(&format!("register: rule {rule}, 2,040 rows or more"));
                 }
@@ -315,7 +394,7 @@ impl Run {
                 let any = |so: fn(Ear, Ear) -> bool| rows.windows(2).any(|r| so(r[0].0, r[1].0));
                 if members.len() < rows.len() {
                     self.met(&format!("register: joined rows, rule {rule}"));
-                    let apart: Vec<(u128, u64)> = rows.iter().map(|r| (r.1, 1)).collect();
+                    let apart: Vec<(Groups, u64)> = rows.iter().map(|r| (r.1, 1)).collect();
                     self.other(rule, broken_rule(sheet, &apart).1, ROW_BY_ROW);
                     for (what, met) in [
                         (THREE_ROWS, rows.windows(3).any(|r| r[0].0 == r[2].0)),
@@ -359,20 +438,49 @@ impl Run {
 
     // What is met where row r is turned back by n.
     fn refused(&mut self, sheet: &Sheet, reg: &[u8], n: u32, r: u32) {
+        let (edition, groups) = (sheet.edition, sheet.groups.len());
+        self.met(&in_edition(edition, "refusal", n));
         if r >= 2040 {
             self.met(&format!("register: refusal {n} at row 2,040 or later"));
         }
         // The row, as much of it as there is, and the ears of the rows before.
-        let (before, row) = reg.split_at(ROW * (r as usize - 1));
-        let before: Vec<Ear> = before.chunks(ROW).map(ear).collect();
+        let (before, row) = reg.split_at(edition.row() * (r as usize - 1));
+        let before: Vec<Ear> = before.chunks(edition.row()).map(ear).collect();
         if before.windows(2).any(|m| m[0] == m[1]) {
             self.met(&format!("register: refusal {n} after joined rows"));
         }
-        if n == 11 && row.len() >= 4 && word(row, 2) == 32 {
-            self.met(if word(row, 0) == 22 { OLD_ROW } else { OLD_KIND });
+        if n == 11 && row.len() >= 4 {
+            let (length, kind, other) = (word(row, 0), word(row, 2), edition.other());
+            if kind == 32 {
+                self.met(if length == 22 { OLD_ROW } else { OLD_KIND });
+            }
+            // All rows would be read in the other edition.
+            let all = || read_register(reg, other, other.group_limit()).is_ok_and(|rows| rows.len() > 1);
+            for (what, met) in [
+                (OTHER_REGISTER, r == 1 && all()),
+                (OTHER_ROW, row.len() >= other.row() && (length, kind) == (other.row_length(), other.row_kind())),
+                (OTHER_KIND, row.len() >= edition.row() && (length, kind) == (edition.row_length(), other.row_kind())),
+                (OTHER_LENGTH, row.len() >= other.row() && (length, kind) == (other.row_length(), edition.row_kind())),
+            ] {
+                if met {
+                    self.met(&under(edition, what));
+                }
+            }
         }
-        if row.len() < ROW {
+        if row.len() < edition.row() {
             return;
+        }
+        let above: Vec<usize> = (groups..edition.group_limit()).filter(|&g| bit(row, g)).collect();
+        for (what, met) in [
+            (BIT_JUST_ABOVE, above == [groups]),
+            (BIT_LAST, above == [edition.group_limit() - 1] && groups + 1 < edition.group_limit()),
+        ] {
+            if n == 13 && met {
+                self.met(&under(edition, what));
+            }
+        }
+        if n == 13 && edition == Edition::Two && groups <= 128 {
+            self.met(if above[0] >= 128 { BIT_FROM_129 } else { BIT_TO_128 });
         }
         let (number, side) = ear(row);
         let last = before.last().copied().unwrap_or((0, 0));
@@ -385,7 +493,7 @@ impl Run {
             (SIDE_IN_BAD_ROW, n == 11 && side != 1 && side != 2),
             (SIDE_OF_ZERO, n == 15 && number == 0),
             (SIDE_FALLING, n == 15 && number > 0 && (number, side) < last),
-            (SIDE_WITH_BIT, n == 15 && (sheet.groups.len()..128).any(|g| row[10 + g / 8] >> (g % 8) & 1 == 1)),
+            (SIDE_WITH_BIT, n == 15 && !above.is_empty()),
             (SIDE_0, n == 15 && side == 0),
             (SIDE_3, n == 15 && side == 3),
             (SIDE_BY_HIGH_BYTE, n == 15 && (row[8] == 1 || row[8] == 2)),
@@ -396,7 +504,7 @@ impl Run {
             }
         }
         // What the rows after it would meet.
-        match read_register(&row[ROW..], sheet.groups.len()) {
+        match read_register(&row[edition.row()..], edition, groups) {
             Err((later, _)) if n == 15 || later == 15 => self.met(&then(n, later)),
             _ => {}
         }
@@ -411,6 +519,10 @@ impl Run {
             self.fail(bytes, &Ask::Ranges, 0, "the oracle's two methods differ: possible");
         }
         let q = sheet.claims.len() as u32;
+        let wide = sheet.groups.len() > 128;
+        if wide {
+            self.met(if possible { WIDE_POSSIBLE } else { WIDE_IMPOSSIBLE });
+        }
         if !possible {
             self.met("sheets: impossible");
             if HAS_RANGES {
@@ -432,6 +544,11 @@ impl Run {
                 let (least, greatest) = large.range(g);
                 if small.as_ref().is_some_and(|s| s.ranges[g] != (least, greatest)) {
                     self.fail(bytes, &Ask::Ranges, 0, "the oracle's two methods differ: range");
+                }
+                match greatest {
+                    Some(end) if end == sheet.edition.greatest_end() => self.met(&greatest_end(sheet.edition)),
+                    Some(8_322_819..) => self.met(ABOVE_EDITION_1),
+                    _ => {}
                 }
                 reply.extend([18, 0, 17, 0]);
                 for x in [least, greatest.unwrap_or(u32::MAX as u64), runs[g].0, runs[g].1] {
@@ -477,7 +594,7 @@ impl Run {
                 }
                 let holds = claim.holds_by_sets() == shown;
                 let kind = claim.word();
-                let size = if small.is_some() { "small" } else { "large" };
+                let size = if small.is_some() { "small" } else if wide { OVER_128 } else { "large" };
                 let verdict = if holds { "holds" } else { "denied" };
                 self.met(&format!("claim: {kind} {verdict}, {size}"));
                 if let (false, Claim::Lists { kind: ListKind::Place, left, right }) = (shown, claim) {
@@ -562,9 +679,18 @@ fn wanted() -> Vec<String> {
         for n in 11..14 {
             all.extend([then(n, 15), then(15, n)]);
         }
+        for edition in EDITIONS {
+            all.extend((0..7).map(|rule| in_edition(edition, "rule", rule)));
+            all.extend([10, 11, 12, 13, 15].map(|n| in_edition(edition, "refusal", n)));
+            let rows = [OTHER_REGISTER, OTHER_ROW, OTHER_KIND, OTHER_LENGTH, BIT_JUST_ABOVE, BIT_LAST];
+            all.extend(rows.map(|what| under(edition, what)));
+        }
+        all.extend((1..7).map(above_128));
+        all.extend(AT_EDGES.map(held_at));
         let rest = [
             [THREE_ROWS, AT_WORD, AT_END, ALL_ROWS, ZERO, FALLS, BIT_IN_JOINED].as_slice(),
             &[BOTH_JOINED, BOTH_AT_WORD, BOTH_AT_END, SIDE_FALLS, FALLS_AS_SIDE_RISES, RIGHT_THEN_LEFT, OLD_ROW, OLD_KIND],
+            &[BIT_TO_128, BIT_FROM_129],
             &[SIDE_IN_BAD_ROW, SIDE_OF_ZERO, SIDE_FALLING, SIDE_WITH_BIT, SIDE_0, SIDE_3, SIDE_BY_HIGH_BYTE, SIDE_AT_END],
         ];
         all.extend(rest.concat().into_iter().map(str::to_string));
@@ -575,6 +701,7 @@ fn wanted() -> Vec<String> {
                 for size in ["small", "large"] {
                     all.push(format!("claim: {kind} {verdict}, {size}"));
                 }
+                all.push(format!("claim: {kind} {verdict}, {OVER_128}"));
                 if HAS_RANGES {
                     all.push(format!("replaced: {kind} {verdict}"));
                 }
@@ -588,10 +715,24 @@ fn wanted() -> Vec<String> {
         }
     }
     all.push("sheets: refusal 2 at kind 8".to_string());
+    all.extend(BAD_EDITIONS.map(of_edition));
+    all.extend(BAD_GROUPS.map(of_groups));
+    for edition in EDITIONS {
+        all.extend([most_groups(edition), longest_label(edition), too_long(edition)]);
+        if HAS_RANGES {
+            all.push(greatest_end(edition));
+        }
+    }
+    let sheets = [FEW_GROUPS, GROUPS_129, ALIKE_16, ALIKE_BUT_LAST, END_ALIKE_16, BEGINS_WITH, LONG_TWICE];
+    all.extend(sheets.map(str::to_string));
+    if HAS_RANGES || HAS_CLAIM {
+        all.extend([WIDE_POSSIBLE, WIDE_IMPOSSIBLE].map(str::to_string));
+    }
     if HAS_RANGES {
         for what in ["other bounds", "as it was", "an end above 65,534"] {
             all.push(format!("replaced: {what}"));
         }
+        all.push(ABOVE_EDITION_1.to_string());
     }
     all
 }
@@ -635,12 +776,69 @@ fn then(n: u32, later: u32) -> String {
     format!("register: refusal {n}, and {later} in a later row")
 }
 
+// What the editions tell apart (document 02, card 5).
+fn in_edition(edition: Edition, what: &str, n: u32) -> String {
+    format!("register: edition {}, {what} {n}", edition.number())
+}
+fn under(edition: Edition, what: &str) -> String {
+    format!("register: edition {}, {what}", edition.number())
+}
+const OTHER_REGISTER: &str = "refusal 11, a register of the other edition";
+const OTHER_ROW: &str = "refusal 11, kind and length of the other edition";
+const OTHER_KIND: &str = "refusal 11, kind of the other edition";
+const OTHER_LENGTH: &str = "refusal 11, length of the other edition";
+const BIT_JUST_ABOVE: &str = "refusal 13, the bit just above G alone";
+const BIT_LAST: &str = "refusal 13, the last bit alone";
+const BIT_TO_128: &str = "register: edition 2, refusal 13, a bit up to 128";
+const BIT_FROM_129: &str = "register: edition 2, refusal 13, bits from 129 alone";
+const AT_EDGES: [usize; 7] = [64, 65, 128, 129, 192, 193, 256];
+fn held_at(group: usize) -> String {
+    format!("register: rule 0, a member in group {group}")
+}
+fn above_128(rule: u16) -> String {
+    format!("register: rule {rule} at a group above 128")
+}
+
+const BAD_EDITIONS: [u16; 5] = [0, 3, 257, 258, 65535];
+fn of_edition(number: u16) -> String {
+    format!("sheets: refusal 4, edition {number}")
+}
+const BAD_GROUPS: [(u16, u16); 6] = [(1, 0), (1, 129), (1, 256), (1, 257), (2, 0), (2, 257)];
+fn of_groups((number, groups): (u16, u16)) -> String {
+    format!("sheets: refusal 4, edition {number} with {groups} groups")
+}
+fn most_groups(edition: Edition) -> String {
+    format!("sheets: edition {} with {} groups", edition.number(), edition.group_limit())
+}
+fn longest_label(edition: Edition) -> String {
+    format!("sheets: edition {}, a label of {} bytes", edition.number(), edition.label_limit())
+}
+fn too_long(edition: Edition) -> String {
+    format!("sheets: refusal 3, edition {}, a label of {} bytes", edition.number(), edition.label_limit() + 1)
+}
+fn greatest_end(edition: Edition) -> String {
+    format!("ranges: the greatest end, {}", edition.greatest_end())
+}
+const ABOVE_EDITION_1: &str = "ranges: an end above 8,322,818";
+const FEW_GROUPS: &str = "sheets: edition 2 with 8 groups or fewer";
+const GROUPS_129: &str = "sheets: edition 2 with 129 groups";
+const OVER_128: &str = "over 128 groups";
+const WIDE_POSSIBLE: &str = "sheets: over 128 groups, possible";
+const WIDE_IMPOSSIBLE: &str = "sheets: over 128 groups, impossible";
+const ALIKE_16: &str = "sheets: two labels of one length, alike in the first 16 bytes";
+const ALIKE_BUT_LAST: &str = "sheets: two labels of 17 bytes or more, alike in all bytes but the last";
+const END_ALIKE_16: &str = "sheets: two labels of one length, alike in the last 16 bytes";
+const BEGINS_WITH: &str = "sheets: a label that begins with another of 16 bytes";
+const LONG_TWICE: &str = "sheets: refusal 6, a label of 17 bytes or more";
+
 // A place is one member's, not a pair of sets at a time.
 const PAIRS_ONLY: &str = "claim: place denied, where any two left sets have it";
 
 const WORKERS: u64 = 2;
 const FULL: u64 = 113; // one sheet in so many is drawn around a register of many rows
 const JOINED: u64 = 13; // and one around a small register of members on several rows
+const LATE: u64 = 29; // and one around a small register that breaks rules at groups above 128
+const WIDEST: u64 = 97; // and one for the greatest end
 
 fn main() {
     let (mut seed, mut cases, mut only, mut own) = (20_240_229u64, 1_000_000u64, None, false);

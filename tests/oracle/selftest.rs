@@ -97,7 +97,7 @@ fn random_sheet(rng: &mut Rng, n: usize, most: u64, endless: u64) -> Sheet {
             k => Claim::Lists { kind: LIST_KINDS[k as usize - 1], left: list(rng, 7), right: list(rng, 50) },
         });
     }
-    Sheet { groups, sons, names: Vec::new(), claims }
+    Sheet { edition: Edition::One, groups, sons, names: Vec::new(), claims }
 }
 
 // The sheet with these ranges in place of its bounds, where they are others (document 02, card 13).
@@ -148,22 +148,35 @@ fn broken(sheet: &Sheet, family: &[u32]) -> (u16, u16) {
     (0, 0)
 }
 
+// A row as each edition has it: length, kind, member, side, membership with these bits, counted from 0.
+fn row(edition: Edition, (number, side): Ear, bits: &[usize]) -> Vec<u8> {
+    let mut out = if edition == Edition::One { vec![24, 0, 33, 0] } else { vec![40, 0, 34, 0] };
+    out.extend(number.to_le_bytes());
+    out.extend(side.to_le_bytes());
+    out.resize(if edition == Edition::One { 26 } else { 42 }, 0);
+    bits.iter().for_each(|b| out[10 + b / 8] |= 1 << (b % 8));
+    out
+}
+
 // All registers of up to three rows under three groups, with numbers 0 to 2 and sides 0 to 3: the first row is refused that
 // has another side than 1 or 2 (15), the number 0 or an earlier row above it (12); all others are judged by the sets that
-// they list, of four members.
+// they list, of four members. In edition 2 the three groups are 1, 129 and 256 of 256, and rows are read alone.
 fn registers() {
     let (mut refused, mut read, mut kept) = (BTreeMap::new(), 0u64, BTreeMap::new());
     for many in 0..4u32 {
         for code in 0..96u32.pow(many) {
-            let of = |c: u32| ((c / 8 % 3, (c / 24) as u16), (c % 8) as u128);
-            let rows: Vec<(Ear, u128)> = (0..many).map(|r| of(code / 96u32.pow(r) % 96)).collect();
-            let mut bytes = Vec::new();
-            for ((number, side), set) in &rows {
-                bytes.extend([24, 0, 33, 0]);
-                bytes.extend(number.to_le_bytes());
-                bytes.extend(side.to_le_bytes());
-                bytes.extend(set.to_le_bytes());
-            }
+            let of = |c: u32| ((c / 8 % 3, (c / 24) as u16), c % 8);
+            let rows: Vec<(Ear, u32)> = (0..many).map(|r| of(code / 96u32.pow(r) % 96)).collect();
+            let answers = [(Edition::One, [0, 1, 2], 3), (Edition::Two, [0, 128, 255], 256)].map(|(edition, at, groups)| {
+                let held = |set: u32| (0..3).filter(|g| set >> g & 1 == 1).map(|g| at[g]).collect::<Vec<usize>>();
+                let bytes = rows.iter().flat_map(|&(ear, set)| row(edition, ear, &held(set))).collect::<Vec<u8>>();
+                let answer = read_register(&bytes, edition, groups);
+                if let Ok(found) = &answer {
+                    let same = |(a, b): (&(Ear, Groups), &(Ear, u32))| a.0 == b.0 && a.1.all().eq(held(b.1));
+                    assert!(found.len() == rows.len() && found.iter().zip(&rows).all(same), "{rows:?}");
+                }
+                answer
+            });
             // One after another: 1 left, 1 right, 2 left, 2 right.
             let place = |r: usize| 2 * rows[r].0.0 + rows[r].0.1 as u32 - 3;
             let bad = (0..rows.len()).find_map(|r| match rows[r].0 {
@@ -173,17 +186,17 @@ fn registers() {
             });
             if let Some(bad) = bad {
                 *refused.entry(bad).or_insert(0) += 1;
-                assert_eq!(Err(bad), read_register(&bytes, 3), "{rows:?}");
+                assert_eq!([Err(bad), Err(bad)], answers, "{rows:?}");
                 continue;
             }
             read += 1;
-            assert_eq!(Ok(rows.clone()), read_register(&bytes, 3), "{rows:?}");
+            let [Ok(found), Ok(_)] = answers else { panic!("{rows:?}") };
             let mut family = vec![0u32; 3];
             for (r, (_, set)) in rows.iter().enumerate() {
                 (0..3).filter(|g| set >> g & 1 == 1).for_each(|g| family[g] |= 1 << place(r));
             }
             // Registers of the same members and sets are judged once.
-            let members = members(&rows);
+            let members = members(&found);
             let joined = members.len() < rows.len();
             *kept.entry((members, family, joined)).or_insert(0) += 1;
         }
@@ -198,7 +211,7 @@ fn registers() {
             let bounds = |g: u16| if at / 3 == g { [(1, Some(1)), (2, None), (0, Some(0))][at as usize % 3] } else { (0, None) };
             let group = |g: usize| Group { parent: parents[g], lo: bounds(g as u16).0, hi: bounds(g as u16).1, mode: modes[g] };
             let groups: Vec<Group> = (0..3).map(group).collect();
-            let sheet = Sheet { sons: make_sons(&groups), groups, names: Vec::new(), claims: Vec::new() };
+            let sheet = Sheet { edition: Edition::One, sons: make_sons(&groups), groups, names: Vec::new(), claims: Vec::new() };
             sheets += 1;
             for ((members, family, joined), many) in &kept {
                 let want = broken(&sheet, family);
@@ -218,6 +231,114 @@ fn registers() {
         answers[0][0] + answers[0][1],
         answers[0][1]
     );
+}
+
+// What the editions tell apart (document 02, card 5), value by value: every edition, every number of groups, every length of a
+// label, labels that differ in one byte, every bit of a row under every number of groups, lengths and kinds of a row.
+fn editions() {
+    let record = |kind: u16, body: &[u8]| [&(body.len() as u16 + 2).to_le_bytes()[..], &kind.to_le_bytes(), body].concat();
+    let words = |fields: &[u16]| fields.iter().flat_map(|f| f.to_le_bytes()).collect::<Vec<u8>>();
+    let head = |edition: u16, groups: u16, names: u16| record(1, &words(&[edition, groups, names, 0]));
+    let said = |bytes: &[u8]| read_sheet(bytes).map(|s| s.edition);
+    let mut asked = 0u64;
+    for edition in 0..=65535 {
+        for groups in [0, 1, 128, 129, 256, 257] {
+            let most = match edition {
+                1 => 128,
+                2 => 256,
+                _ => 0,
+            };
+            // A head alone: where it passes, the first group is cut.
+            let want = if groups >= 1 && groups <= most { (1, 2) } else { (4, 1) };
+            assert_eq!(Err(want), said(&head(edition, groups, 0)).map(|_| ()), "edition {edition}, {groups} groups");
+            asked += 1;
+        }
+    }
+    for (edition, number, most, longest) in [(Edition::One, 1, 128, 16), (Edition::Two, 2, 256, 32)] {
+        for groups in 0..=300 {
+            let mut bytes = head(number, groups, 0);
+            (0..groups).for_each(|g| bytes.extend(record(2, &words(&[g, 0, 65535, 0]))));
+            let want = if groups >= 1 && groups <= most { Ok(edition) } else { Err((4, 1)) };
+            assert_eq!(want, said(&bytes), "edition {number}, {groups} groups");
+            asked += 1;
+        }
+        let named = |labels: &[Vec<u8>]| {
+            let mut bytes = [head(number, 1, labels.len() as u16), record(2, &words(&[0, 0, 65535, 0]))].concat();
+            labels.iter().for_each(|label| bytes.extend(record(3, &[&[1, 0], &label[..]].concat())));
+            said(&bytes)
+        };
+        for n in 0..=40 {
+            let label = vec![b'A'; n];
+            let fits = n >= 1 && n <= longest;
+            assert_eq!(if fits { Ok(edition) } else { Err((3, 3)) }, named(&[label.clone()]), "a label of {n} bytes");
+            if fits {
+                assert_eq!(Err((6, 4)), named(&[label.clone(), label.clone()]), "a label of {n} bytes twice");
+            }
+            for k in 0..if fits { n } else { 0 } {
+                let mut other = label.clone();
+                other[k] = b'B';
+                assert_eq!(Ok(edition), named(&[label.clone(), other]), "labels of {n} bytes, another byte {k}");
+            }
+            asked += 2 + n as u64;
+        }
+        for groups in 1..=most as usize {
+            for bit in 0..most as usize {
+                let mut held = Groups::default();
+                held.put(bit);
+                let want = if bit < groups { Ok(vec![((1, 1), held)]) } else { Err((13, 1)) };
+                assert_eq!(want, read_register(&row(edition, (1, 1), &[bit]), edition, groups), "bit {bit}, {groups} groups");
+                asked += 1;
+            }
+        }
+        for length in 0..=60u16 {
+            for kind in 0..=60u16 {
+                let mut bytes = row(edition, (1, 1), &[]);
+                bytes.resize(length.max(8) as usize + 2, 0);
+                bytes[..4].copy_from_slice(&words(&[length, kind]));
+                let good = (length, kind) == if number == 1 { (24, 33) } else { (40, 34) };
+                let want = if good { Ok(vec![((1, 1), Groups::default())]) } else { Err((11, 1)) };
+                assert_eq!(want, read_register(&bytes, edition, 1), "edition {number}, length {length}, kind {kind}");
+                asked += 1;
+            }
+        }
+    }
+    println!("self-test, editions: {asked} heads, labels and rows");
+}
+
+// The sheet among 129 to 256 groups, under a root that asks nothing, and where its groups are now. The others ask nothing of
+// its groups: they are of mode 0, without upper ends.
+fn among_many(rng: &mut Rng, sheet: &Sheet) -> (Sheet, Vec<usize>) {
+    let n = 129 + rng.index(128);
+    let mut at: Vec<usize> = Vec::new();
+    while at.len() < sheet.groups.len() {
+        let g = if rng.chance(70) { 128 + rng.index(n - 128) } else { 1 + rng.index(n - 1) };
+        if !at.contains(&g) {
+            at.push(g);
+        }
+    }
+    at.sort_unstable();
+    let mut groups = Vec::new();
+    for g in 0..n {
+        groups.push(match at.iter().position(|&k| k == g) {
+            Some(k) => Group { parent: Some(sheet.groups[k].parent.map_or(0, |p| at[p])), ..sheet.groups[k].clone() },
+            None if g == 0 => Group { parent: None, lo: 0, hi: None, mode: 0 },
+            None => {
+                let parent = rng.index(g);
+                Group { parent: Some(if at.contains(&parent) { 0 } else { parent }), lo: rng.below(3), hi: None, mode: 0 }
+            }
+        });
+    }
+    (Sheet { edition: Edition::Two, sons: make_sons(&groups), groups, names: Vec::new(), claims: Vec::new() }, at)
+}
+
+fn moved(claim: &Claim, at: &[usize]) -> Claim {
+    let set = |s: &Named| s.map(|g| at[g]);
+    match claim {
+        Claim::Count { set: s, lo, hi } => Claim::Count { set: set(s), lo: *lo, hi: *hi },
+        Claim::Lists { kind, left, right } => {
+            Claim::Lists { kind: *kind, left: left.iter().map(set).collect(), right: right.iter().map(set).collect() }
+        }
+    }
 }
 
 pub fn run(seed: u64) {
@@ -297,7 +418,7 @@ pub fn run(seed: u64) {
             let groups: Vec<Group> = (0..parents.len())
                 .map(|g| Group { parent: parents[g], ..kinds[code / kinds.len().pow(g as u32) % kinds.len()].clone() })
                 .collect();
-            let sheet = Sheet { sons: make_sons(&groups), groups, names: Vec::new(), claims: Vec::new() };
+            let sheet = Sheet { edition: Edition::One, sons: make_sons(&groups), groups, names: Vec::new(), claims: Vec::new() };
             sheets += 1;
             let large = Large::new(&sheet);
             if !large.possible() {
@@ -326,7 +447,7 @@ pub fn run(seed: u64) {
         let (root, k) = (code / 216, code % 216);
         let root = Group { parent: None, lo: root % 3, hi: Some(root / 3 % 3), mode: (root / 9) as u16 };
         let groups = vec![root, son(k), son(k / 6), son(k / 36)];
-        let sheet = Sheet { sons: make_sons(&groups), groups, names: Vec::new(), claims: Vec::new() };
+        let sheet = Sheet { edition: Edition::One, sons: make_sons(&groups), groups, names: Vec::new(), claims: Vec::new() };
         sheets += 1;
         let mut some = false;
         let mut showing = [false; 256];
@@ -358,7 +479,7 @@ pub fn run(seed: u64) {
     );
 
     // Enumeration against closed forms, also without upper ends.
-    let (mut sheets, mut possible, mut verdicts) = (0u64, 0u64, Verdicts::default());
+    let (mut sheets, mut possible, mut among, mut verdicts) = (0u64, 0u64, 0u64, Verdicts::default());
     while sheets < 60_000 {
         let n = 1 + rng.index(6);
         let sheet = random_sheet(&mut rng, n, 3, 25);
@@ -367,6 +488,11 @@ pub fn run(seed: u64) {
         let large = Large::new(&sheet);
         let text = show(&sheet);
         assert_eq!(small.possible, large.possible(), "possible\n{text}");
+        let many = (sheets % 20 == 0).then(|| among_many(&mut rng, &sheet));
+        let wide = many.as_ref().map(|(sheet, at)| (Large::new(sheet), sheet, at));
+        if let Some((wide, ..)) = &wide {
+            assert_eq!(small.possible, wide.possible(), "possible, among many groups\n{text}");
+        }
         if !small.possible {
             continue;
         }
@@ -379,11 +505,25 @@ pub fn run(seed: u64) {
             verdicts.met(claim, shown);
             assert_eq!(shown, large.shown(claim), "claim {}\n{text}", c + 1);
         }
+        if let Some((wide, sheet_of_many, at)) = wide {
+            among += 1;
+            let (runs, runs_of_many) = (arrangement(&sheet, &large.up), arrangement(sheet_of_many, &wide.up));
+            for g in 0..n {
+                assert_eq!(small.ranges[g], wide.range(at[g]), "range of {}, now {}\n{text}", g + 1, at[g] + 1);
+                assert_eq!(runs[g], runs_of_many[at[g]], "run of {}, now {}\n{text}", g + 1, at[g] + 1);
+            }
+            for (c, claim) in sheet.claims.iter().enumerate() {
+                let shown = wide.shown(&moved(claim, at));
+                assert_eq!(small.shown(claim), shown, "claim {}, among many groups\n{text}", c + 1);
+            }
+        }
     }
     println!(
-        "self-test, enumeration and closed forms: {sheets} sheets ({possible} possible); claims: {}",
+        "self-test, enumeration and closed forms: {sheets} sheets ({possible} possible, {among} of these also among 129 to 256 \
+         groups); claims: {}",
         verdicts.say()
     );
     registers();
-    println!("self-test: 5 passed, 0 failed");
+    editions();
+    println!("self-test: 6 passed, 0 failed");
 }
