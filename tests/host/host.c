@@ -81,31 +81,31 @@ static void pair_claim(struct bytes *b, uint32_t kind, uint32_t left, uint32_t r
     list_claim(b, kind, 1, &left, 1, &right);
 }
 
+/* A row in no group, of the kind and size of an edition; returns where its membership begins. */
+static uint8_t *empty_row(struct bytes *b, uint32_t kind, uint32_t size, uint32_t member, uint32_t side)
+{
+    uint8_t *at = b->at + b->len;
+    memset(at, 0, size);
+    sheet_put16(at, size - 2);
+    sheet_put16(at + 2, kind);
+    sheet_put32(at + 4, member);
+    sheet_put16(at + 8, side);
+    b->len += size;
+    return at + 10;
+}
+
 /* A row of edition 1. groups: bit g - 1 for group g, for the first 32 groups. */
 static void row(struct bytes *b, uint32_t member, uint32_t side, uint32_t groups)
 {
-    uint8_t *at = b->at + b->len;
-    memset(at, 0, SHEET_ROW_BYTES_1);
-    sheet_put16(at, SHEET_ROW_BYTES_1 - 2);
-    sheet_put16(at + 2, SHEET_KIND_ROW_1);
-    sheet_put32(at + 4, member);
-    sheet_put16(at + 8, side);
-    sheet_put32(at + 10, groups);
-    b->len += SHEET_ROW_BYTES_1;
+    sheet_put32(empty_row(b, SHEET_KIND_ROW_1, SHEET_ROW_BYTES_1, member, side), groups);
 }
 
 /* A row of edition 2, in so many groups. */
 static void row_2(struct bytes *b, uint32_t member, uint32_t side, size_t n, const uint32_t *groups)
 {
-    uint8_t *at = b->at + b->len;
-    memset(at, 0, SHEET_ROW_BYTES_2);
-    sheet_put16(at, SHEET_ROW_BYTES_2 - 2);
-    sheet_put16(at + 2, SHEET_KIND_ROW_2);
-    sheet_put32(at + 4, member);
-    sheet_put16(at + 8, side);
+    uint8_t *membership = empty_row(b, SHEET_KIND_ROW_2, SHEET_ROW_BYTES_2, member, side);
     for (size_t i = 0; i < n; i++)
-        at[10 + (groups[i] - 1) / 8] |= (uint8_t)(1 << (groups[i] - 1) % 8);
-    b->len += SHEET_ROW_BYTES_2;
+        membership[(groups[i] - 1) / 8] |= (uint8_t)(1 << (groups[i] - 1) % 8);
 }
 
 /* The printed case of the paper. */

@@ -764,23 +764,15 @@ fn families(t: &mut Table) {
                     (at + 4, (at + 3, 0, NO_END, 0)),
                 ],
             );
-            for (held, group, rule) in [
+            let more = [
                 (vec![], 0, 0),
                 (vec![1], 0, 0),
                 (vec![1, g, g + 1], 0, 0),
                 (vec![1, g, g + 2, g + 3, g + 4], 0, 0),
-                (vec![g, g + 1], at, 1),
-                (vec![1, g + 1], at + 1, 1),
-                (vec![1, g + 2], at + 2, 1),
-                (vec![1, g + 3], at + 4, 2),
-                (vec![1, g + 4], at + 4, 1),
-                (vec![1, g], at, 3),
                 (vec![1, g, g + 3, g + 4], at, 3),
-                (vec![1, g, g + 1, g + 2], at, 4),
-                (vec![1, g + 1, g + 2], at, 4),
-                (vec![g + 1, g + 2], at, 4),
                 (vec![g + 3, g + 4], at + 3, 1),
-            ] {
+            ];
+            for (held, group, rule) in more.into_iter().chain(breaking(at)) {
                 let what = format!("family at {at} of {groups}, {held:?}");
                 for (n, r) in [(1, 1), (64, 64), (65, 65), (129, 1), (2048, 64), (2048, 2048)] {
                     let reg = e.rows(n, |k| if k == r { held.clone() } else { fitting(g, k) });

@@ -1055,25 +1055,30 @@ fn fitting(at: usize, r: usize) -> Vec<usize> {
     }
 }
 
+// Rows of a family at a group, each with the group and rule that it alone breaks.
+fn breaking(at: u16) -> Vec<(Vec<usize>, u16, u16)> {
+    let g = at as usize;
+    vec![
+        (vec![g, g + 1], at, 1),
+        (vec![1, g + 1], at + 1, 1),
+        (vec![1, g + 2], at + 2, 1),
+        (vec![1, g + 3], at + 4, 2),
+        (vec![1, g + 4], at + 4, 1),
+        (vec![1, g], at, 3),
+        (vec![1, g, g + 1, g + 2], at, 4),
+        // In two sons and not in the group.
+        (vec![1, g + 1, g + 2], at, 4),
+        (vec![g + 1, g + 2], at, 4),
+    ]
+}
+
 // Registers by size, fitting and broken by one row.
 fn sizes(t: &mut Table) {
     for at in [2, 63, 124] {
         let s = family(at);
         let g = at as usize;
         let fits = |r: usize| fitting(g, r);
-        // A row, and the group and rule that it alone breaks.
-        let broken = [
-            (vec![g, g + 1], at, 1),
-            (vec![1, g + 1], at + 1, 1),
-            (vec![1, g + 2], at + 2, 1),
-            (vec![1, g + 3], at + 4, 2),
-            (vec![1, g + 4], at + 4, 1),
-            (vec![1, g], at, 3),
-            (vec![1, g, g + 1, g + 2], at, 4),
-            // In two sons and not in the group.
-            (vec![1, g + 1, g + 2], at, 4),
-            (vec![g + 1, g + 2], at, 4),
-        ];
+        let broken = breaking(at);
         for n in SIZES {
             t.checked(&format!("{n} rows, family at {at}"), &s, &rows(n, fits), 0, 0);
             t.checked(&format!("{n} rows in no group, family at {at}"), &s, &rows(n, |_| vec![]), 0, 0);
