@@ -3,3 +3,4 @@ pub mod Cases
 pub mod SumLaws
 pub mod Digit
 pub mod Digits
+pub mod Tabulate

@@ -16,7 +16,7 @@ use Rattle.wire.specs.Fields.{length-le16s}
 use Rattle.laws.specs.Cases.{split}
 use Rattle.wire.specs.Passing.{passed}
 use Rattle.wire.specs.Sorts.{length-u16s, claim-nonzero, claim-cases, claim-count, claim-lists}
-use Rattle.reading.specs.Tables.{length-tabulate, getD-tabulate}
+use Rattle.laws.specs.Tabulate.{length-tabulate, getD-tabulate}
 use Rattle.reading.specs.Meant.{meantNumber}
 use Rattle.reading.specs.ClaimHeld.{leftNames, rightNames, claimRecord}
 use Rattle.reading.specs.Answers.{headRecord, Value, head, group, name, claim, bytesFrom, recordAs, answerAs, refusalIn, AnswerOf, WholeName}

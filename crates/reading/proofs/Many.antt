@@ -17,7 +17,8 @@ pub use Rattle.wire.specs.Passing.{never-read}
 use Rattle.wire.specs.SheetFormat.{GroupRecord, NameRecord, Records, groupOf, groupTests, nameOf}
 use Rattle.wire.specs.SheetFormat.{nameTests, used, listNumber, claimOf, claimTests, readMany}
 use Rattle.wire.specs.Encoding.{encodeClaim}
-use Rattle.reading.specs.Tables.{tabulate, tabulate-same, groupsIn}
+use Rattle.laws.specs.Tabulate.{tabulate, tabulate-same}
+use Rattle.reading.specs.Tables.{groupsIn}
 use Rattle.reading.specs.ClaimHeld.{listAs, claimRecord, ClaimHeld}
 use Rattle.reading.specs.ClaimTable.{claimNumbers, claimPlace, claimIn, claimsIn, ClaimRoom, ClaimPut}
 use Rattle.reading.specs.Answers.{group, name, claim, WholeName}

@@ -1,7 +1,7 @@
 -- Laws of the runs that the tests walk: the bytes of a label, two labels side by side, the names of a claim, the labels before.
 use Prim.Native.Nat.{ℕ, zero, suc, _+_, _-_, _*_, _≤_, _<_}
 use mathlib.Core.Path.{_≡_, refl, ap}
-use mathlib.Core.Bool.{Bool, true, false, _&&_, _||_, and-assoc}
+use mathlib.Core.Bool.{Bool, true, false, _&&_, and-assoc}
 use mathlib.Core.List.{List, [], _∷_, _++_}
 use mathlib.Core.Logic.{⊎-elim}
 use native.Mathlib.Omega.{arith}
@@ -14,7 +14,8 @@ use lib.Dec.{leb, eqb}
 use Rattle.wire.specs.Bytes.{u16At}
 use Rattle.wire.specs.Wide.{bytesAt}
 use Rattle.wire.specs.Encoding.{Bytes}
-use Rattle.wire.specs.SheetFormat.{NameRecord, nameOf, labelByte, labelBytes, sameLabel, used, allWithin, u16s}
+use Rattle.wire.specs.SheetFormat.{nameOf, labelByte, labelBytes, sameLabel, used, allWithin, u16s}
+use Rattle.wire.specs.Sorts.{used-snoc}
 use Rattle.reading.specs.Loaded.{recordsIn}
 use Rattle.laws.specs.Cases.{split, and-true}
 use Rattle.reading.proofs.Fields.{length-at}
@@ -141,11 +142,6 @@ unfolding allWithin u16s
 within-end s names at n i h = let e : n - i ≡ 0 = omega arith in rw e
 
 -- a label among the first names
-used-snoc : (ns : List NameRecord) (x : NameRecord) (l : List ℕ) → used (ns ++ (x ∷ [])) l ≡ (used ns l || sameLabel (x .label) l)
-unfolding used
-used-snoc [] x l = split (sameLabel (x .label) l) (λ e. rw e) (λ e. rw e)
-used-snoc (n ∷ ns) x l = split (sameLabel (n .label) l) (λ e. rw e) (λ e. rw e (used-snoc ns x l))
-
 module _ (s places l : List ℕ) where
   pub used-none : used (recordsIn nameOf s places 0) l ≡ false
   unfolding used recordsIn

@@ -10,7 +10,7 @@ use Rattle.wire.specs.Edition.{editionOf}
 use Rattle.wire.specs.Record.{lengthOf, kindOf, framed, Test, test, refusal, Reading, read, refused, onward}
 use Rattle.wire.specs.SheetFormat.{HeadRecord, GroupRecord, NameRecord, ClaimRecord}
 use Rattle.wire.specs.SheetFormat.{claimLength, claimFields, claimNames, claimTests, claimOf}
-use Rattle.reading.specs.Tables.{tabulate}
+use Rattle.laws.specs.Tabulate.{tabulate}
 use Rattle.reading.specs.Meant.{meantNumber}
 use Rattle.reading.specs.ClaimHeld.{claimKind, claimRecord, ClaimHeld}
 use Rattle.reading.specs.declared.claim.Claim.{Claim}

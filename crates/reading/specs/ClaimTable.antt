@@ -7,7 +7,7 @@ use lib.ListN.{length, getD, set}
 use lib.Seq.{sets}
 use lib.Dec.{eqb}
 use Rattle.wire.specs.SheetFormat.{listNumber, listKindOf, ClaimRecord}
-use Rattle.reading.specs.Tables.{tabulate, length-tabulate, getD-tabulate}
+use Rattle.laws.specs.Tabulate.{tabulate, length-tabulate, getD-tabulate}
 use Rattle.reading.specs.ClaimHeld.{listAs, listRead, claimRecord}
 use Rattle.reading.specs.declared.claim.Lists.{Lists}
 use Rattle.reading.specs.declared.claim.Claim.{Claim}

@@ -9,7 +9,8 @@ use Rattle.wire.specs.Edition.{Edition}
 use Rattle.wire.specs.Record.{Test, Reading, read, refused}
 use Rattle.wire.specs.SheetFormat.{HeadRecord, Records, nameOf, nameTests, claimOf, claimTests, readMany}
 use Rattle.meaning.specs.OfRecords.{nameGroup}
-use Rattle.reading.specs.Tables.{tabulate, length-tabulate, getD-tabulate, groupFields, groupsIn}
+use Rattle.laws.specs.Tabulate.{tabulate, length-tabulate, getD-tabulate}
+use Rattle.reading.specs.Tables.{groupFields, groupsIn}
 use Rattle.reading.specs.ClaimHeld.{ClaimHeld}
 use Rattle.reading.specs.ClaimTable.{claimSlots, claimIn, claimsIn}
 use Rattle.reading.specs.Answers.{headRecord}

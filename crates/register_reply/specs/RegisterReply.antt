@@ -1,5 +1,5 @@
 -- The operation `sheet_register`, written down: document 01, "Registers", "Replies", refusals 1 to 7 and 10 to 14;
--- document 02, cards 2 and 4 (what a member is, 15).
+-- document 02, cards 2 and 4 (what a member is, 15) and 5 (the edition's rows).
 -- It asks nothing of the sheet but that it is readable: 8 is never met.
 use Prim.Native.Nat.{ℕ, _-_}
 use mathlib.Core.Path.{_≡_}

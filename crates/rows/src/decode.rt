@@ -138,8 +138,7 @@ fn word_above(word: u64, before: u16, groups: u16) -> bool
     (word >> (groups - before)) != 0
 }
 
-// Whether a bit of a group above `groups` is set in the membership bytes at a place. The words whose groups are all below are
-// passed over.
+// Whether a bit of a group above `groups` is set in the membership bytes at a place. Words that have no such bit are passed over.
 pub fn bit_above(register: &[u8], edition: u16, place: usize, groups: u16) -> bool
     requires { ⌜ place + membershipBytes (editionOf edition) ≤ length (now register) ⌝ }
     ensures { λ r. ⌜ Above groups 0 (groupLimit (editionOf edition)) (bitAt (now (register .entry)) place) r ⌝ }

@@ -1,4 +1,4 @@
--- What tables hold, and how long a readable sheet can be. No contract speaks of it.
+-- What tables hold, and how long a readable sheet can be. No contract of an exported operation speaks of it.
 use Prim.Native.Nat.{ℕ, _+_, _*_}
 use Rattle.wire.specs.Limits.{nameLimit, claimLimit, listLimit}
 use Rattle.wire.specs.Edition.{Edition, groupLimit, labelLimit}

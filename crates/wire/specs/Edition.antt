@@ -1,6 +1,6 @@
 -- The editions of the format and what each of them sets: document 01, "Records of a sheet" (kinds 1 and 3) and
 -- "Registers"; document 02, cards 4 (the rows) and 5 (edition 2).
--- `EditionFacts` proves what needs an edition's numbers, by clauses; everywhere else the edition stays a variable.
+-- Laws are over the edition; what needs its numbers is proved by clauses (`EditionFacts`).
 use Prim.Native.Nat.{ℕ, _+_}
 use mathlib.Core.Bool.{cond}
 use lib.Dec.{eqb}

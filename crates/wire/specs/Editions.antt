@@ -2,7 +2,7 @@
 use Prim.Native.Nat.{ℕ, _+_, _/_, _%_}
 use mathlib.Core.Path.{_≡_, refl}
 use mathlib.Core.Bool.{false}
-use mathlib.Core.List.{List, [], _∷_, _++_}
+use mathlib.Core.List.{[], _∷_, _++_}
 use lib.ListN.{replicate}
 use Rattle.laws.specs.Digit.{digit}
 use Rattle.wire.specs.Edition.{Edition, edition1, edition2, editionNumber, editionOf, groupLimit, labelLimit, membershipBytes, rowKind, rowLength}

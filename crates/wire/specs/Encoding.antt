@@ -1,5 +1,5 @@
 -- The bytes of records, sheets and registers, and which sheets and registers are within the limits: document 01, "What it reads
--- and gives", "Records of a sheet", "Registers"; document 02, cards 1, 2 and 4. Definitions only.
+-- and gives", "Records of a sheet", "Registers"; document 02, cards 1, 2, 4 and 5. Definitions only.
 use Prim.Native.Nat.{ℕ, _+_, _-_, _≤_, _<_}
 use mathlib.Core.Path.{_≡_}
 use mathlib.Core.Bool.{true, false}

@@ -1,15 +1,15 @@
 -- The longest readable sheet of an edition (document 01, "Records of a sheet"; document 02, card 5) has `sheetLimit` bytes: 6,924 in
 -- edition 1, 10,508 in edition 2. It has all groups, all names with labels of the greatest length, and all claims with two full lists.
 use Prim.Native.Nat.{ℕ, zero, suc, _+_, _-_, _/_, _%_, _≤_, _<_}
-use mathlib.Core.Path.{_≡_, refl}
+use mathlib.Core.Path.{_≡_, refl, sym, subst}
 use mathlib.Core.Bool.{Bool, true, false, _&&_}
-use mathlib.Core.List.{List, [], _∷_, _++_, flatMap}
+use mathlib.Core.List.{List, [], _∷_, _++_, append-nil, append-assoc, flatMap}
 use native.Mathlib.Omega.{arith}
-use native.Mathlib.Nat.{zero-add, add-zero}
 use lib.ListN.{length, replicate, length-replicate}
 use lib.Dec.{ltb, eqb}
 use borrow.Author.Tests.{eqb-true, ltb-true, ne-eqb, le-leb, lt-ltb}
 use Rattle.laws.specs.Cases.{split, and-true}
+use Rattle.laws.specs.Tabulate.{tabulate, length-tabulate}
 use Rattle.wire.specs.Limits.{nameLimit, claimLimit, listLimit}
 use Rattle.wire.specs.Edition.{Edition, edition1, edition2, editionNumber, groupLimit, labelLimit}
 use Rattle.wire.specs.EditionFacts.{groups-many, labels-long}
@@ -20,6 +20,7 @@ use Rattle.wire.specs.SheetFormat.{GroupRecord, NameRecord, inside, list
 use Rattle.wire.specs.SheetFormat.{parentAllowed, labelByte, labelBytes, sameLabel, used, allWithin, readSheet}
 use Rattle.wire.specs.Encoding.{Bytes, encodeRecord, encodeHead, encodeGroup, encodeName, encodeClaim, encodeSheet}
 use Rattle.wire.specs.Encoding.{Each, none, more, GroupRight, NameRight, ListRight, SheetWithin}
+use Rattle.wire.specs.Sorts.{used-snoc}
 use Rattle.wire.specs.Facts.{end-of-each, readable-length}
 use Rattle.wire.specs.RoundTripSheet.{read-encoded-sheet}
 
@@ -33,36 +34,15 @@ pub record Longest (e : Edition) : Type 0 where
   pub size : length sheet ≡ sheetLimit e
   pub most : (b : List ℕ) (d : Records) → readSheet b ≡ read d → d .edition ≡ e → length b ≤ length sheet
 
--- n items from f i on
-unfoldable from : {A : Type 0} → (ℕ → A) → ℕ → ℕ → List A
-from f i zero = []
-from f i (suc n) = f i ∷ from f (suc i) n
+-- items each of which is right after those before it, with one item more; the first values of a function
+each-last : {A : Type 0} {P : List A → A → Type 0} {xs ys : List A} (y : A) → Each P xs ys → P (xs ++ ys) y → Each P xs (ys ++ (y ∷ []))
+each-last {P = P} {xs} y none p = more (subst (λ us. P us y) (append-nil xs) p) none
+each-last {P = P} y (more {xs} {ys} {y = z} q e) p = more q (each-last y e (subst (λ us. P us y) (sym (append-assoc xs (z ∷ []) ys)) p))
 
-module _ {A : Type 0} (f : ℕ → A) where
-  length-from : (i n : ℕ) → length (from f i n) ≡ n
-  unfolding from
-  length-from i zero = refl
-  length-from i (suc n) = omega (arith, length-from (suc i) n)
-
-  from-last : (i n : ℕ) → from f i n ++ (f (i + n) ∷ []) ≡ from f i (suc n)
-  unfolding from
-  from-last i zero = rw add-zero
-  from-last i (suc n) =
-      let same : i + suc n ≡ suc i + n = omega arith in
-      rw (same, from-last (suc i) n)
-
-  -- items each of which is right after those before it
-  each-rest : {P : List A → A → Type 0} (i n : ℕ) → ((k : ℕ) → k < i + n → P (from f 0 k) (f k)) → Each P (from f 0 i) (from f i n)
-  unfolding from
-  each-rest i zero right = none
-  each-rest {P} i (suc n) right =
-      let last : from f 0 i ++ (f i ∷ []) ≡ from f 0 (suc i) = rw zero-add at (from-last 0 i) in
-      let rest : Each P (from f 0 (suc i)) (from f (suc i) n) = each-rest (suc i) n (λ k l. right k (omega arith)) in
-      more (right i (omega arith)) (rw (← last) at rest)
-
-  each-from : {P : List A → A → Type 0} (n : ℕ) → ((k : ℕ) → k < n → P (from f 0 k) (f k)) → Each P [] (from f 0 n)
-  unfolding from
-  each-from n right = each-rest 0 n (λ k l. right k (omega arith))
+each-tabulate : {A : Type 0} {P : List A → A → Type 0} (f : ℕ → A) (n : ℕ) → ((k : ℕ) → k < n → P (tabulate f k) (f k))
+    → Each P [] (tabulate f n)
+each-tabulate f zero right = none
+each-tabulate f (suc n) right = each-last (f n) (each-tabulate f n (λ k l. right k (omega arith))) (right n (omega arith))
 
 -- Each group is the son of the one before it; names are for the empty set, and their labels differ in the first two bytes.
 abbrev group : ℕ → GroupRecord
@@ -80,9 +60,9 @@ claim i = lists inside (replicate listLimit 1) (replicate listLimit 1)
 abbrev longest : Edition → Records
 longest e = record {
   edition = e;
-  groups = from group 0 (groupLimit e);
-  names = from (name e) 0 nameLimit;
-  claims = from claim 0 claimLimit;
+  groups = tabulate group (groupLimit e);
+  names = tabulate (name e) nameLimit;
+  claims = tabulate claim claimLimit;
 }
 
 parent-allowed : (i : ℕ) → parentAllowed (i + 1) i ≡ true
@@ -91,8 +71,8 @@ parent-allowed zero = refl
 parent-allowed (suc i) =
     rw (ne-eqb (suc i + 1) 1 (λ z. omega arith), le-leb 1 (suc i) (omega arith), lt-ltb (suc i) (suc i + 1) (omega arith))
 
-group-right : (i : ℕ) → GroupRight (from group 0 i) (group i)
-group-right i = record { parent = rw (length-from group 0 i) (parent-allowed i); lo = omega arith; mode = omega arith }
+group-right : (i : ℕ) → GroupRight (tabulate group i) (group i)
+group-right i = record { parent = rw (length-tabulate group i) (parent-allowed i); lo = omega arith; mode = omega arith }
 
 list-right : ListRight nameLimit (replicate listLimit 1)
 unfolding allWithin
@@ -120,33 +100,34 @@ labels-differ e i j l =
     (λ t. let same = eqb-true (65 + i / 16) (65 + j / 16) t in rw (t, ne-eqb (65 + i % 16) (65 + j % 16) (λ z. omega arith)))
     (λ t. rw t)
 
-label-new : (e : Edition) (i n j : ℕ) → i + n ≤ j → used (from (name e) i n) (label e j) ≡ false
-unfolding used from
-label-new e i zero j l = refl
-label-new e i (suc n) j l = rw (labels-differ e i j (omega arith), label-new e (suc i) n j (omega arith))
+label-new : (e : Edition) (n j : ℕ) → n ≤ j → used (tabulate (name e) n) (label e j) ≡ false
+unfolding used
+label-new e zero j l = refl
+label-new e (suc n) j l =
+    rw (used-snoc (tabulate (name e) n) (name e n) (label e j), label-new e n j (omega arith), labels-differ e n j (omega arith))
 
-name-right : (e : Edition) (groups i : ℕ) → i < nameLimit → NameRight e groups (from (name e) 0 i) (name e i)
+name-right : (e : Edition) (groups i : ℕ) → i < nameLimit → NameRight e groups (tabulate (name e) i) (name e i)
 name-right e groups i l = record {
   group = omega arith;
   first = omega arith;
   last = omega (arith, length-replicate {A = ℕ} (labelLimit e - 2) 65, labels-long e);
   bytes = label-bytes e i l;
-  new = label-new e 0 i i (omega arith);
+  new = label-new e i i (omega arith);
 }
 
 longest-within : (e : Edition) → SheetWithin (longest e)
 longest-within e = record {
   right = record {
-    someGroup = omega (arith, length-from group 0 (groupLimit e), groups-many e);
-    groupCount = omega (arith, length-from group 0 (groupLimit e));
-    nameCount = omega (arith, length-from (name e) 0 nameLimit);
-    claimCount = omega (arith, length-from claim 0 claimLimit);
-    groups = each-from group (groupLimit e) (λ i l. group-right i);
-    names = each-from (name e) nameLimit (name-right e _);
-    claims = rw (length-from (name e) 0 nameLimit) (each-from claim claimLimit (λ i l. (list-right, list-right)));
+    someGroup = omega (arith, length-tabulate group (groupLimit e), groups-many e);
+    groupCount = omega (arith, length-tabulate group (groupLimit e));
+    nameCount = omega (arith, length-tabulate (name e) nameLimit);
+    claimCount = omega (arith, length-tabulate claim claimLimit);
+    groups = each-tabulate group (groupLimit e) (λ i l. group-right i);
+    names = each-tabulate (name e) nameLimit (name-right e _);
+    claims = rw (length-tabulate (name e) nameLimit) (each-tabulate claim claimLimit (λ i l. (list-right, list-right)));
   };
-  groupEnds = each-from group (groupLimit e) (λ i l. omega arith);
-  claimEnds = end-of-each (each-from claim claimLimit (λ i l. tt));
+  groupEnds = each-tabulate group (groupLimit e) (λ i l. omega arith);
+  claimEnds = end-of-each (each-tabulate claim claimLimit (λ i l. tt));
 }
 
 -- every number is a byte, as a test
@@ -162,7 +143,7 @@ bytes-all (x ∷ b) h (suc i) = bytes-all b (and-true (ltb x 256) (allBytes b) h
 
 -- computed from the bytes, in each edition
 longest-written : (e : Edition) → (length (encodeSheet (longest e)) ≡ sheetLimit e) × (allBytes (encodeSheet (longest e)) ≡ true)
-unfolding editionNumber groupLimit labelLimit from flatMap le16 listNumber encodeRecord encodeHead encodeGroup encodeName encodeClaim encodeSheet allBytes
+unfolding editionNumber groupLimit labelLimit flatMap le16 listNumber encodeRecord encodeHead encodeGroup encodeName encodeClaim encodeSheet allBytes
 longest-written edition1 = (refl, refl)
 longest-written edition2 = (refl, refl)
 

@@ -1,5 +1,5 @@
 -- The reading of a sheet, to an end or to a refusal: document 01, "Records of a sheet" and "Turned back", 1 to 7; document
--- 02, card 1 (kind 7).
+-- 02, cards 1 (kind 7) and 5 (3 and 4 read the edition).
 use Prim.Native.Nat.{ℕ, zero, suc, _+_, _-_, _*_, _%_}
 use mathlib.Core.Bool.{Bool, true, false, cond, _&&_, _||_, not}
 use mathlib.Core.List.{List, [], _∷_, _++_}

@@ -1,8 +1,8 @@
 -- What a record that passes its tests has, for each sort of record.
 use Prim.Native.Nat.{ℕ, zero, suc, _+_, _-_, _*_, _≤_}
 use mathlib.Core.Path.{_≡_, refl, ap}
-use mathlib.Core.Bool.{true, _&&_}
-use mathlib.Core.List.{List, [], _∷_}
+use mathlib.Core.Bool.{true, _&&_, _||_}
+use mathlib.Core.List.{List, [], _∷_, _++_}
 use native.Mathlib.Omega.{arith}
 use lib.ListN.{length, length-take, length-drop}
 use lib.Dec.{leb, eqb}
@@ -13,7 +13,7 @@ use Rattle.wire.specs.Bytes.{u16At}
 use Rattle.wire.specs.Record.{lengthOf, kindOf, framed}
 use Rattle.wire.specs.SheetFormat.{headTests, groupTests, nameTests, claimTests, groupOf, nameOf, claimOf, leftOf, rightOf}
 use Rattle.wire.specs.SheetFormat.{GroupRecord, NameRecord, ListKind, inside, apart, place, listNumber, listKindOf, ClaimRecord, count, lists}
-use Rattle.wire.specs.SheetFormat.{lastClaim, u16s, allWithin, claimLength, claimFields, claimNames}
+use Rattle.wire.specs.SheetFormat.{sameLabel, used, lastClaim, u16s, allWithin, claimLength, claimFields, claimNames}
 use Rattle.wire.specs.Encoding.{GroupRight, NameRight, ListRight, ClaimRight}
 use Rattle.laws.specs.Cases.{split, and-true}
 use Rattle.wire.specs.Passing.{Pass, Nonzero}
@@ -115,6 +115,12 @@ name-frame e groups ns b p =
 pub length-label : (e : Edition) (b : List ℕ) → NameFrame e b → length (nameOf b .label) ≡ lengthOf b - 4
 unfolding nameOf
 length-label e b f = simp (length-take, length-drop) (omega arith)
+
+-- a label among names, with one name more
+pub used-snoc : (ns : List NameRecord) (x : NameRecord) (l : List ℕ) → used (ns ++ (x ∷ [])) l ≡ (used ns l || sameLabel (x .label) l)
+unfolding used
+used-snoc [] x l = split (sameLabel (x .label) l) (λ e. rw e) (λ e. rw e)
+used-snoc (n ∷ ns) x l = split (sameLabel (n .label) l) (λ e. rw e) (λ e. rw e (used-snoc ns x l))
 
 pub name-right : (e : Edition) (groups : ℕ) (ns : List NameRecord) (b : List ℕ) → Pass (nameTests e groups ns b)
     → NameRight e groups ns (nameOf b)

@@ -1,6 +1,5 @@
 -- `rows::decode::row_found` meets its contract.
 use borrow.Author.Needs.{needs}
-use mathlib.Core.Path.{refl}
 use native.Mathlib.Omega.{arith}
 use Rattle.wire.specs.Edition.{editionOf}
 use Rattle.wire.specs.EditionFacts.{row-parts}

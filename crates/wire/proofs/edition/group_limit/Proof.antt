@@ -1,4 +1,4 @@
--- `group_limit` meets its contract: the number of either edition.
+-- `group_limit` meets its contract, in the second edition and in the first.
 use Rattle.wire.specs.Edition.{editionNumber, groupLimit}
 use Rattle.wire.specs.EditionFacts.{second-of, first-of}
 use Rattle.wire.proofs.edition.group_limit.Statement.{statement}

@@ -1,5 +1,4 @@
--- `is_edition` meets its contract: the number of either edition.
-use mathlib.Core.Path.{sym, _∙_}
+-- `is_edition` meets its contract.
 use borrow.Author.Tests.{eq-eqb}
 use Rattle.wire.specs.Edition.{editionNumber}
 use Rattle.wire.specs.EditionFacts.{second-of, first-of}

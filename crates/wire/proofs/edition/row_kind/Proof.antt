@@ -1,4 +1,4 @@
--- `row_kind` meets its contract: the number of either edition.
+-- `row_kind` meets its contract, in the second edition and in the first.
 use Rattle.wire.specs.Edition.{editionNumber, rowKind}
 use Rattle.wire.specs.EditionFacts.{second-of, first-of}
 use Rattle.wire.proofs.edition.row_kind.Statement.{statement}
