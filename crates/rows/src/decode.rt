@@ -127,7 +127,7 @@ pub fn word_at(register: &[u8], place: usize, k: u16) -> u64
     bytes::wide(register, place + WORD_BYTES * (k as usize))
 }
 
-// whether a bit of a group above `groups` is set in a word that comes after `before` groups, `groups` being before its last one
+// whether a bit of a group above `groups` is set in a word that comes after `before` groups and has such a group
 fn word_above(word: u64, before: u16, groups: u16) -> bool
     requires { ⌜ groups < before + wordBits ⌝ }
     ensures { λ r. ⌜ Above groups before wordBits (digit word) r ⌝ }

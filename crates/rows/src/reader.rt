@@ -1,5 +1,6 @@
 // The reader that walks the rows: the lent register, the number of its sheet's edition, the place reached, and the key of the
-// member before it, 0 at first. The borrow checker covers no function over it, so each is proved by hand; the work is `row_at`'s, which takes a plain slice.
+// member before it, 0 at first. The borrow checker covers no function over it, so each is proved by hand; the work is `row_at`'s,
+// which takes a plain slice.
 use crate::decode::RowAnswer;
 use crate::decode::row_at;
 ghost use mathlib.Core.Path.{_≡_};
