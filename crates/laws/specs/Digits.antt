@@ -2,12 +2,12 @@
 use Prim.Native.Nat.{ℕ, zero, suc, _+_, _-_, _*_, _/_, _%_, _^_, _≤_, _<_, min, max}
 use mathlib.Core.Path.{_≡_, refl, sym, ap, _∙_}
 use native.Mathlib.Omega.{arith}
-use native.Mathlib.Nat.{lt-of-le-of-lt, div-one, zero-div, zero-add, pow-suc}
+use native.Mathlib.Nat.{lt-of-le-of-lt, div-one, zero-div, zero-add, add-zero, pow-suc}
 use native.Mathlib.Numerals.{one-add}
 use borrow.Author.Tests.{eq-eqb, ne-eqb}
 use lib.Dec.{eqb}
 use lib.Arith.{lt-one}
-use lib.Pow.{pow-lt, shr-shr, shr-lt, shr-le}
+use lib.Pow.{pow-lt, split, shl-shr, shr-shr, shr-lt, shr-le}
 use lib.Bits.{bitAnd, bitOr, and-step, or-step, and-self, and-le-l, block-half, block-odd}
 use lib.Count.{ones, ones-step, trailingZeros}
 unfoldable pub use Rattle.laws.specs.Digit.{digit}
@@ -181,3 +181,15 @@ digit-less a b (suc k) =
 -- `1 << k` in a word of 64 digits
 pub one-shifted : (k : ℕ) → k < 64 → 1 * 2 ^ k % 18446744073709551616 ≡ 2 ^ k
 one-shifted k l = omega (arith, pow-lt l)
+
+-- the digits of a remainder, and of a word that is shifted up
+pub digit-mod : (n w k : ℕ) → k < n → digit (w % 2 ^ n) k ≡ digit w k
+digit-mod n w k l = sym (digit-low n k (w / 2 ^ n) (w % 2 ^ n) l) ∙ (rw (split w n))
+
+pub digit-under : (w n k : ℕ) → k < n → digit (w * 2 ^ n) k ≡ 0
+digit-under w n k l = rw (add-zero (w * 2 ^ n)) at (digit-low n k w 0 l ∙ digit-of-zero k)
+
+pub digit-raised : (w n k : ℕ) → n ≤ k → digit (w * 2 ^ n) k ≡ digit w (k - n)
+digit-raised w n k l =
+    let e : n + (k - n) ≡ k = omega arith in
+    sym (rw (shl-shr w n, e) at (digit-shift (w * 2 ^ n) n (k - n)))

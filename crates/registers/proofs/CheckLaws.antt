@@ -61,7 +61,7 @@ columns-counted {rs} {t} {u} {n} {words} s z f w c =
 -- the members of a register that was read are no more than the most rows
 pub members-most : (ed : Edition) (groups : ℕ) (b : List ℕ) (rows : ℕ) → read (rowsBefore ed b rows) ≡ readRegister ed groups b
     → {t : List ℕ} {n : ℕ} → ColumnsFilled (rowsBefore ed b rows) n t → n ≤ rowLimit
-members-most ed groups b rows w f = omega (arith, members-within ed b rows f, rows-most ed groups b rows w)
+members-most ed groups b rows w f = omega (arith, members-within ed b rows (f .number), rows-most ed groups b rows w)
 
 -- a register whose rows were read, and the columns of its n members
 module _ (s : Sheet) (z : s .size ≤ groupCapacity) (ed : Edition) (groups : ℕ) (b : List ℕ) (rows : ℕ)

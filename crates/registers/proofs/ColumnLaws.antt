@@ -11,12 +11,12 @@ use lib.Dec.{eqb}
 use lib.Bits.{bitOr}
 use Rattle.laws.specs.Sum.{bit}
 use Rattle.laws.specs.Cases.{compare-eq}
-use Rattle.laws.specs.Digits.{digit, digit-le, digit-or, digit-pow}
+use Rattle.laws.specs.Digits.{digit, digit-le, digit-or}
 use Rattle.wire.specs.Limits.{rowLimit}
 use Rattle.wire.specs.Capacity.{groupCapacity}
 use Rattle.rows.specs.RowsRead.{wordBits}
-use Rattle.registers.specs.Columns.{columnsLength, columnWord, columnDigit, inColumn}
-use Rattle.registers.specs.ColumnSteps.{GroupPut}
+use Rattle.registers.specs.Columns.{columnWords, columnsLength, columnWord, columnDigit, inColumn}
+use Rattle.registers.specs.ColumnSteps.{ColumnPut}
 
 -- digit j of word w
 pub digit-at : (t : List ℕ) (g w j : ℕ) → j < wordBits → columnDigit t g (wordBits * w + j) ≡ digit (getD t (columnWord g w) 0) j
@@ -46,37 +46,22 @@ pub one-column : (t : List ℕ) (g i : ℕ) → 1 ≤ columnDigit t g i → inCo
 unfolding inColumn
 one-column t g i l = eq-eqb (columnDigit t g i) 1 (omega (arith, column-le t g i))
 
--- a member's digit is set in one column
-pub group-put : (t : List ℕ) (g member : ℕ) → g ≤ groupCapacity → member < rowLimit → columnsLength ≤ length t
-    → GroupPut g member t (set t (columnWord g (member / wordBits)) (bitOr (getD t (columnWord g (member / wordBits)) 0) (2 ^ (member % wordBits))))
+-- a word is put to a group's column
+pub column-put : (t : List ℕ) (h w word : ℕ) → h ≤ groupCapacity → w < columnWords → columnsLength ≤ length t
+    → ColumnPut h w word t (set t (columnWord h w) (bitOr (getD t (columnWord h w) 0) word))
 unfolding columnDigit
-group-put t g member a b c =
+column-put t h w word a b c =
     record {
-      each = λ h i x y l.
-          compare-eq (columnWord h (i / wordBits)) (columnWord g (member / wordBits))
-          (λ e. let s : h ≡ g = omega arith in
-          let q : i / wordBits ≡ member / wordBits = omega arith in
-          rw (e, getD-set-same t (columnWord g (member / wordBits)) (bitOr (getD t (columnWord g (member / wordBits)) 0) (2 ^ (member % wordBits))) 0 (omega arith))
-          (digit-or (getD t (columnWord g (member / wordBits)) 0) (2 ^ (member % wordBits)) (i % wordBits)
-          ∙ ap (max (digit (getD t (columnWord g (member / wordBits)) 0) (i % wordBits)))
-          (digit-pow (member % wordBits) (i % wordBits) ∙ same h i s q)))
-          (λ e. rw (getD-set-other t (columnWord g (member / wordBits)) (columnWord h (i / wordBits))
-          (bitOr (getD t (columnWord g (member / wordBits)) 0) (2 ^ (member % wordBits))) 0 e)
-          (other h i e));
+      put = record {
+        each = λ g i x y l.
+            compare-eq (columnWord g (i / wordBits)) (columnWord h w)
+            (λ e. let s : g ≡ h = omega arith in
+            let q : i / wordBits ≡ w = omega arith in
+            rw (e, getD-set-same t (columnWord h w) (bitOr (getD t (columnWord h w) 0) word) 0 (omega arith), eq-eqb (i / wordBits) w q, eq-eqb g h s)
+            (digit-or (getD t (columnWord h w) 0) word (i % wordBits)))
+            (λ e. rw (getD-set-other t (columnWord h w) (columnWord g (i / wordBits)) (bitOr (getD t (columnWord h w) 0) word) 0 e)
+            (compare-eq (i / wordBits) w
+            (λ q. compare-eq g h (λ s. absurd (e (rw (q, s)))) (λ s. rw (eq-eqb (i / wordBits) w q, ne-eqb g h s) (omega arith)))
+            (λ q. rw (ne-eqb (i / wordBits) w q) (omega arith))));
+      };
     }
-  where
-    same : (h i : ℕ) → h ≡ g → i / wordBits ≡ member / wordBits
-        → bit (eqb (member % wordBits) (i % wordBits)) ≡ cond (eqb i member) (bit (eqb h g)) 0
-    same h i s q =
-        compare-eq i member
-        (λ e. rw (eq-eqb i member e, eq-eqb h g s, eq-eqb (member % wordBits) (i % wordBits) (omega arith)))
-        (λ e. rw (ne-eqb i member e, ne-eqb (member % wordBits) (i % wordBits) (λ z. e (omega arith))))
-
-    other : (h i : ℕ) → (columnWord h (i / wordBits) ≡ columnWord g (member / wordBits) → ⊥)
-        → digit (getD t (columnWord h (i / wordBits)) 0) (i % wordBits)
-        ≡ max (digit (getD t (columnWord h (i / wordBits)) 0) (i % wordBits)) (cond (eqb i member) (bit (eqb h g)) 0)
-    other h i e =
-        compare-eq i member
-        (λ x. compare-eq h g (λ y. absurd (e (rw (x, y))))
-        (λ y. rw (eq-eqb i member x, ne-eqb h g y) (omega arith)))
-        (λ x. rw (ne-eqb i member x) (omega arith))

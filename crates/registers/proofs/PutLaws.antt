@@ -1,4 +1,4 @@
--- Members' digits are set in the columns: group by group, word by word, row by row.
+-- The rows go into a tile, word by word; a tile goes into the columns, 64 groups at a time; the digits of both are those of the members.
 use Prim.Native.Nat.{ℕ, zero, suc, _+_, _-_, _*_, _/_, _%_, _^_, _≤_, _<_, max}
 use mathlib.Core.Path.{_≡_, refl, sym, _∙_}
 use mathlib.Core.Bool.{Bool, true, false, cond}
@@ -6,14 +6,16 @@ use mathlib.Core.List.{List, [], _∷_, _++_}
 use native.Mathlib.Omega.{arith}
 use native.Mathlib.Numerals.{add-one}
 use borrow.Author.Tests.{lt-ltb, le-ltb, le-leb, lt-leb, eq-eqb, ne-eqb}
-use lib.ListN.{length, getD, length-append}
+use lib.ListN.{length, getD, set, length-append}
+use lib.Seq.{getD-set-same, getD-set-other}
 use lib.Dec.{eqb}
-use lib.Bits.{bitAnd}
-use lib.Count.{ones}
+use lib.Bits.{bitOr}
 use Rattle.laws.specs.Cases.{compare-le, compare-eq, split}
-use Rattle.laws.specs.Digits.{digit-le, digit-of-zero, digit-beyond, ones-of-zero, lowest}
+use Rattle.laws.specs.Digits.{digit, digit-le, digit-of-zero, digit-or, digit-beyond}
 use Rattle.laws.specs.Sum.{bit}
+use Rattle.bit_matrix.specs.Matrix.{Transposed}
 use Rattle.wire.specs.Edition.{Edition, groupLimit, rowBytes}
+use Rattle.wire.specs.Limits.{rowLimit}
 use Rattle.wire.specs.Member.{precedes}
 use Rattle.wire.specs.MemberKey.{one-same, rises-or-one}
 use Rattle.wire.specs.RegisterFormat.{Row, rowOf, inGroup, lastMember}
@@ -24,105 +26,76 @@ use Rattle.rows.specs.RowsRead.{wordBits, rowWords, fromRow, rowsBefore, bitsPl
 use Rattle.rows.specs.declared.decode.RowFound.{RowFound}
 use Rattle.rows.proofs.RowBits.{words-groups}
 use Rattle.rows.proofs.RowLaws.{in-group-bit, in-group-none, length-rowsBefore, Stands}
-use Rattle.registers.specs.Columns.{columnDigit, ColumnsFilled}
+use Rattle.registers.specs.Columns.{columnWords, columnDigit, ColumnsFilled}
 use Rattle.registers.proofs.ColumnLaws.{digit-bit}
-use Rattle.registers.specs.ColumnSteps.{LowestGroup, Put, GroupPut, wordBit, WordPut, firstBits, RowPut, Empty}
+use Rattle.registers.specs.ColumnSteps.{
+  Put,
+  tileDigit,
+  NoneAbove,
+  ofMember,
+  MemberPut,
+  wordBit,
+  WordPut,
+  firstBits,
+  RowPut,
+  ofWord,
+  MembersPut,
+  ColumnPut,
+  nextGroups,
+  ColumnsPut,
+  firstGroups,
+  TilePut,
+  allDigits,
+  TilesFilled,
+  RoomMade,
+  Empty,
+}
+use Rattle.registers.specs.Joins.{Cleared}
 
--- what is put depends on the groups' bits alone; what is put in two steps
-put-as : {f h : ℕ → ℕ} {member : ℕ} {t u : List ℕ} → ((g : ℕ) → 1 ≤ g → g ≤ groupCapacity → f g ≡ h g) → Put f member t u → Put h member t u
-put-as {f} {h} {member} {t} {u} e p = record { each = λ g i a b l. p .each g i a b l ∙ (rw (e g a b)) }
+-- what is put in two steps, or not at all
+put-as : {n : ℕ} {f h d e : ℕ → ℕ → ℕ} → ((g i : ℕ) → 1 ≤ g → g ≤ groupCapacity → i < n → f g i ≡ h g i) → Put n f d e → Put n h d e
+put-as x p = record { each = λ g i a b l. p .each g i a b l ∙ (rw (x g i a b l)) }
 
-put-none : {f : ℕ → ℕ} {member : ℕ} (t : List ℕ) → ((g : ℕ) → f g ≡ 0) → Put f member t t
-put-none {f} {member} t e =
-    record { each = λ g i a b l. split (eqb i member) (λ x. rw (x, e g) (omega arith)) (λ x. rw x (omega arith)) }
+put-none : {n : ℕ} {f : ℕ → ℕ → ℕ} (d : ℕ → ℕ → ℕ) → ((g i : ℕ) → f g i ≡ 0) → Put n f d d
+put-none d x = record { each = λ g i a b l. rw (x g i) (omega arith) }
 
-put-then : {f h k : ℕ → ℕ} {member : ℕ} {t u v : List ℕ} → Put f member t u → Put h member u v
-    → ((g : ℕ) → 1 ≤ g → g ≤ groupCapacity → max (f g) (h g) ≡ k g) → Put k member t v
-put-then {f} {h} {k} {member} {t} {u} {v} p q e =
+put-then : {n : ℕ} {f h k c d e : ℕ → ℕ → ℕ} → Put n f c d → Put n h d e
+    → ((g i : ℕ) → 1 ≤ g → g ≤ groupCapacity → i < n → max (f g i) (h g i) ≡ k g i) → Put n k c e
+put-then p q x =
+    record { each = λ g i a b l. let y = p .each g i a b l in let z = q .each g i a b l in let v = x g i a b l in omega arith }
+
+-- a word of a member is put into a tile
+pub word-put : (t : List ℕ) (k m word : ℕ) → word < 2 ^ 64 → wordBits * (k + 1) ≤ groupCapacity → m < wordBits → groupCapacity ≤ length t
+    → WordPut word (wordBits * k) m t (set t (wordBits * k + m) (bitOr (getD t (wordBits * k + m) 0) word))
+unfolding tileDigit
+word-put t k m word z a b c =
     record {
-      each = λ g i a b l.
-          let x = p .each g i a b l in
-          let y = q .each g i a b l in
-          let z = e g a b in
-          split (eqb i member)
-          (λ s. let x′ = rw s at x in let y′ = rw s at y in rw s (omega arith))
-          (λ s. let x′ = rw s at x in let y′ = rw s at y in rw s (omega arith));
+      put = record {
+        each = λ g i x y l.
+            compare-eq (wordBits * ((g - 1) / wordBits) + i) (wordBits * k + m)
+            (λ e. let s : i ≡ m = omega arith in
+            let q : (g - 1) % wordBits ≡ g - 1 - wordBits * k = omega arith in
+            rw (e, getD-set-same t (wordBits * k + m) (bitOr (getD t (wordBits * k + m) 0) word) 0 (omega arith), eq-eqb i m s, le-leb (wordBits * k + 1) g (omega arith), q)
+            (digit-or (getD t (wordBits * k + m) 0) word (g - 1 - wordBits * k)))
+            (λ e. rw (getD-set-other t (wordBits * k + m) (wordBits * ((g - 1) / wordBits) + i) (bitOr (getD t (wordBits * k + m) 0) word) 0 e)
+            (compare-eq i m
+            (λ s. rw (eq-eqb i m s)
+            (compare-le (wordBits * k + 1) g
+            (λ o. rw (le-leb (wordBits * k + 1) g o) (omega (arith, digit-beyond 64 word (g - 1 - wordBits * k) z (omega arith))))
+            (λ o. rw (lt-leb (wordBits * k + 1) g o) (omega arith))))
+            (λ s. rw (ne-eqb i m s) (omega arith))));
+      };
     }
 
--- the bits of a word
-word-bit-le : (word before g : ℕ) → wordBit word before g ≤ 1
-word-bit-le word before g =
-    compare-le (before + 1) g
-    (λ l. rw (le-leb (before + 1) g l) (digit-le word (g - 1 - before)))
-    (λ l. rw (lt-leb (before + 1) g l) (omega arith))
-
-word-bit-zero : (before g : ℕ) → wordBit 0 before g ≡ 0
-word-bit-zero before g =
-    compare-le (before + 1) g
-    (λ l. rw (le-leb (before + 1) g l) (digit-of-zero (g - 1 - before)))
-    (λ l. rw (lt-leb (before + 1) g l))
-
--- of a word the groups that are not left are put
-pub record GroupsTaken (word before member : ℕ) (t : List ℕ) (left : ℕ) (u : List ℕ) : Type 0 where
-  pub within : (g : ℕ) → wordBit left before g ≤ wordBit word before g
-  pub put : Put (λ g. wordBit word before g - wordBit left before g) member t u
-
-pub groups-none-taken : (word before member : ℕ) (t : List ℕ) → GroupsTaken word before member t word t
-groups-none-taken word before member t =
-    record { within = λ g. omega arith; put = put-none t (λ g. omega arith) }
-
-module _ {before left g : ℕ} (w : LowestGroup before left g) where
-  lowest-bit : wordBit left before g ≡ 1
-  lowest-bit =
-      let e : g - 1 - before ≡ w .place = omega arith in
-      rw (le-leb (before + 1) g (omega arith), e) (w .lowest .set)
-
-  rest-bit : wordBit (bitAnd left (left - 1)) before g ≡ 0
-  rest-bit =
-      let e : g - 1 - before ≡ w .place = omega arith in
-      rw (le-leb (before + 1) g (omega arith), e) (w .lowest .cleared)
-
-  other-bits : (h : ℕ) → (h ≡ g → ⊥) → wordBit (bitAnd left (left - 1)) before h ≡ wordBit left before h
-  other-bits h n =
-      compare-le (before + 1) h
-      (λ l. rw (le-leb (before + 1) h l) (w .lowest .others (h - 1 - before) (λ e. n (omega arith))))
-      (λ l. rw (lt-leb (before + 1) h l))
-
-  -- the lowest group is put, and no longer left
-  pub groups-more-taken : {word member : ℕ} {t u v : List ℕ} → GroupsTaken word before member t left u → GroupPut g member u v
-      → GroupsTaken word before member t (bitAnd left (left - 1)) v
-  groups-more-taken {word} {member} {t} {u} {v} k p =
-      record {
-        within = λ h.
-            compare-eq h g
-            (λ e. rw (e, rest-bit) (omega arith))
-            (λ e. rw (other-bits h e) (k .within h));
-        put = put-then (k .put) p (λ h a b.
-            compare-eq h g
-            (λ e. rw (e, eq-eqb g g refl, lowest-bit, rest-bit)
-            (let z = rw (e, lowest-bit) at (k .within h) in omega (arith, word-bit-le word before g)))
-            (λ e. rw (ne-eqb h g e, other-bits h e) (omega arith)));
-      }
-
--- where nothing is left, the word is put
-pub groups-all-taken : {word before member : ℕ} {t u : List ℕ} → GroupsTaken word before member t 0 u → WordPut word before member t u
-groups-all-taken {word} {before} k = put-as (λ g a b. rw (word-bit-zero before g) (omega arith)) (k .put)
-
--- a word with a one is not 0, and one without is 0
-pub ones-left : (m : ℕ) → 0 < ones m → 0 < m
-ones-left zero l = absurd (omega (arith, ones-of-zero))
-ones-left (suc m) l = omega arith
-
-pub no-ones-left : (m : ℕ) → m < 2 ^ 64 → ones m ≡ 0 → m ≡ 0
-no-ones-left m l e = compare-eq m 0 (λ z. z) (λ z. absurd (omega (arith, lowest 64 m (omega arith) l .1 .fewer)))
-
 -- the first k words of a row are put
-pub bits-none : (b : List ℕ) (place member : ℕ) (t : List ℕ) → Put (firstBits b place 0) member t t
-bits-none b place member t = put-none t (λ g. rw (le-ltb (g - 1) (wordBits * 0) (omega arith)))
+pub bits-none : (b : List ℕ) (place m : ℕ) (t : List ℕ) → MemberPut (firstBits b place 0) m t t
+bits-none b place m t =
+    record { put = put-none (tileDigit t) (λ g i. rw (le-ltb (g - 1) (wordBits * 0) (omega arith)) (split (eqb i m) (λ e. rw e) (λ e. rw e))) }
 
-pub bits-more : {b : List ℕ} {place k member word : ℕ} {t u v : List ℕ} → Put (firstBits b place k) member t u → WordAt b place k word
-    → word < 2 ^ 64 → WordPut word (wordBits * k) member u v → Put (firstBits b place (k + 1)) member t v
-bits-more {b} {place} {k} {member} {word} p w l q = put-then p q (λ g x y. step g x)
+pub bits-more : {b : List ℕ} {place k m word : ℕ} {t u v : List ℕ} → MemberPut (firstBits b place k) m t u → WordAt b place k word
+    → word < 2 ^ 64 → WordPut word (wordBits * k) m u v → MemberPut (firstBits b place (k + 1)) m t v
+bits-more {b} {place} {k} {m} {word} p w l q =
+    record { put = put-then (p .put) (q .put) (λ g i x y o. split (eqb i m) (λ e. rw e (step g x)) (λ e. rw e (omega arith))) }
   where
     step : (g : ℕ) → 1 ≤ g → max (firstBits b place k g) (wordBit word (wordBits * k) g) ≡ firstBits b place (k + 1) g
     step g x =
@@ -137,18 +110,139 @@ bits-more {b} {place} {k} {member} {word} p w l q = put-then p q (λ g x y. step
         (λ o. rw (lt-leb (wordBits * k + 1) g o, lt-ltb (g - 1) (wordBits * k) (omega arith), lt-ltb (g - 1) (wordBits * (k + 1)) (omega arith))
         (omega arith))
 
--- the columns of no row
-pub columns-none : (ed : Edition) (b t : List ℕ) → Empty t → ColumnsFilled (rowsBefore ed b 0) 0 t
-unfolding columnDigit rowsBefore members
-columns-none ed b t e = record { number = refl; each = λ g i x y l. rw (le-ltb i 0 (omega arith), e .each _) (digit-of-zero _) }
+-- groups that the edition has not stay without a digit
+above-put : {ed : Edition} (b : List ℕ) (place : ℕ) {m : ℕ} {t u : List ℕ} → NoneAbove ed t → RowPut ed b place m t u → NoneAbove ed u
+above-put {ed} b place {m} n p =
+    record {
+      each = λ g i o y l.
+          p .put .each g i (omega arith) y l
+          ∙ (rw (n .each g i o y l, le-ltb (g - 1) (wordBits * rowWords ed) (omega (arith, words-groups ed)))
+          (split (eqb i m) (λ e. rw e) (λ e. rw e)));
+    }
 
-pub ordered-none-before : (ed : Edition) (b : List ℕ) → Ordered (rowsBefore ed b 0)
-unfolding rowsBefore
-ordered-none-before ed b = ordered-none
+-- the words of the next n groups are put, word w of their columns
+pub columns-put-none : (l : List ℕ) (before w : ℕ) (t : List ℕ) → ColumnsPut l before 0 w t t
+unfolding nextGroups
+columns-put-none l before w t =
+    record {
+      put = put-none (columnDigit t) (λ g i. split (eqb (i / wordBits) w)
+          (λ e. rw e
+          (compare-le (before + 1) g
+          (λ o. rw (le-leb (before + 1) g o, lt-leb g (before + 0) (omega arith)))
+          (λ o. rw (lt-leb (before + 1) g o))))
+          (λ e. rw e));
+    }
+
+pub columns-put-more : (l : List ℕ) (before n : ℕ) {w : ℕ} {t u v : List ℕ} → ColumnsPut l before n w t u
+    → ColumnPut (before + n + 1) w (getD l n 0) u v → ColumnsPut l before (n + 1) w t v
+unfolding nextGroups
+columns-put-more l before n {w} p q =
+    record { put = put-then (p .put) (q .put) (λ g i x y o. split (eqb (i / wordBits) w) (λ e. rw e (step g (i % wordBits))) (λ e. rw e (omega arith))) }
+  where
+    step : (g j : ℕ) → max (nextGroups l before n g j) (cond (eqb g (before + n + 1)) (digit (getD l n 0) j) 0) ≡ nextGroups l before (n + 1) g j
+    step g j =
+        compare-le (before + 1) g
+        (λ o. compare-eq g (before + n + 1)
+        (λ e. let at : g - 1 - before ≡ n = omega arith in
+        rw (eq-eqb g (before + n + 1) e, le-leb (before + 1) g o, lt-leb g (before + n) (omega arith), le-leb g (before + (n + 1)) (omega arith), at)
+        (omega arith))
+        (λ e. compare-le g (before + n)
+        (λ z. rw (ne-eqb g (before + n + 1) e, le-leb (before + 1) g o, le-leb g (before + n) z, le-leb g (before + (n + 1)) (omega arith)) (omega arith))
+        (λ z. rw (ne-eqb g (before + n + 1) e, le-leb (before + 1) g o, lt-leb g (before + n) z, lt-leb g (before + (n + 1)) (omega arith)) (omega arith))))
+        (λ o. rw (ne-eqb g (before + n + 1) (λ e. omega arith), lt-leb (before + 1) g o) (omega arith))
+
+-- the groups of the first k words of a tile are put, word w of their columns
+pub tile-put-none : (t : List ℕ) (w : ℕ) (c : List ℕ) → MembersPut (firstGroups t 0) w c c
+unfolding firstGroups
+tile-put-none t w c =
+    record { put = put-none (columnDigit c) (λ g i. rw (le-ltb (g - 1) (wordBits * 0) (omega arith)) (split (eqb (i / wordBits) w) (λ e. rw e) (λ e. rw e))) }
+
+pub tile-put-more : (t : List ℕ) {l : List ℕ} (k : ℕ) {w : ℕ} {c d e : List ℕ} → MembersPut (firstGroups t k) w c d → Transposed t (wordBits * k) l
+    → ColumnsPut l (wordBits * k) wordBits w d e → MembersPut (firstGroups t (k + 1)) w c e
+unfolding firstGroups nextGroups tileDigit
+tile-put-more t {l} k {w} p x q =
+    record { put = put-then (p .put) (q .put) (λ g i a b o. split (eqb (i / wordBits) w) (λ e. rw e (step g (i % wordBits) a (omega arith))) (λ e. rw e (omega arith))) }
+  where
+    step : (g j : ℕ) → 1 ≤ g → j < wordBits → max (firstGroups t k g j) (nextGroups l (wordBits * k) wordBits g j) ≡ firstGroups t (k + 1) g j
+    step g j a o =
+        compare-le (wordBits * k + 1) g
+        (λ y. compare-le g (wordBits * k + wordBits)
+        (λ z. let q : (g - 1) / wordBits ≡ k = omega arith in
+        let r : (g - 1) % wordBits ≡ g - 1 - wordBits * k = omega arith in
+        rw (le-leb (wordBits * k + 1) g y, le-leb g (wordBits * k + wordBits) z, le-ltb (g - 1) (wordBits * k) (omega arith), lt-ltb (g - 1) (wordBits * (k + 1)) (omega arith), q, r, x .each (g - 1 - wordBits * k) j (omega arith) o)
+        (omega arith))
+        (λ z. rw (le-leb (wordBits * k + 1) g y, lt-leb g (wordBits * k + wordBits) z, le-ltb (g - 1) (wordBits * k) (omega arith), le-ltb (g - 1) (wordBits * (k + 1)) (omega arith))
+        (omega arith)))
+        (λ y. rw (lt-leb (wordBits * k + 1) g y, lt-ltb (g - 1) (wordBits * k) (omega arith), lt-ltb (g - 1) (wordBits * (k + 1)) (omega arith)) (omega arith))
+
+pub tile-put-all : {ed : Edition} {t : List ℕ} {w : ℕ} {c d : List ℕ} → NoneAbove ed t → MembersPut (firstGroups t (rowWords ed)) w c d → TilePut t w c d
+unfolding firstGroups
+tile-put-all {ed} {t} {w} n p =
+    record {
+      put = put-as (λ g i a b l. split (eqb (i / wordBits) w)
+          (λ e. rw e
+          (compare-le g (groupLimit ed)
+          (λ o. rw (lt-ltb (g - 1) (wordBits * rowWords ed) (omega (arith, words-groups ed))))
+          (λ o. rw (le-ltb (g - 1) (wordBits * rowWords ed) (omega (arith, words-groups ed)), n .each g (i % wordBits) o b (omega arith)))))
+          (λ e. rw e)) (p .put);
+    }
+
+-- an empty tile
+cleared-tile : {t : List ℕ} → Cleared groupCapacity t → (g i : ℕ) → 1 ≤ g → g ≤ groupCapacity → i < wordBits → tileDigit t g i ≡ 0
+unfolding tileDigit
+cleared-tile {t} c g i a b l = rw (c .each (wordBits * ((g - 1) / wordBits) + i) (omega arith)) (digit-of-zero ((g - 1) % wordBits))
+
+cleared-of : {t : List ℕ} (w : ℕ) → Cleared groupCapacity t → (g i : ℕ) → 1 ≤ g → g ≤ groupCapacity → ofWord w (tileDigit t) g i ≡ 0
+cleared-of {t} w c g i a b = split (eqb (i / wordBits) w) (λ e. rw e (cleared-tile c g (i % wordBits) a b (omega arith))) (λ e. rw e)
+
+pub none-above : (ed : Edition) {t : List ℕ} → Cleared groupCapacity t → NoneAbove ed t
+none-above ed c = record { each = λ g i o y l. cleared-tile c g i (omega arith) y l }
+
+-- a tile that is full is put, and the next one is begun
+pub room-made : {ed : Edition} {members w : ℕ} {c t d u : List ℕ} → TilePut t w c d → Cleared groupCapacity u
+    → members ≡ wordBits * w + wordBits + 1 → RoomMade ed members c t w d u (w + 1)
+room-made {ed} {members} {w} {c} {t} {d} {u} p x e =
+    record {
+      above = none-above ed x;
+      same = λ g i a b l. rw (cleared-of (w + 1) x g i a b) (let z = p .put .each g i a b l in omega arith);
+      begun = omega arith;
+      within = omega arith;
+    }
+
+-- a row of member m is put into the tile that has it
+member-put : (f : ℕ → ℕ) (m w : ℕ) {t u : List ℕ} (c : List ℕ) → wordBits * w ≤ m → m < wordBits * w + wordBits
+    → MemberPut f (m - wordBits * w) t u → Put rowLimit (ofMember m f) (allDigits c t w) (allDigits c u w)
+member-put f m w c a b p =
+    record {
+      each = λ g i x y l.
+          compare-eq (i / wordBits) w
+          (λ e. let z = p .put .each g (i % wordBits) x y (omega arith) in
+          rw (eq-eqb (i / wordBits) w e, z)
+          (compare-eq i m
+          (λ s. rw (eq-eqb i m s, eq-eqb (i % wordBits) (m - wordBits * w) (omega arith)) (omega arith))
+          (λ s. rw (ne-eqb i m s, ne-eqb (i % wordBits) (m - wordBits * w) (λ o. s (omega arith))) (omega arith))))
+          (λ e. rw (ne-eqb (i / wordBits) w e, ne-eqb i m (λ s. e (omega arith))) (omega arith));
+    }
+
+-- the digits stay the members' where room is made, and where the last tile is put
+filled-room : {rs : List Row} {n w v m : ℕ} {c t d u : List ℕ} {ed : Edition} → TilesFilled rs n c t w → RoomMade ed m c t w d u v → TilesFilled rs n d u v
+filled-room f r = record { number = f .number; each = λ g i a b l. r .same g i a b l ∙ f .each g i a b l }
+
+pub filled-columns : {rs : List Row} {n w : ℕ} {c t d : List ℕ} → TilesFilled rs n c t w → TilePut t w c d → ColumnsFilled rs n d
+filled-columns f p = record { number = f .number; each = λ g i a b l. p .put .each g i a b l ∙ f .each g i a b l }
+
+-- the columns of no row
+filled-none : (ed : Edition) (b c t : List ℕ) (w : ℕ) → Empty c → Cleared groupCapacity t → TilesFilled (rowsBefore ed b 0) 0 c t w
+unfolding columnDigit rowsBefore members
+filled-none ed b c t w e x =
+    record {
+      number = refl;
+      each = λ g i a y l. rw (le-ltb i 0 (omega arith), e .each _, digit-of-zero (i % wordBits), cleared-of w x g i a y) (omega arith);
+    }
 
 -- no more members than rows
-pub members-within : (ed : Edition) (b : List ℕ) (row : ℕ) {t : List ℕ} {n : ℕ} → ColumnsFilled (rowsBefore ed b row) n t → n ≤ row
-members-within ed b row f = omega (arith, f .number, members-few (rowsBefore ed b row), length-rowsBefore ed b row)
+pub members-within : (ed : Edition) (b : List ℕ) (row : ℕ) {n : ℕ} → n ≡ length (members (rowsBefore ed b row)) → n ≤ row
+members-within ed b row e = omega (arith, members-few (rowsBefore ed b row), length-rowsBefore ed b row)
 
 pub with-row-most : (joined : Bool) (n : ℕ) → cond joined n (n + 1) ≤ n + 1
 with-row-most true n = omega arith
@@ -181,17 +275,18 @@ module _ {ed : Edition} {b : List ℕ} {row : ℕ} {v : RowFound} (s : Stands ed
   is-new : v .joined ≡ false → precedes (lastMember rs) (r .member) ≡ true
   is-new e = rises-or-one (lastMember rs) (r .member) (s .follows) (sym (s .joined) ∙ e)
 
-  pub ordered-more : Ordered (rowsBefore ed b (row + 1))
+  ordered-more : Ordered (rowsBefore ed b (row + 1))
   ordered-more = rw rows-after (ordered-after rs r o (s .some) (s .follows))
 
   -- a member is there once a row is
-  pub members-some : {n : ℕ} → n ≡ length (members rs) → 1 ≤ cond (v .joined) n (n + 1)
+  members-some : {n : ℕ} → n ≡ length (members rs) → 1 ≤ cond (v .joined) n (n + 1)
   members-some e =
       split (v .joined) (λ j. rw j (omega (arith, o .some (rw (is-joined j) (s .some))))) (λ j. rw j (omega arith))
 
-  pub columns-more : {n m : ℕ} {t u : List ℕ} → ColumnsFilled rs n t → m ≡ cond (v .joined) n (n + 1) → RowPut ed b (v .bits) (m - 1) t u
-      → ColumnsFilled (rowsBefore ed b (row + 1)) m u
-  columns-more {n} {m} {t} {u} f e p =
+  filled-more : {n m w : ℕ} {c t u : List ℕ} → TilesFilled rs n c t w → m ≡ cond (v .joined) n (n + 1) → wordBits * w < m → m ≤ wordBits * w + wordBits
+      → RowPut ed b (v .bits) (m - 1 - wordBits * w) t u → TilesFilled (rowsBefore ed b (row + 1)) m c u w
+  filled-more {n} {m} {w} {c} f e x y q =
+      let p = member-put (firstBits b (v .bits) (rowWords ed)) (m - 1) w c (omega arith) (omega arith) q in
       rw rows-after
       (split (v .joined)
       (λ j. let same : m ≡ length (members rs) = e ∙ (rw j (f .number)) in
@@ -209,3 +304,50 @@ module _ {ed : Edition} {b : List ℕ} {row : ℕ} {v : RowFound} (s : Stands ed
             p .each g i x y l
             ∙ (rw (f .each g i x y l, more, index, ← bit-of g x) (sym (new-in rs r o (is-new j) i g)));
       }))
+
+-- the rows before row `row` do not fall; their members are in the columns and in the tile, which has the last of them
+pub record RowsPut (ed : Edition) (b : List ℕ) (row n : ℕ) (c t : List ℕ) (w : ℕ) : Type 0 where
+  pub ordered : Ordered (rowsBefore ed b row)
+  pub above : NoneAbove ed t
+  pub filled : TilesFilled (rowsBefore ed b row) n c t w
+  pub from : wordBits * w ≤ n
+  pub begun : 1 ≤ n → wordBits * w < n
+  pub within : n ≤ wordBits * w + wordBits
+
+pub rows-put-none : (ed : Edition) (b c t : List ℕ) → Empty c → Cleared groupCapacity t → RowsPut ed b 0 0 c t 0
+unfolding rowsBefore
+rows-put-none ed b c t e x =
+    record {
+      ordered = ordered-none;
+      above = none-above ed x;
+      filled = filled-none ed b c t 0 e x;
+      from = omega arith;
+      begun = λ l. absurd (omega arith);
+      within = omega arith;
+    }
+
+-- a column has a word for the tile
+pub tiles-within : {ed : Edition} {b : List ℕ} {row n w : ℕ} {c t : List ℕ} → RowsPut ed b row n c t w → n ≤ rowLimit → w < columnWords
+tiles-within {n = n} p l = compare-le 1 n (λ o. omega (arith, p .begun o)) (λ o. omega (arith, p .from))
+
+-- room is wanted for the member of one row more, and with room the row is put
+module _ {ed : Edition} {b : List ℕ} {row : ℕ} {v : RowFound} (s : Stands ed b row v) {n m w : ℕ} {c t : List ℕ} (p : RowsPut ed b row n c t w)
+    (e : m ≡ cond (v .joined) n (n + 1)) where
+  pub room-wanted : (wordBits * w < m) × (m ≤ wordBits * w + wordBits + 1)
+  room-wanted =
+      split (v .joined)
+      (λ j. let z = rw j at e in let y = rw j at (members-some s (p .ordered) (p .filled .number)) in
+      (omega (arith, p .begun (omega arith)), omega (arith, p .within)))
+      (λ j. let z = rw j at e in (omega (arith, p .from), omega (arith, p .within)))
+
+  pub rows-put-more : {x : ℕ} {d u u′ : List ℕ} → RoomMade ed m c t w d u x → RowPut ed b (v .bits) (m - 1 - wordBits * x) u u′
+      → RowsPut ed b (row + 1) m d u′ x
+  rows-put-more r q =
+      record {
+        ordered = ordered-more s (p .ordered);
+        above = above-put b (v .bits) (r .above) q;
+        filled = filled-more s (p .ordered) (filled-room (p .filled) r) e (r .begun) (r .within) q;
+        from = omega (arith, r .begun);
+        begun = λ l. r .begun;
+        within = r .within;
+      }

@@ -31,12 +31,16 @@ blockMembers = wordBits * blockWords
 abbrev pub groupPlaces : ℕ
 groupPlaces = groupCapacity + 1
 
+-- columns stand so many words apart
+abbrev pub columnStride : ℕ
+columnStride = 40
+
 abbrev pub columnsLength : ℕ
-columnsLength = columnWords * groupPlaces
+columnsLength = columnStride * groupPlaces
 
 -- where word w of group g's column stands
 abbrev pub columnWord : ℕ → ℕ → ℕ
-columnWord g w = columnWords * g + w
+columnWord g w = columnStride * g + w
 
 -- digit i of group g's column
 unfoldable pub columnDigit : List ℕ → ℕ → ℕ → ℕ

@@ -1,8 +1,11 @@
-// A column of bits for each group: bit i is set where member i is in the group, 64 members a word. Rows that go on with one
-// member set its bit in the groups of each. The groups of a row are taken lowest bit first; as many are left to take as there
-// are ones left.
+// A column of bits for each group: bit i is set where member i is in the group, 64 members a word. The words of 64 members at a
+// time stand together in a tile, which is transposed and put into the columns when it is full. Rows that go on with one member
+// set its bits in the groups of each.
 use crate::limits::BLOCK_MEMBERS;
-use crate::limits::COLUMN_WORDS;
+use crate::limits::COLUMN_STRIDE;
+use crate::limits::TILE;
+use crate::limits::TILE_MEMBERS;
+use bit_matrix::transpose::transpose;
 use reading::tables::GroupNo;
 use rows::decode::RowAnswer;
 use rows::decode::word_at;
@@ -11,55 +14,22 @@ use rows::limits::row_words;
 use rows::reader::row_of;
 ghost use mathlib.Core.Path.{_≡_};
 ghost use mathlib.Core.Bool.{cond};
-ghost use Prim.Native.Nat.{_+_, _-_, _*_, _≤_, _<_};
+ghost use Prim.Native.Nat.{_+_, _*_, _≤_, _<_};
 ghost use lib.ListN.{length, getD};
-ghost use lib.Bits.{bitAnd};
-ghost use lib.Count.{ones};
-ghost use Rattle.laws.specs.Digits.{Lowest};
 ghost use Rattle.wire.specs.Limits.{rowLimit};
 ghost use Rattle.wire.specs.Edition.{editionOf, membershipBytes};
 ghost use Rattle.wire.specs.Capacity.{groupCapacity};
 ghost use Rattle.rows.specs.RowsRead.{wordBits, rowsBefore, RowsReadable};
-ghost use Rattle.registers.specs.Columns.{columnsLength, columnWord, BlocksFor, ColumnsFilled};
-ghost use Rattle.registers.specs.ColumnSteps.{LowestGroup, GroupPut, WordPut, RowPut, Empty};
-
-// how many groups a word has: its number of ones
-fn groups_in(word: u64) -> u32
-    ensures { λ r. ⌜ r ≡ ones word ⌝ }
-{
-    u64::count_ones(word)
-}
-
-// the lowest bit of a word
-fn lowest_of(word: u64) -> u32
-    requires { ⌜ 0 < word ⌝ }
-    ensures { λ r. ⌜ (r < wordBits) × Lowest word r (bitAnd word (word - 1)) ⌝ }
-{
-    u64::trailing_zeros(word)
-}
-
-// the group of that bit, `before` groups being in the words below
-fn lowest_group(word: u64, before: u16) -> GroupNo
-    requires { ⌜ (0 < word) × (before ≤ groupCapacity) ⌝ }
-    ensures { λ r. ⌜ LowestGroup before word (r .0) ⌝ }
-{
-    GroupNo(before + lowest_of(word) as u16 + 1)
-}
-
-// a word without its lowest bit
-fn rest_of(word: u64) -> u64
-    requires { ⌜ 0 < word ⌝ }
-    ensures { λ r. ⌜ r ≡ bitAnd word (word - 1) ⌝ }
-{
-    word & (word - 1)
-}
+ghost use Rattle.registers.specs.Columns.{columnWords, columnsLength, columnWord, BlocksFor, ColumnsFilled};
+ghost use Rattle.registers.specs.ColumnSteps.{ColumnPut, ColumnsPut, WordPut, RowPut, NoneAbove, TilePut, RoomMade, Empty};
+ghost use Rattle.registers.specs.Joins.{Cleared};
 
 // one word of a group's column
 pub fn column_word(columns: &[u64], g: GroupNo, w: usize) -> u64
     requires { ⌜ columnWord (g .0) w < length (now columns) ⌝ }
     ensures { λ r. ⌜ r ≡ getD (now (columns .entry)) (columnWord (g .0) w) 0 ⌝ }
 {
-    columns[COLUMN_WORDS * (g.0 as usize) + w]
+    columns[COLUMN_STRIDE * (g.0 as usize) + w]
 }
 
 // the blocks of words that have a bit for each of n members
@@ -70,37 +40,92 @@ pub fn blocks_for(n: usize) -> usize
     (n + BLOCK_MEMBERS - 1) / BLOCK_MEMBERS
 }
 
-// a member's bit in a group's column
-fn put_group(columns: &mut [u64], g: GroupNo, member: usize)
-    requires { ⌜ (g .0 ≤ groupCapacity) × ((member < rowLimit) × (columnsLength ≤ length (now columns))) ⌝ }
-    ensures { λ _. ⌜ GroupPut (g .0) member (now (columns .entry)) (now (columns .exit)) ⌝ }
+// a word more of a group's column
+fn put_column_word(columns: &mut [u64], g: GroupNo, w: usize, word: u64)
+    requires { ⌜ (g .0 ≤ groupCapacity) × ((w < columnWords) × (columnsLength ≤ length (now columns))) ⌝ }
+    ensures { λ _. ⌜ ColumnPut (g .0) w word (now (columns .entry)) (now (columns .exit)) ⌝ }
 {
-    let at = COLUMN_WORDS * (g.0 as usize) + member / WORD_BITS as usize;
-    columns[at] = columns[at] | (1u64 << (member % WORD_BITS as usize));
+    let at = COLUMN_STRIDE * (g.0 as usize) + w;
+    columns[at] = columns[at] | word;
 }
 
-// a member's bit in the columns of the groups of one word
-fn put_word(word: u64, before: u16, member: usize, columns: &mut [u64])
-    requires { ⌜ (before + wordBits ≤ groupCapacity) × ((member < rowLimit) × (columnsLength ≤ length (now columns))) ⌝ }
-    ensures { λ _. ⌜ WordPut word before member (now (columns .entry)) (now (columns .exit)) ⌝ }
+// the transposed words of 64 members, as word w of the columns of 64 groups, `before` groups being before these
+fn put_columns(transposed: &[u64], before: u16, w: usize, columns: &mut [u64])
+    requires { ⌜ (before + wordBits ≤ groupCapacity) × ((w < columnWords) × ((wordBits ≤ length (now transposed)) × (columnsLength ≤ length (now columns)))) ⌝ }
+    ensures { λ _. ⌜ ColumnsPut (now (transposed .entry)) before wordBits w (now (columns .entry)) (now (columns .exit)) ⌝ }
 {
-    let mut left = word;
-    let mut number = groups_in(left);
-    while number != 0 {
-        put_group(columns, lowest_group(left, before), member);
-        left = rest_of(left);
-        number = groups_in(left);
+    for j in 0..TILE_MEMBERS {
+        put_column_word(columns, GroupNo(before + j as u16 + 1), w, transposed[j]);
     }
 }
 
-// a member's bit in the columns of the groups of one of its rows
-fn put_row(register: &[u8], edition: u16, place: usize, member: usize, columns: &mut [u64])
-    requires { ⌜ (place + membershipBytes (editionOf edition) ≤ length (now register)) × ((member < rowLimit) × (columnsLength ≤ length (now columns))) ⌝ }
-    ensures { λ _. ⌜ RowPut (editionOf edition) (now (register .entry)) place member (now (columns .entry)) (now (columns .exit)) ⌝ }
+// nobody in a tile
+fn clear_tile(tile: &mut [u64])
+    requires { ⌜ groupCapacity ≤ length (now tile) ⌝ }
+    ensures { λ _. ⌜ Cleared groupCapacity (now (tile .exit)) ⌝ }
+{
+    for i in 0..TILE {
+        tile[i] = 0;
+    }
+}
+
+// A tile as word w of the columns: its words are transposed, 64 groups at a time. Then it is empty.
+fn put_tile(
+    tile: &mut [u64],
+    edition: u16,
+    w: usize,
+    columns: &mut [u64],
+    transposed: &mut [u64],
+    spare: &mut [u64],
+)
+    requires { ⌜ (groupCapacity ≤ length (now tile)) × (NoneAbove (editionOf edition) (now tile) × ((w < columnWords) × ((columnsLength ≤ length (now columns)) × ((wordBits ≤ length (now transposed)) × (wordBits ≤ length (now spare)))))) ⌝ }
+    ensures { λ _. ⌜ TilePut (now (tile .entry)) w (now (columns .entry)) (now (columns .exit)) × Cleared groupCapacity (now (tile .exit)) ⌝ }
 {
     for k in 0..row_words(edition) {
-        put_word(word_at(register, place, k), WORD_BITS * k, member, columns);
+        transpose(tile, TILE_MEMBERS * (k as usize), transposed, spare);
+        put_columns(transposed, WORD_BITS * k, w, columns);
     }
+    clear_tile(tile);
+}
+
+// one word of member i of a tile
+fn put_word(tile: &mut [u64], k: u16, i: usize, word: u64)
+    requires { ⌜ (wordBits * (k + 1) ≤ groupCapacity) × ((i < wordBits) × (groupCapacity ≤ length (now tile))) ⌝ }
+    ensures { λ _. ⌜ WordPut word (wordBits * k) i (now (tile .entry)) (now (tile .exit)) ⌝ }
+{
+    let at = TILE_MEMBERS * (k as usize) + i;
+    tile[at] = tile[at] | word;
+}
+
+// one of the rows of member i of a tile
+fn put_row(register: &[u8], edition: u16, place: usize, i: usize, tile: &mut [u64])
+    requires { ⌜ (place + membershipBytes (editionOf edition) ≤ length (now register)) × ((i < wordBits) × (groupCapacity ≤ length (now tile))) ⌝ }
+    ensures { λ _. ⌜ RowPut (editionOf edition) (now (register .entry)) place i (now (tile .entry)) (now (tile .exit)) ⌝ }
+{
+    for k in 0..row_words(edition) {
+        put_word(tile, k, i, word_at(register, place, k));
+    }
+}
+
+// How many tiles are put, where the last of so many members is to be in the tile behind them: a tile that has no place left for it is put.
+fn make_room(
+    tile: &mut [u64],
+    edition: u16,
+    members: usize,
+    tiles: usize,
+    columns: &mut [u64],
+    transposed: &mut [u64],
+    spare: &mut [u64],
+) -> usize
+    requires { ⌜ (groupCapacity ≤ length (now tile)) × (NoneAbove (editionOf edition) (now tile) × ((members ≤ rowLimit) × ((wordBits * tiles < members) × ((members ≤ wordBits * tiles + wordBits + 1)
+        × ((columnsLength ≤ length (now columns)) × ((wordBits ≤ length (now transposed)) × (wordBits ≤ length (now spare)))))))) ⌝ }
+    ensures { λ r. ⌜ RoomMade (editionOf edition) members (now (columns .entry)) (now (tile .entry)) tiles (now (columns .exit)) (now (tile .exit)) r ⌝ }
+{
+    if members <= TILE_MEMBERS * tiles + TILE_MEMBERS {
+        return tiles;
+    }
+    put_tile(tile, edition, tiles, columns, transposed, spare);
+    tiles + 1
 }
 
 // how many members there are with one row more, which is joined to the row before or not
@@ -120,14 +145,33 @@ pub fn fill_columns(register: &[u8], edition: u16, rows: usize, columns: &mut [u
     requires { ⌜ (rows ≤ rowLimit) × (RowsReadable (editionOf edition) (now register) rows × ((columnsLength ≤ length (now columns)) × Empty (now columns))) ⌝ }
     ensures { λ n. ⌜ ColumnsFilled (rowsBefore (editionOf edition) (now (register .entry)) rows) n (now (columns .exit)) ⌝ }
 {
+    let mut tile = [0u64; TILE];
+    let mut transposed = [0u64; TILE_MEMBERS];
+    let mut spare = [0u64; TILE_MEMBERS];
     let mut at = 0;
     let mut last = 0u64;
     let mut members = 0;
+    let mut tiles = 0;
     for row in 0..rows {
         match row_of(register, edition, at, last) {
             RowAnswer::Row(r) => {
                 members = with_row(members, r.joined);
-                put_row(register, edition, r.bits, members - 1, columns);
+                tiles = make_room(
+                    &mut tile,
+                    edition,
+                    members,
+                    tiles,
+                    columns,
+                    &mut transposed,
+                    &mut spare,
+                );
+                put_row(
+                    register,
+                    edition,
+                    r.bits,
+                    members - 1 - TILE_MEMBERS * tiles,
+                    &mut tile,
+                );
                 last = r.key;
                 at = r.next;
             }
@@ -139,5 +183,13 @@ pub fn fill_columns(register: &[u8], edition: u16, rows: usize, columns: &mut [u
             }
         }
     }
+    put_tile(
+        &mut tile,
+        edition,
+        tiles,
+        columns,
+        &mut transposed,
+        &mut spare,
+    );
     members
 }

@@ -8,17 +8,17 @@ use Rattle.wire.specs.Edition.{editionOf}
 use Rattle.wire.specs.EditionFacts.{groups-within}
 use Rattle.rows.specs.RowsRead.{rowWords}
 use Rattle.rows.proofs.RowBits.{words-groups, words-bytes}
-use Rattle.registers.specs.ColumnSteps.{Put, firstBits}
+use Rattle.registers.specs.ColumnSteps.{MemberPut, firstBits}
 use Rattle.registers.proofs.PutLaws.{bits-none, bits-more}
 use Rattle.registers.proofs.columns.put_row.Statement.{statement}
 use Rattle.registers.proofs.columns.put_row.Tie as tie
 
 abbrev Inv-loop : tie.InvT-loop
-Inv-loop register edition place member columns₀ k₀ k-end columns k =
-    (k-end ≡ rowWords (editionOf edition)) × ((k ≤ k-end) × ((length columns ≡ length columns₀) × Put (firstBits register place k) member columns₀ columns))
+Inv-loop register edition place i tile₀ k₀ k-end tile k =
+    (k-end ≡ rowWords (editionOf edition)) × ((k ≤ k-end) × ((length tile ≡ length tile₀) × MemberPut (firstBits register place k) i tile₀ tile))
 
 abbrev μ-loop : tie.MeasureT-loop
-μ-loop register edition place member columns₀ k₀ k-end columns k = k-end - k
+μ-loop register edition place i tile₀ k₀ k-end tile k = k-end - k
 
 row-words-requires : tie.Need-row-words-requires Inv-loop μ-loop
 row-words-requires c κs = search needs
@@ -28,18 +28,15 @@ loop-holds c = (c .row-words .ensures, (search needs, (refl, bits-none _ _ _ _))
 
 word-at-requires : tie.Need-word-at-requires Inv-loop μ-loop
 word-at-requires c κs =
-    let ed = editionOf (c .before .before .before .before .before .args .edition) in
-    omega (arith, words-bytes ed, c .before .loop .inv .0, c .before .before .before .before .before .pre .0)
-
-mul-put-word : tie.Need-mul-put-word Inv-loop μ-loop
-mul-put-word c =
-    let ed = editionOf (c .before .before .before .before .before .before .args .edition) in
-    omega (arith, words-groups ed, groups-within ed, c .before .before .loop .inv .0)
+    let l = c .before .before in
+    let s = l .before .before .before .before in
+    omega (arith, words-bytes (editionOf (s .args .edition)), l .loop .inv .0, s .pre .0)
 
 put-word-requires : tie.Need-put-word-requires Inv-loop μ-loop
 put-word-requires c κs =
-    let ed = editionOf (c .before .before .before .before .before .before .before .args .edition) in
-    (omega (arith, words-groups ed, groups-within ed, c .before .before .before .loop .inv .0), search needs)
+    let l = c .before .before .before in
+    let ed = editionOf (l .before .before .before .before .args .edition) in
+    (omega (arith, words-groups ed, groups-within ed, l .loop .inv .0), search needs)
 
 add-k : tie.Need-add-k Inv-loop μ-loop
 add-k c = search needs
@@ -50,8 +47,8 @@ loop-less c = search needs
 loop-again : tie.Need-loop-again Inv-loop μ-loop
 loop-again c =
     let p = c .before .before in
-    let w = p .before .before in
-    let l = w .before .before .loop in (
+    let w = p .before in
+    let l = w .before .before .before .loop in (
       l .inv .0,
       (search needs, (search needs, bits-more (l .inv .1 .1 .1) (w .word-at .ensures) (search needs) (p .put-word .ensures))),
     )
@@ -74,7 +71,6 @@ put-row-spec =
     row-words-requires
     loop-holds
     word-at-requires
-    mul-put-word
     put-word-requires
     add-k
     loop-less
