@@ -28,14 +28,9 @@ module _ (s : List ℕ) (end i : ℕ) (h : i < end) (room : end ≤ length s) wh
   left-more : end - i ≡ suc (end - (i + 1))
   left-more = omega arith
 
-  pub label-pass : labelByte (getD s i 0) ≡ true →
-      labelBytes (take (end - i) (drop i s)) ≡ labelBytes (take (end - (i + 1)) (drop (i + 1) s))
+  pub label-more : labelBytes (take (end - i) (drop i s)) ≡ (labelByte (getD s i 0) && labelBytes (take (end - (i + 1)) (drop (i + 1) s)))
   unfolding labelBytes
-  label-pass e = rw (left-more, run-more s i _ (omega arith), e)
-
-  pub label-fail : labelByte (getD s i 0) ≡ false → labelBytes (take (end - i) (drop i s)) ≡ false
-  unfolding labelBytes
-  label-fail e = rw (left-more, run-more s i _ (omega arith), e)
+  label-more = rw (left-more, run-more s i _ (omega arith))
 
 pub label-end : (l : List ℕ) (n i : ℕ) → n ≤ i → labelBytes (take (n - i) l) ≡ true
 unfolding labelBytes

@@ -2,6 +2,7 @@
 use crate::tables::LABEL_HASHES;
 use wire::bytes;
 ghost use mathlib.Core.Path.{_≡_};
+ghost use mathlib.Core.Bool.{_&&_};
 ghost use Prim.Native.Nat.{ℕ, _+_, _≤_, _<_};
 ghost use lib.ListN.{length, take, drop, getD};
 ghost use Rattle.wire.specs.SheetFormat.{labelByte, labelBytes, sameLabel, used, nameOf};
@@ -27,18 +28,26 @@ fn label_byte(x: u8) -> bool
     x <= 90
 }
 
-// whether the n bytes at a place are bytes of a label
+fn both(a: bool, b: bool) -> bool
+    ensures { λ r. ⌜ r ≡ (a && b) ⌝ }
+{
+    if a {
+        return b;
+    }
+    false
+}
+
+// Whether the n bytes at a place are bytes of a label. All are looked at: a loop that may end early is not done 16 bytes at a time.
 pub fn label_allowed(s: &[u8], at: usize, n: u16) -> bool
     requires { ⌜ at + n ≤ length (now s) ⌝ }
     ensures { λ r. ⌜ r ≡ labelBytes (take n (drop at (now (s .entry)))) ⌝ }
 {
     let end = at + n as usize;
+    let mut allowed = true;
     for i in at..end {
-        if !label_byte(s[i]) {
-            return false;
-        }
+        allowed = both(allowed, label_byte(s[i]));
     }
-    true
+    allowed
 }
 
 // whether the n bytes at two places are the same, by fields of eight bytes, the last of which ends at the last byte

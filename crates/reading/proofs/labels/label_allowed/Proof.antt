@@ -1,22 +1,21 @@
--- `label_allowed` meets its contract. The invariant: the bytes that are left are as good as all of them.
-use borrow.Author.Tests.{not-true, not-false}
-use Prim.Native.Nat.{_-_, _≤_}
-use mathlib.Core.Path.{_≡_, sym, _∙_}
+-- `label_allowed` meets its contract. The invariant: the bytes so far, with those that are left, are as good as all of them.
+use Prim.Native.Nat.{_+_, _-_, _≤_}
+use mathlib.Core.Path.{_≡_, sym, ap, _∙_}
+use mathlib.Core.Bool.{Bool, _&&_, and-assoc, and-true}
 use borrow.Author.Needs.{needs}
 use native.Mathlib.Omega.{arith}
 use native.Mathlib.Nat.{add-sub-cancel-left}
-use denote.Ref.{now}
 use lib.ListN.{take, drop}
 use Rattle.wire.specs.SheetFormat.{labelBytes}
-use Rattle.reading.proofs.Strings.{label-pass, label-fail, label-end}
+use Rattle.reading.proofs.Strings.{label-more, label-end}
 use Rattle.reading.proofs.labels.label_allowed.Statement.{statement}
 use Rattle.reading.proofs.labels.label_allowed.Tie as tie
 
 abbrev Inv-loop : tie.InvT-loop
-Inv-loop s at n end i₀ i = (i ≤ end) × (labelBytes (take (end - i) (drop i s)) ≡ labelBytes (take n (drop at s)))
+Inv-loop s at n end allowed₀ i₀ allowed i = (i ≤ end) × ((allowed && labelBytes (take (end - i) (drop i s))) ≡ labelBytes (take n (drop at s)))
 
 abbrev μ-loop : tie.MeasureT-loop
-μ-loop s at n end i₀ i = end - i
+μ-loop s at n end allowed₀ i₀ allowed i = end - i
 
 add-end : tie.Need-add-end Inv-loop μ-loop
 add-end c = search needs
@@ -30,11 +29,8 @@ shared-slice-read-label-byte c = search needs
 label-byte-requires : tie.Need-label-byte-requires Inv-loop μ-loop
 label-byte-requires c κs = search needs
 
-returns : tie.Need-returns Inv-loop μ-loop
-returns c = let a = c .before .before .before .before .before .before .args in
-    sym (label-fail (now (a .s)) _ _ (omega arith) (omega arith)
-    (sym (c .before .label-byte .ensures) ∙ not-true (c .before .label-byte .result) (c .if1 .taken)))
-    ∙ c .before .before .before .before .loop .inv .1
+both-requires : tie.Need-both-requires Inv-loop μ-loop
+both-requires c κs = search needs
 
 add-i : tie.Need-add-i Inv-loop μ-loop
 add-i c = search needs
@@ -43,15 +39,18 @@ loop-less : tie.Need-loop-less Inv-loop μ-loop
 loop-less c = search needs
 
 loop-again : tie.Need-loop-again Inv-loop μ-loop
-loop-again c = let a = c .before .before .before .before .before .before .args in (
-  search needs,
-  sym (label-pass (now (a .s)) _ _ (omega arith) (omega arith)
-      (sym (c .before .label-byte .ensures) ∙ not-false (c .before .label-byte .result) (c .if1 .left)))
-      ∙ c .before .before .before .before .loop .inv .1,
-)
+loop-again c =
+    let l = c .before .before .before .before in
+    let a = l .before .before .args in
+    let more = label-more (a .s .now) (a .at + a .n) (l .loop .i) (omega arith) (omega arith) in
+    (
+      search needs,
+      rw (c .both .ensures, c .before .label-byte .ensures)
+      (and-assoc (l .loop .allowed) _ _ ∙ ap (λ (x : Bool). l .loop .allowed && x) (sym more) ∙ l .loop .inv .1),
+    )
 
-returns-2 : tie.Need-returns-2 Inv-loop μ-loop
-returns-2 c = sym (label-end _ _ _ (c .loop-test .left)) ∙ c .before .loop .inv .1
+returns : tie.Need-returns Inv-loop μ-loop
+returns c = sym (and-true _) ∙ ap (λ (x : Bool). c .before .loop .allowed && x) (sym (label-end _ _ _ (c .loop-test .left))) ∙ c .before .loop .inv .1
 
 pub label-allowed-spec : {M : Type 1} → statement M
 label-allowed-spec =
@@ -63,8 +62,8 @@ label-allowed-spec =
     loop-holds
     shared-slice-read-label-byte
     label-byte-requires
-    returns
+    both-requires
     add-i
     loop-less
     loop-again
-    returns-2)
+    returns)
