@@ -8,10 +8,11 @@ use native.Mathlib.Numerals.{add-one}
 use borrow.Author.Tests.{lt-ltb, le-ltb, le-leb, lt-leb, eq-eqb, ne-eqb}
 use lib.ListN.{length, getD, set, length-append}
 use lib.Seq.{getD-set-same, getD-set-other}
-use lib.Dec.{eqb}
-use lib.Bits.{bitOr}
+use lib.Dec.{ltb, eqb}
+use lib.Bits.{bitAnd, bitOr}
+use lib.Count.{ones}
 use Rattle.laws.specs.Cases.{compare-le, compare-eq, split}
-use Rattle.laws.specs.Digits.{digit, digit-le, digit-of-zero, digit-or, digit-beyond}
+use Rattle.laws.specs.Digits.{digit, digit-le, digit-of-zero, digit-or, digit-pow, digit-beyond, ones-of-zero, lowest}
 use Rattle.laws.specs.Sum.{bit}
 use Rattle.bit_matrix.specs.Matrix.{Transposed}
 use Rattle.wire.specs.Edition.{Edition, groupLimit, rowBytes}
@@ -28,28 +29,7 @@ use Rattle.rows.proofs.RowBits.{words-groups}
 use Rattle.rows.proofs.RowLaws.{in-group-bit, in-group-none, length-rowsBefore, Stands}
 use Rattle.registers.specs.Columns.{columnWords, columnDigit, ColumnsFilled}
 use Rattle.registers.proofs.ColumnLaws.{digit-bit}
-use Rattle.registers.specs.ColumnSteps.{
-  Put,
-  tileDigit,
-  NoneAbove,
-  ofMember,
-  MemberPut,
-  wordBit,
-  WordPut,
-  firstBits,
-  RowPut,
-  ofWord,
-  MembersPut,
-  ColumnPut,
-  nextGroups,
-  ColumnsPut,
-  firstGroups,
-  TilePut,
-  allDigits,
-  TilesFilled,
-  RoomMade,
-  Empty,
-}
+use Rattle.registers.specs.ColumnSteps.{Put, LowestGroup, tileDigit, NoneAbove, ofMember, MemberPut, wordBit, WordPut, firstBits, RowPut, ofWord, MembersPut, GroupPut, GroupsPut, ColumnPut, nextGroups, ColumnsPut, firstGroups, TilePut, allDigits, TilesFilled, RoomMade, Empty}
 use Rattle.registers.specs.Joins.{Cleared}
 
 -- what is put in two steps, or not at all
@@ -186,6 +166,159 @@ tile-put-all {ed} {t} {w} n p =
           (λ o. rw (le-ltb (g - 1) (wordBits * rowWords ed) (omega (arith, words-groups ed)), n .each g (i % wordBits) o b (omega arith)))))
           (λ e. rw e)) (p .put);
     }
+
+-- one digit of word w of a group's column is put
+pub group-put : (h m : ℕ) {w : ℕ} {t u : List ℕ} → ColumnPut h w (2 ^ m) t u → GroupPut h w m t u
+group-put h m {w} p = record { put = put-as (λ g i a b l. split (eqb (i / wordBits) w) (λ e. rw e (step g (i % wordBits))) (λ e. rw e)) (p .put) }
+  where
+    step : (g j : ℕ) → cond (eqb g h) (digit (2 ^ m) j) 0 ≡ cond (eqb j m) (bit (eqb g h)) 0
+    step g j =
+        rw (digit-pow m j)
+        (compare-eq j m
+        (λ e. rw (eq-eqb j m e, eq-eqb m j (sym e)) (split (eqb g h) (λ x. rw x) (λ x. rw x)))
+        (λ e. rw (ne-eqb j m e, ne-eqb m j (λ o. e (sym o))) (split (eqb g h) (λ x. rw x) (λ x. rw x))))
+
+-- the bits of a word
+word-bit-le : (word before g : ℕ) → wordBit word before g ≤ 1
+word-bit-le word before g =
+    compare-le (before + 1) g
+    (λ l. rw (le-leb (before + 1) g l) (digit-le word (g - 1 - before)))
+    (λ l. rw (lt-leb (before + 1) g l) (omega arith))
+
+word-bit-zero : (before g : ℕ) → wordBit 0 before g ≡ 0
+word-bit-zero before g =
+    compare-le (before + 1) g
+    (λ l. rw (le-leb (before + 1) g l) (digit-of-zero (g - 1 - before)))
+    (λ l. rw (lt-leb (before + 1) g l))
+
+-- of a word the groups that are not left are put
+pub record GroupsTaken (word before w m : ℕ) (t : List ℕ) (left : ℕ) (u : List ℕ) : Type 0 where
+  pub within : (g : ℕ) → wordBit left before g ≤ wordBit word before g
+  pub put : MembersPut (ofMember m (λ g. wordBit word before g - wordBit left before g)) w t u
+
+pub groups-none-taken : (word before w m : ℕ) (t : List ℕ) → GroupsTaken word before w m t word t
+groups-none-taken word before w m t =
+    record {
+      within = λ g. omega arith;
+      put = record {
+        put = put-none (columnDigit t) (λ g i. split (eqb (i / wordBits) w)
+            (λ e. rw e (split (eqb (i % wordBits) m) (λ x. rw x (omega arith)) (λ x. rw x))) (λ e. rw e));
+      };
+    }
+
+module _ {before left g : ℕ} (w : LowestGroup before left g) where
+  lowest-bit : wordBit left before g ≡ 1
+  lowest-bit =
+      let e : g - 1 - before ≡ w .place = omega arith in
+      rw (le-leb (before + 1) g (omega arith), e) (w .lowest .set)
+
+  rest-bit : wordBit (bitAnd left (left - 1)) before g ≡ 0
+  rest-bit =
+      let e : g - 1 - before ≡ w .place = omega arith in
+      rw (le-leb (before + 1) g (omega arith), e) (w .lowest .cleared)
+
+  other-bits : (h : ℕ) → (h ≡ g → ⊥) → wordBit (bitAnd left (left - 1)) before h ≡ wordBit left before h
+  other-bits h n =
+      compare-le (before + 1) h
+      (λ l. rw (le-leb (before + 1) h l) (w .lowest .others (h - 1 - before) (λ e. n (omega arith))))
+      (λ l. rw (lt-leb (before + 1) h l))
+
+  -- the lowest group is put, and no longer left
+  pub groups-more-taken : {word v m : ℕ} {t u x : List ℕ} → GroupsTaken word before v m t left u → GroupPut g v m u x
+      → GroupsTaken word before v m t (bitAnd left (left - 1)) x
+  groups-more-taken {word} {v} {m} k p =
+      record {
+        within = λ h.
+            compare-eq h g
+            (λ e. rw (e, rest-bit) (omega arith))
+            (λ e. rw (other-bits h e) (k .within h));
+        put = record {
+          put = put-then (k .put .put) (p .put) (λ h i a b l. split (eqb (i / wordBits) v)
+              (λ e. rw e (split (eqb (i % wordBits) m) (λ x. rw x (step h)) (λ x. rw x (omega arith))))
+              (λ e. rw e (omega arith)));
+        };
+      }
+    where
+      step : (h : ℕ) → max (wordBit word before h - wordBit left before h) (bit (eqb h g)) ≡ wordBit word before h - wordBit (bitAnd left (left - 1)) before h
+      step h =
+          compare-eq h g
+          (λ e. rw (e, eq-eqb g g refl, lowest-bit, rest-bit)
+          (let z = rw (e, lowest-bit) at (k .within h) in omega (arith, word-bit-le word before g)))
+          (λ e. rw (ne-eqb h g e, other-bits h e) (omega arith))
+
+-- where nothing is left, the word is put
+pub groups-all-taken : {word before w m : ℕ} {t u : List ℕ} → GroupsTaken word before w m t 0 u → GroupsPut word before w m t u
+groups-all-taken {word} {before} {w} {m} k =
+    record {
+      put = put-as (λ g i a b l. split (eqb (i / wordBits) w)
+          (λ e. rw e (split (eqb (i % wordBits) m) (λ x. rw (x, word-bit-zero before g) (omega arith)) (λ x. rw x)))
+          (λ e. rw e)) (k .put .put);
+    }
+
+-- a word with a one is not 0, and one without is 0
+pub ones-left : (m : ℕ) → 0 < ones m → 0 < m
+ones-left zero l = absurd (omega (arith, ones-of-zero))
+ones-left (suc m) l = omega arith
+
+pub no-ones-left : (m : ℕ) → m < 2 ^ 64 → ones m ≡ 0 → m ≡ 0
+no-ones-left m l e = compare-eq m 0 (λ z. z) (λ z. absurd (omega (arith, lowest 64 m (omega arith) l .1 .fewer)))
+
+-- the groups of the first k words of one member of a tile are put
+abbrev pub MemberGroups : List ℕ → ℕ → ℕ → ℕ → List ℕ → List ℕ → Type 0
+MemberGroups t k w m = MembersPut (ofMember m (λ g. firstGroups t k g m)) w
+
+pub member-none : (t : List ℕ) (w m : ℕ) (c : List ℕ) → MemberGroups t 0 w m c c
+unfolding firstGroups
+member-none t w m c =
+    record {
+      put = put-none (columnDigit c) (λ g i. rw (le-ltb (g - 1) (wordBits * 0) (omega arith)) (split (eqb (i / wordBits) w)
+          (λ e. rw e (split (eqb (i % wordBits) m) (λ x. rw x) (λ x. rw x))) (λ e. rw e)));
+    }
+
+pub member-more : (t : List ℕ) (k m : ℕ) {w word : ℕ} {c d e : List ℕ} → MemberGroups t k w m c d → word ≡ getD t (wordBits * k + m) 0 → word < 2 ^ 64
+    → GroupsPut word (wordBits * k) w m d e → MemberGroups t (k + 1) w m c e
+unfolding firstGroups tileDigit
+member-more t k m {w} {word} p x z q =
+    record {
+      put = put-then (p .put) (q .put) (λ g i a b o. split (eqb (i / wordBits) w)
+          (λ e. rw e (split (eqb (i % wordBits) m) (λ x. rw x (step g a)) (λ x. rw x (omega arith)))) (λ e. rw e (omega arith)));
+    }
+  where
+    step : (g : ℕ) → 1 ≤ g → max (firstGroups t k g m) (wordBit word (wordBits * k) g) ≡ firstGroups t (k + 1) g m
+    step g a =
+        compare-le (wordBits * k + 1) g
+        (λ y. compare-le (wordBits * (k + 1)) (g - 1)
+        (λ o. rw (le-leb (wordBits * k + 1) g y, le-ltb (g - 1) (wordBits * k) (omega arith), le-ltb (g - 1) (wordBits * (k + 1)) o)
+        (omega (arith, digit-beyond 64 word (g - 1 - wordBits * k) z (omega arith))))
+        (λ o. let q : (g - 1) / wordBits ≡ k = omega arith in
+        let r : (g - 1) % wordBits ≡ g - 1 - wordBits * k = omega arith in
+        rw (le-leb (wordBits * k + 1) g y, le-ltb (g - 1) (wordBits * k) (omega arith), lt-ltb (g - 1) (wordBits * (k + 1)) o, q, r, x)
+        (omega arith)))
+        (λ y. rw (lt-leb (wordBits * k + 1) g y, lt-ltb (g - 1) (wordBits * k) (omega arith), lt-ltb (g - 1) (wordBits * (k + 1)) (omega arith)) (omega arith))
+
+-- the groups of the first m members of a tile are put
+abbrev pub FirstMembers : List ℕ → ℕ → ℕ → ℕ → List ℕ → List ℕ → Type 0
+FirstMembers t k m w = MembersPut (λ g j. cond (ltb j m) (firstGroups t k g j) 0) w
+
+pub members-none : (t : List ℕ) (k w : ℕ) (c : List ℕ) → FirstMembers t k 0 w c c
+members-none t k w c =
+    record { put = put-none (columnDigit c) (λ g i. rw (le-ltb (i % wordBits) 0 (omega arith)) (split (eqb (i / wordBits) w) (λ e. rw e) (λ e. rw e))) }
+
+pub members-more : (t : List ℕ) (k m : ℕ) {w : ℕ} {c d e : List ℕ} → FirstMembers t k m w c d → MemberGroups t k w m d e → FirstMembers t k (m + 1) w c e
+members-more t k m {w} p q =
+    record { put = put-then (p .put) (q .put) (λ g i a b o. split (eqb (i / wordBits) w) (λ e. rw e (step g (i % wordBits))) (λ e. rw e (omega arith))) }
+  where
+    step : (g j : ℕ) → max (cond (ltb j m) (firstGroups t k g j) 0) (cond (eqb j m) (firstGroups t k g m) 0) ≡ cond (ltb j (m + 1)) (firstGroups t k g j) 0
+    step g j =
+        compare-eq j m
+        (λ e. rw (eq-eqb j m e, le-ltb j m (omega arith), lt-ltb j (m + 1) (omega arith), e) (omega arith))
+        (λ e. compare-le m j
+        (λ o. rw (ne-eqb j m e, le-ltb j m o, le-ltb j (m + 1) (omega arith)) (omega arith))
+        (λ o. rw (ne-eqb j m e, lt-ltb j m o, lt-ltb j (m + 1) (omega arith)) (omega arith)))
+
+pub members-all : (t : List ℕ) (k : ℕ) {w : ℕ} {c d : List ℕ} → FirstMembers t k wordBits w c d → MembersPut (firstGroups t k) w c d
+members-all t k {w} p =
+    record { put = put-as (λ g i a b l. rw (lt-ltb (i % wordBits) wordBits (omega arith))) (p .put) }
 
 -- an empty tile
 cleared-tile : {t : List ℕ} → Cleared groupCapacity t → (g i : ℕ) → 1 ≤ g → g ≤ groupCapacity → i < wordBits → tileDigit t g i ≡ 0

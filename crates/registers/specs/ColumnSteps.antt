@@ -6,8 +6,9 @@ use mathlib.Core.Bool.{cond}
 use mathlib.Core.List.{List}
 use lib.ListN.{length, getD}
 use lib.Dec.{leb, ltb, eqb}
+use lib.Bits.{bitAnd}
 use Rattle.laws.specs.Sum.{sum, bit}
-use Rattle.laws.specs.Digits.{digit}
+use Rattle.laws.specs.Digits.{digit, Lowest}
 use Rattle.wire.specs.Limits.{rowLimit}
 use Rattle.wire.specs.Edition.{Edition, groupLimit}
 use Rattle.wire.specs.Capacity.{groupCapacity}
@@ -49,13 +50,26 @@ firstBits b place k g = cond (ltb (g - 1) (wordBits * k)) (bitAt b place (g - 1)
 abbrev pub RowPut : Edition → List ℕ → ℕ → ℕ → List ℕ → List ℕ → Type 0
 RowPut ed b place = MemberPut (firstBits b place (rowWords ed))
 
--- the digits of the 64 members of word w: of one word for one group; of n words, for the groups after `before`; of a tile, for the
+-- group g is the lowest set digit of a word whose digits are the groups after `before`
+pub record LowestGroup (before word g : ℕ) : Type 0 where
+  pub place : ℕ
+  pub within : place < wordBits
+  pub numbered : g ≡ before + place + 1
+  pub lowest : Lowest word place (bitAnd word (word - 1))
+
+-- the digits of the 64 members of word w: of one of them for one group, and for the groups of a word; of one word for one group; of n words, for the groups after `before`; of a tile, for the
 -- groups of its first k words and for all
 abbrev pub ofWord : ℕ → (ℕ → ℕ → ℕ) → ℕ → ℕ → ℕ
 ofWord w f g i = cond (eqb (i / wordBits) w) (f g (i % wordBits)) 0
 
 pub record MembersPut (f : ℕ → ℕ → ℕ) (w : ℕ) (t u : List ℕ) : Type 0 where
   pub put : Put rowLimit (ofWord w f) (columnDigit t) (columnDigit u)
+
+abbrev pub GroupPut : ℕ → ℕ → ℕ → List ℕ → List ℕ → Type 0
+GroupPut h w m = MembersPut (ofMember m (λ g. bit (eqb g h))) w
+
+abbrev pub GroupsPut : ℕ → ℕ → ℕ → ℕ → List ℕ → List ℕ → Type 0
+GroupsPut word before w m = MembersPut (ofMember m (wordBit word before)) w
 
 abbrev pub ColumnPut : ℕ → ℕ → ℕ → List ℕ → List ℕ → Type 0
 ColumnPut h w word = MembersPut (λ g j. cond (eqb g h) (digit word j) 0) w

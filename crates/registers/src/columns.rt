@@ -3,6 +3,7 @@
 // set its bits in the groups of each.
 use crate::limits::BLOCK_MEMBERS;
 use crate::limits::COLUMN_STRIDE;
+use crate::limits::FEW_GROUPS;
 use crate::limits::TILE;
 use crate::limits::TILE_MEMBERS;
 use bit_matrix::transpose::transpose;
@@ -14,14 +15,17 @@ use rows::limits::row_words;
 use rows::reader::row_of;
 ghost use mathlib.Core.Path.{_≡_};
 ghost use mathlib.Core.Bool.{cond};
-ghost use Prim.Native.Nat.{_+_, _*_, _≤_, _<_};
+ghost use Prim.Native.Nat.{_+_, _-_, _*_, _≤_, _<_};
 ghost use lib.ListN.{length, getD};
+ghost use lib.Bits.{bitAnd};
+ghost use lib.Count.{ones};
+ghost use Rattle.laws.specs.Digits.{Lowest};
 ghost use Rattle.wire.specs.Limits.{rowLimit};
 ghost use Rattle.wire.specs.Edition.{editionOf, membershipBytes};
 ghost use Rattle.wire.specs.Capacity.{groupCapacity};
-ghost use Rattle.rows.specs.RowsRead.{wordBits, rowsBefore, RowsReadable};
+ghost use Rattle.rows.specs.RowsRead.{wordBits, rowWords, rowsBefore, RowsReadable};
 ghost use Rattle.registers.specs.Columns.{columnWords, columnsLength, columnWord, BlocksFor, ColumnsFilled};
-ghost use Rattle.registers.specs.ColumnSteps.{ColumnPut, ColumnsPut, WordPut, RowPut, NoneAbove, TilePut, RoomMade, Empty};
+ghost use Rattle.registers.specs.ColumnSteps.{LowestGroup, NoneAbove, ofMember, WordPut, RowPut, MembersPut, ColumnPut, GroupPut, GroupsPut, ColumnsPut, firstGroups, TilePut, RoomMade, Empty};
 ghost use Rattle.registers.specs.Joins.{Cleared};
 
 // one word of a group's column
@@ -69,7 +73,134 @@ fn clear_tile(tile: &mut [u64])
     }
 }
 
-// A tile as word w of the columns: its words are transposed, 64 groups at a time. Then it is empty.
+// how many groups a word has: its number of ones
+fn groups_in(word: u64) -> u32
+    ensures { λ r. ⌜ r ≡ ones word ⌝ }
+{
+    u64::count_ones(word)
+}
+
+// the lowest bit of a word
+fn lowest_of(word: u64) -> u32
+    requires { ⌜ 0 < word ⌝ }
+    ensures { λ r. ⌜ (r < wordBits) × Lowest word r (bitAnd word (word - 1)) ⌝ }
+{
+    u64::trailing_zeros(word)
+}
+
+// the group of that bit, `before` groups being in the words below
+fn lowest_group(word: u64, before: u16) -> GroupNo
+    requires { ⌜ (0 < word) × (before ≤ groupCapacity) ⌝ }
+    ensures { λ r. ⌜ LowestGroup before word (r .0) ⌝ }
+{
+    GroupNo(before + lowest_of(word) as u16 + 1)
+}
+
+// a word without its lowest bit
+fn rest_of(word: u64) -> u64
+    requires { ⌜ 0 < word ⌝ }
+    ensures { λ r. ⌜ r ≡ bitAnd word (word - 1) ⌝ }
+{
+    word & (word - 1)
+}
+
+// one bit of word w of a group's column, that of member i of a tile
+fn put_group(columns: &mut [u64], g: GroupNo, w: usize, i: usize)
+    requires { ⌜ (g .0 ≤ groupCapacity) × ((w < columnWords) × ((i < wordBits) × (columnsLength ≤ length (now columns)))) ⌝ }
+    ensures { λ _. ⌜ GroupPut (g .0) w i (now (columns .entry)) (now (columns .exit)) ⌝ }
+{
+    put_column_word(columns, g, w, 1u64 << i);
+}
+
+// the bits of member i in the groups of a word, lowest first; as many are left to put as there are ones left
+fn put_groups(word: u64, before: u16, w: usize, i: usize, columns: &mut [u64])
+    requires { ⌜ (before + wordBits ≤ groupCapacity) × ((w < columnWords) × ((i < wordBits) × (columnsLength ≤ length (now columns)))) ⌝ }
+    ensures { λ _. ⌜ GroupsPut word before w i (now (columns .entry)) (now (columns .exit)) ⌝ }
+{
+    let mut left = word;
+    let mut number = groups_in(left);
+    while number != 0 {
+        put_group(columns, lowest_group(left, before), w, i);
+        left = rest_of(left);
+        number = groups_in(left);
+    }
+}
+
+// the bits of member i of a tile, word by word
+fn put_member(tile: &[u64], edition: u16, w: usize, i: usize, columns: &mut [u64])
+    requires { ⌜ (groupCapacity ≤ length (now tile)) × ((w < columnWords) × ((i < wordBits) × (columnsLength ≤ length (now columns)))) ⌝ }
+    ensures { λ _. ⌜ MembersPut (ofMember i (λ g. firstGroups (now (tile .entry)) (rowWords (editionOf edition)) g i)) w (now (columns .entry)) (now (columns .exit)) ⌝ }
+{
+    for k in 0..row_words(edition) {
+        let word = tile[TILE_MEMBERS * (k as usize) + i];
+        put_groups(word, WORD_BITS * k, w, i, columns);
+    }
+}
+
+// a tile as word w of the columns, member by member
+fn put_members(tile: &[u64], edition: u16, w: usize, columns: &mut [u64])
+    requires { ⌜ (groupCapacity ≤ length (now tile)) × ((w < columnWords) × (columnsLength ≤ length (now columns))) ⌝ }
+    ensures { λ _. ⌜ MembersPut (firstGroups (now (tile .entry)) (rowWords (editionOf edition))) w (now (columns .entry)) (now (columns .exit)) ⌝ }
+{
+    for i in 0..TILE_MEMBERS {
+        put_member(tile, edition, w, i, columns);
+    }
+}
+
+// the same, 64 groups at a time
+fn put_transposed(
+    tile: &[u64],
+    edition: u16,
+    w: usize,
+    columns: &mut [u64],
+    transposed: &mut [u64],
+    spare: &mut [u64],
+)
+    requires { ⌜ (groupCapacity ≤ length (now tile)) × ((w < columnWords) × ((columnsLength ≤ length (now columns)) × ((wordBits ≤ length (now transposed)) × (wordBits ≤ length (now spare))))) ⌝ }
+    ensures { λ _. ⌜ MembersPut (firstGroups (now (tile .entry)) (rowWords (editionOf edition))) w (now (columns .entry)) (now (columns .exit)) ⌝ }
+{
+    for k in 0..row_words(edition) {
+        transpose(tile, TILE_MEMBERS * (k as usize), transposed, spare);
+        put_columns(transposed, WORD_BITS * k, w, columns);
+    }
+}
+
+// Whether two members of a tile have few groups each. It decides which way is likely the quicker one, and nothing else.
+fn few_groups(tile: &[u64], edition: u16) -> bool
+    requires { ⌜ groupCapacity ≤ length (now tile) ⌝ }
+{
+    for k in 0..row_words(edition) {
+        let at = TILE_MEMBERS * (k as usize);
+        if FEW_GROUPS < groups_in(tile[at]) {
+            return false;
+        }
+        if FEW_GROUPS < groups_in(tile[at + TILE_MEMBERS / 2]) {
+            return false;
+        }
+    }
+    true
+}
+
+// the one way or the other
+fn put_words(
+    tile: &[u64],
+    edition: u16,
+    w: usize,
+    columns: &mut [u64],
+    transposed: &mut [u64],
+    spare: &mut [u64],
+)
+    requires { ⌜ (groupCapacity ≤ length (now tile)) × ((w < columnWords) × ((columnsLength ≤ length (now columns)) × ((wordBits ≤ length (now transposed)) × (wordBits ≤ length (now spare))))) ⌝ }
+    ensures { λ _. ⌜ MembersPut (firstGroups (now (tile .entry)) (rowWords (editionOf edition))) w (now (columns .entry)) (now (columns .exit)) ⌝ }
+{
+    if few_groups(tile, edition) {
+        put_members(tile, edition, w, columns);
+        return;
+    }
+    put_transposed(tile, edition, w, columns, transposed, spare);
+}
+
+// A tile as word w of the columns. Then it is empty.
 fn put_tile(
     tile: &mut [u64],
     edition: u16,
@@ -81,10 +212,7 @@ fn put_tile(
     requires { ⌜ (groupCapacity ≤ length (now tile)) × (NoneAbove (editionOf edition) (now tile) × ((w < columnWords) × ((columnsLength ≤ length (now columns)) × ((wordBits ≤ length (now transposed)) × (wordBits ≤ length (now spare)))))) ⌝ }
     ensures { λ _. ⌜ TilePut (now (tile .entry)) w (now (columns .entry)) (now (columns .exit)) × Cleared groupCapacity (now (tile .exit)) ⌝ }
 {
-    for k in 0..row_words(edition) {
-        transpose(tile, TILE_MEMBERS * (k as usize), transposed, spare);
-        put_columns(transposed, WORD_BITS * k, w, columns);
-    }
+    put_words(tile, edition, w, columns, transposed, spare);
     clear_tile(tile);
 }
 

@@ -29,3 +29,6 @@ pub const BLOCK_MEMBERS: usize = BLOCK_WORDS * WORD_BITS as usize;
 pub const SON_STARTS: usize = GROUP_PLACES + 1;
 
 pub const SONS: usize = GROUP_CAPACITY;
+
+// A member that is in no more of 64 groups is taken to be in few.
+pub const FEW_GROUPS: u32 = 2;

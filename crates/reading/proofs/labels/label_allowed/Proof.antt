@@ -42,11 +42,10 @@ loop-again : tie.Need-loop-again Inv-loop μ-loop
 loop-again c =
     let l = c .before .before .before .before in
     let a = l .before .before .args in
-    let more = label-more (a .s .now) (a .at + a .n) (l .loop .i) (omega arith) (omega arith) in
-    (
+    let more = label-more (a .s .now) (a .at + a .n) (l .loop .i) (omega arith) (omega arith) in (
       search needs,
       rw (c .both .ensures, c .before .label-byte .ensures)
-      (and-assoc (l .loop .allowed) _ _ ∙ ap (λ (x : Bool). l .loop .allowed && x) (sym more) ∙ l .loop .inv .1),
+          (and-assoc (l .loop .allowed) _ _ ∙ ap (λ (x : Bool). l .loop .allowed && x) (sym more) ∙ l .loop .inv .1),
     )
 
 returns : tie.Need-returns Inv-loop μ-loop

@@ -1,115 +1,39 @@
--- `registers::columns::put_tile` meets its contract. Invariant: the groups of the tile's first k words are put.
+-- `registers::columns::put_tile` meets its contract.
 use borrow.Author.Needs.{needs}
-use native.Mathlib.Omega.{arith}
-use Prim.Native.Nat.{_-_, _≤_}
-use mathlib.Core.Path.{_≡_, refl}
-use lib.ListN.{length}
-use Rattle.wire.specs.Edition.{editionOf}
-use Rattle.wire.specs.EditionFacts.{groups-within}
-use Rattle.rows.specs.RowsRead.{rowWords}
-use Rattle.rows.proofs.RowBits.{words-groups}
-use Rattle.registers.specs.ColumnSteps.{MembersPut, firstGroups}
-use Rattle.registers.proofs.PutLaws.{tile-put-none, tile-put-more, tile-put-all}
+use Rattle.registers.proofs.PutLaws.{tile-put-all}
 use Rattle.registers.proofs.columns.put_tile.Statement.{statement}
 use Rattle.registers.proofs.columns.put_tile.Tie as tie
 
-abbrev Inv-loop : tie.InvT-loop
-Inv-loop tile edition w columns₀ transposed₀ spare₀ k₀ k-end columns transposed spare k =
-    (k-end ≡ rowWords (editionOf edition)) × ((k ≤ k-end) × ((length columns ≡ length columns₀) × ((length transposed ≡ length transposed₀)
-    × ((length spare ≡ length spare₀) × MembersPut (firstGroups tile k) w columns₀ columns))))
+put-words-requires : tie.Need-put-words-requires
+put-words-requires c κs = search needs
 
-abbrev μ-loop : tie.MeasureT-loop
-μ-loop tile edition w columns₀ transposed₀ spare₀ k₀ k-end columns transposed spare k = k-end - k
-
-row-words-requires : tie.Need-row-words-requires Inv-loop μ-loop
-row-words-requires c κs = search needs
-
-loop-holds : tie.Need-loop-holds Inv-loop μ-loop
-loop-holds c = (c .row-words .ensures, (search needs, (refl, (refl, (refl, tile-put-none _ _ _)))))
-
-cast-transpose : tie.Need-cast-transpose Inv-loop μ-loop
-cast-transpose c = search needs
-
-mul-transpose : tie.Need-mul-transpose Inv-loop μ-loop
-mul-transpose c = search needs
-
-transpose-requires : tie.Need-transpose-requires Inv-loop μ-loop
-transpose-requires c κs =
-    let l = c .before .before .before .before in
-    let s = l .before .before .before .before .before .before in
-    let ed = editionOf (s .args .edition) in
-    (omega (arith, words-groups ed, groups-within ed, l .loop .inv .0, s .pre .0), (search needs, search needs))
-
-mul-put-columns : tie.Need-mul-put-columns Inv-loop μ-loop
-mul-put-columns c =
-    let l = c .before .before .before .before .before .before .before .before .before .before in
-    let ed = editionOf (l .before .before .before .before .before .before .args .edition) in
-    omega (arith, words-groups ed, groups-within ed, l .loop .inv .0)
-
-put-columns-requires : tie.Need-put-columns-requires Inv-loop μ-loop
-put-columns-requires c κs =
-    let l = c .before .before .before .before .before .before .before .before .before .before .before in
-    let ed = editionOf (l .before .before .before .before .before .before .args .edition) in
-    (omega (arith, words-groups ed, groups-within ed, l .loop .inv .0), (search needs, (search needs, search needs)))
-
-add-k : tie.Need-add-k Inv-loop μ-loop
-add-k c = search needs
-
-loop-less : tie.Need-loop-less Inv-loop μ-loop
-loop-less c = search needs
-
-loop-again : tie.Need-loop-again Inv-loop μ-loop
-loop-again c =
-    let p = c .before .before in
-    let t = p .before .before .before .before .before .before .before in
-    let l = t .before .before .before .before .before .loop in (
-      l .inv .0,
-      (
-        search needs,
-        (search needs, (search needs, (search needs, tile-put-more _ _ (l .inv .1 .1 .1 .1 .1) (t .transpose .ensures) (p .put-columns .ensures)))),
-      ),
-    )
-
-clear-tile-requires : tie.Need-clear-tile-requires Inv-loop μ-loop
+clear-tile-requires : tie.Need-clear-tile-requires
 clear-tile-requires c κs = search needs
 
-same-length : tie.Need-same-length Inv-loop μ-loop
+same-length : tie.Need-same-length
 same-length c = search needs
 
-same-length-2 : tie.Need-same-length-2 Inv-loop μ-loop
+same-length-2 : tie.Need-same-length-2
 same-length-2 c = search needs
 
-same-length-3 : tie.Need-same-length-3 Inv-loop μ-loop
+same-length-3 : tie.Need-same-length-3
 same-length-3 c = search needs
 
-same-length-4 : tie.Need-same-length-4 Inv-loop μ-loop
+same-length-4 : tie.Need-same-length-4
 same-length-4 c = search needs
 
-returns : tie.Need-returns Inv-loop μ-loop
+returns : tie.Need-returns
 returns c =
     let t = c .before .before in
-    let a = t .before .before .before in
-    let l = a .loop in
-    let s = a .before .before .before .before .before .before in
-    let all : l .k ≡ rowWords (editionOf (s .args .edition)) = omega (arith, l .inv .0) in
-    (tile-put-all (s .pre .1 .0) (rw all at (l .inv .1 .1 .1 .1 .1)), t .clear-tile .ensures)
+    let p = t .before .before .before .before .before .before .before .before in
+    let s = p .before .before .before .before .before .before .before .before .before in
+    (tile-put-all (s .pre .1 .0) (p .put-words .ensures), t .clear-tile .ensures)
 
 pub put-tile-spec : {M : Type 1} → statement M
 put-tile-spec =
     tie.close
     (tie.spec
-    Inv-loop
-    μ-loop
-    row-words-requires
-    loop-holds
-    cast-transpose
-    mul-transpose
-    transpose-requires
-    mul-put-columns
-    put-columns-requires
-    add-k
-    loop-less
-    loop-again
+    put-words-requires
     clear-tile-requires
     same-length
     same-length-2
