@@ -1,10 +1,11 @@
-// Our operations beside ordinary Rust of the same algorithm, on the same bytes, in turns; and ours at 128 groups beside 256.
-//   ops FOLDER [WHAT]     FOLDER has the sheets NAME.sheet and the registers NAME.rows; prints a line 'what first second
-//                         ratio' for each, or for WHAT alone: ours and Rust's in ns, of 'growth ..' ours at 128 and at 256
-//                         groups, and the middle ratio of second to first
+// Our operations beside ordinary Rust, on the same bytes, in turns; and ours at 128 groups beside 256.
+//   ops FOLDER [WHAT..]   FOLDER has the sheets NAME.sheet and the registers NAME.rows; prints a line 'what times.. ratio' for
+//                         each, or for those that begin with a WHAT: ours and Rust's in ns, of a register Rust's by columns
+//                         and by walk, of 'growth ..' ours at 128 and at 256 groups; and the middle ratio of second to first
 
-#[path = "engine.rs"]
 mod engine;
+mod register;
+mod sheet;
 
 use std::fs;
 use std::hint::black_box;
@@ -31,7 +32,7 @@ fn claim(s: &[u8], c: u32, r: &mut [u8]) -> u64 {
     unsafe { sheet_claim(s.as_ptr(), s.len(), c, r.as_mut_ptr(), r.len()) }
 }
 
-fn register(s: &[u8], g: &[u8], r: &mut [u8]) -> u64 {
+fn check(s: &[u8], g: &[u8], r: &mut [u8]) -> u64 {
     unsafe { sheet_register(s.as_ptr(), s.len(), g.as_ptr(), g.len(), r.as_mut_ptr(), r.len()) }
 }
 
@@ -39,43 +40,73 @@ const RUNS: usize = 101;
 const REPLY: usize = 20 * 256; // bytes of the longest reply
 const LARGE: [usize; 2] = [128, 256]; // most groups of each edition
 
-// The middle of 101 runs of each, in nanoseconds per call, and of the ratios of b to a; a run is long enough to be measured.
-fn middle(mut a: impl FnMut() -> u64, mut b: impl FnMut() -> u64) -> [f64; 3] {
-    let times = |f: &mut dyn FnMut() -> u64, n: u32| {
+type Call<'a> = &'a mut dyn FnMut() -> u64;
+
+fn middle(mut of: [f64; RUNS]) -> f64 {
+    of.sort_by(f64::total_cmp);
+    of[RUNS / 2]
+}
+
+// Prints the middle of 101 runs of each, in nanoseconds per call, and of the ratios of the second to the first; a run is long
+// enough to be measured.
+fn measure<const N: usize>(what: &str, mut calls: [Call; N]) {
+    if std::env::args().len() > 2 && !std::env::args().skip(2).any(|only| what.starts_with(&only)) {
+        return;
+    }
+    let time = |call: &mut Call, n: u32| {
         let start = Instant::now();
         for _ in 0..n {
-            black_box(f());
+            black_box(call());
         }
         start.elapsed().as_nanos() as f64 / n as f64
     };
-    let warm = times(&mut a, 20).max(times(&mut b, 20));
+    let warm = calls.iter_mut().map(|call| time(call, 20)).fold(1.0, f64::max);
     let turns = ((100_000.0 / warm) as u32).clamp(1, 2000);
-    let mut runs = [[0.0; RUNS]; 3];
+    let mut runs = [[0.0; RUNS]; N];
+    let mut ratios = [0.0; RUNS];
     for i in 0..RUNS {
-        let (x, y) = (times(&mut a, turns), times(&mut b, turns));
-        (runs[0][i], runs[1][i], runs[2][i]) = (x, y, y / x);
+        for (run, call) in runs.iter_mut().zip(&mut calls) {
+            run[i] = time(call, turns);
+        }
+        ratios[i] = runs[1][i] / runs[0][i];
     }
-    runs.map(|mut of| {
-        of.sort_by(f64::total_cmp);
-        of[RUNS / 2]
-    })
+    let times = runs.map(|run| format!("{:.0}", middle(run))).join("\t");
+    println!("{what}\t{times}\t{:.4}", middle(ratios));
 }
 
-fn measure(what: &str, a: impl FnMut() -> u64, b: impl FnMut() -> u64) {
-    if std::env::args().nth(2).map_or(true, |only| only == what) {
-        let [first, second, ratio] = middle(a, b);
-        println!("{what}\t{first:.0}\t{second:.0}\t{ratio:.4}");
+// The same number returned, and the same bytes in two buffers that began alike, behind the reply too; what the first gave.
+fn same(what: &str, a: impl Fn(&mut [u8]) -> u64, b: impl Fn(&mut [u8]) -> u64) -> (u64, Vec<u8>) {
+    let given = |f: &dyn Fn(&mut [u8]) -> u64| {
+        let mut reply = vec![0xa5; REPLY];
+        (f(&mut reply), reply)
+    };
+    let (a, b) = (given(&a), given(&b));
+    assert!(a == b, "{what}: the two differ, {:?} and {:?}", a.0, b.0);
+    a
+}
+
+const PROGRAMS: [(&str, fn(&[u8], &[u8], &mut [u8]) -> u64); 3] =
+    [("ours", check), ("columns", register::check), ("walk", register::check_by_walk)];
+
+// Ours and both forms of Rust agree on a register, and name this group and this rule or refuse it.
+fn agreed(what: &str, s: &[u8], rows: &[u8], wanted: &[u16]) {
+    for (_, rust) in &PROGRAMS[1..] {
+        let (said, reply) = same(what, |r| check(s, rows, r), |r| rust(s, rows, r));
+        let found = if said >> 32 == 0 { vec![word(&reply, 4), word(&reply, 6)] } else { vec![(said >> 32) as u16] };
+        assert!(found == wanted, "{what}: {found:?} in place of {wanted:?}");
     }
 }
 
-// The same number returned and the same bytes written; what an earlier call left behind them is not compared.
-fn same(what: &str, a: (u64, &[u8]), b: (u64, &[u8])) {
-    let written = |x: (u64, &[u8])| x.1[..x.0 as u32 as usize].to_vec();
-    assert!(a.0 == b.0 && written(a) == written(b), "{what}: the two differ, {:?} and {:?}", a.0, b.0);
+fn measure_register(what: &str, s: &[u8], rows: &[u8], wanted: &[u16]) {
+    agreed(what, s, rows, wanted);
+    let replies = &mut [[0; 8]; 3];
+    let [x, y, z] = replies.each_mut();
+    let call = |i: usize, reply: &mut [u8]| PROGRAMS[i].1(black_box(s), black_box(rows), reply);
+    measure(what, [&mut || call(0, x), &mut || call(1, y), &mut || call(2, z)]);
 }
 
-fn word(b: &[u8], at: usize) -> usize {
-    b[at] as usize + 256 * b[at + 1] as usize
+fn word(b: &[u8], at: usize) -> u16 {
+    u16::from_le_bytes([b[at], b[at + 1]])
 }
 
 // All claims of a sheet.
@@ -88,14 +119,15 @@ fn main() {
     let (x, y) = (&mut vec![0u8; REPLY][..], &mut vec![0u8; REPLY][..]);
     let sheet = |name: &str| fs::read(format!("{folder}/{name}.sheet")).expect(name);
 
+    let rows = |name: &str| fs::read(format!("{folder}/{name}.rows")).expect(name);
+
     // Reading: a largest sheet, an empty register.
     for (place, n) in ["first", "last"].iter().flat_map(|place| LARGE.map(|n| (place, n))) {
         let s = &sheet(&format!("largest-{place}-{n}"))[..];
-        same("reading", (register(s, &[], x), x), (engine::register_walk(s, &[], y), y));
+        same("reading", |r| check(s, &[], r), |r| register::check_by_walk(s, &[], r));
         measure(
             &format!("reading {place} {n}"),
-            || register(black_box(s), &[], x),
-            || engine::register_walk(black_box(s), &[], y),
+            [&mut || check(black_box(s), &[], x), &mut || register::check_by_walk(black_box(s), &[], y)],
         );
     }
 
@@ -104,11 +136,14 @@ fn main() {
         for (what, from) in [("ranges", "claims"), ("bare", "bare")] {
             for n in [16, 32, 64, 128, 256] {
                 let s = &of(from, n)[..];
-                same(shape, (ranges(s, x), x), (engine::ranges(s, y), y));
-                measure(&format!("{what} {shape} {n}"), || ranges(black_box(s), x), || engine::ranges(black_box(s), y));
+                same(shape, |r| ranges(s, r), |r| engine::ranges(s, r));
+                measure(
+                    &format!("{what} {shape} {n}"),
+                    [&mut || ranges(black_box(s), x), &mut || engine::ranges(black_box(s), y)],
+                );
             }
             let [a, b] = LARGE.map(|n| of(from, n));
-            measure(&format!("growth {what} {shape}"), || ranges(&a, x), || ranges(&b, y));
+            measure(&format!("growth {what} {shape}"), [&mut || ranges(&a, x), &mut || ranges(&b, y)]);
         }
         for what in ["claims", "places", "count", "inside", "apart", "place"] {
             for n in [16, 32, 64, 128, 256] {
@@ -120,39 +155,57 @@ fn main() {
                 }
                 measure(
                     &format!("{what} {shape} {n}"),
-                    || each_claim(black_box(s), claim, x),
-                    || each_claim(black_box(s), engine::claim, y),
+                    [&mut || each_claim(black_box(s), claim, x), &mut || each_claim(black_box(s), engine::claim, y)],
                 );
             }
             let [a, b] = LARGE.map(|n| of(what, n));
-            measure(&format!("growth {what} {shape}"), || each_claim(&a, claim, x), || each_claim(&b, claim, y));
+            measure(
+                &format!("growth {what} {shape}"),
+                [&mut || each_claim(&a, claim, x), &mut || each_claim(&b, claim, y)],
+            );
         }
     }
 
-    // Registers: a sheet that the rows fit, and one that they break at its last group alone.
-    let trees = ["star", "bushy", "caterpillar", "chain"];
-    for shape in ["", "-two-rows"].iter().flat_map(|rows| trees.map(|tree| format!("{tree}{rows}"))) {
-        let rows = |n| fs::read(format!("{folder}/register-{shape}-{n}.rows")).expect(&shape);
-        let under = |n, which| sheet(&format!("register-{shape}-{n}-{which}"));
-        for n in LARGE {
-            let reg = &rows(n)[..];
-            for (which, last) in [("fits", 0), ("broken", n)] {
-                let s = &under(n, which)[..];
-                for (how, rust) in [
-                    ("walk", engine::register_walk as fn(&[u8], &[u8], &mut [u8]) -> u64),
-                    ("columns", engine::register_columns),
-                ] {
-                    same(&shape, (register(s, reg, x), x), (rust(s, reg, y), y));
-                    assert!(word(x, 4) == last, "{shape} {n} {which}: group {}", word(x, 4));
-                    measure(
-                        &format!("register {shape} {n} {which} {how}"),
-                        || register(black_box(s), reg, x),
-                        || rust(black_box(s), reg, y),
-                    );
-                }
+    for tree in ["star", "bushy", "caterpillar", "chain"] {
+        // A sheet that the rows fit, and one that they break at its last group alone.
+        for of in ["", "-two-rows"].map(|after| format!("{tree}{after}")) {
+            let rows = LARGE.map(|n| rows(&format!("register-{of}-{n}")));
+            let sheets = LARGE.map(|n| ["fits", "broken"].map(|which| sheet(&format!("register-{of}-{n}-{which}"))));
+            for (i, n) in LARGE.into_iter().enumerate() {
+                measure_register(&format!("register {of} {n} fits"), &sheets[i][0], &rows[i], &[0, 0]);
+                measure_register(&format!("register {of} {n} broken"), &sheets[i][1], &rows[i], &[n as u16, 5]);
             }
+            measure(
+                &format!("growth register {of}"),
+                [&mut || check(&sheets[0][0], &rows[0], x), &mut || check(&sheets[1][0], &rows[1], y)],
+            );
         }
-        let (a, b) = (LARGE.map(|n| under(n, "fits")), LARGE.map(rows));
-        measure(&format!("growth register {shape}"), || register(&a[0], &b[0], x), || register(&a[1], &b[1], y));
+        // Parts of a check, each call going further than the one before; in turns, for the differences.
+        let [bare, fits, first] = ["bare", "fits", "first"].map(|which| sheet(&format!("register-{tree}-256-{which}")));
+        let [all, refused] = ["", "-refused"].map(|which| rows(&format!("register-{tree}-256{which}")));
+        let one = &refused[refused.len() - 42..];
+        let parts: [(&[u8], &[u8], &[u16]); 5] = [
+            (&bare, one, &[12]),
+            (&fits, one, &[12]),
+            (&fits, &refused, &[12]),
+            (&first, &all, &[1, 5]),
+            (&fits, &all, &[0, 0]),
+        ];
+        for (s, rows, wanted) in parts {
+            agreed(tree, s, rows, wanted);
+        }
+        for (program, f) in PROGRAMS {
+            let replies = &mut [[0; 8]; 5];
+            let [a, b, c, d, e] = replies.each_mut();
+            let call = |i: usize, reply: &mut [u8]| f(black_box(parts[i].0), black_box(parts[i].1), reply);
+            measure(
+                &format!("part {tree} {program}"),
+                [&mut || call(0, a), &mut || call(1, b), &mut || call(2, c), &mut || call(3, d), &mut || call(4, e)],
+            );
+        }
+        for (many, n) in [(128, 256), (512, 256), (2048, 32), (2048, 128), (2048, 256)] {
+            let name = format!("size-{tree}-{many}-{n}");
+            measure_register(&format!("size {tree} {many} {n}"), &sheet(&name), &rows(&name), &[0, 0]);
+        }
     }
 }

@@ -1,8 +1,8 @@
-// The three symbols over bench/engine.rs: a library in ordinary Rust, to be spoilt on purpose. A register is checked in
-// both of its ways; where they differ the answer is a number that no register has.
-#[path = "engine.rs"]
-#[allow(dead_code)]
+// The three symbols over bench/engine.rs and bench/register.rs: a library in ordinary Rust, to be spoilt on purpose. A register
+// is checked in both of its ways; where they differ the answer is a number that no register has.
 mod engine;
+mod register;
+mod sheet;
 
 use std::slice::{from_raw_parts, from_raw_parts_mut};
 
@@ -33,9 +33,11 @@ pub unsafe extern "C" fn sheet_register(
     r: *mut u8,
     rl: usize,
 ) -> u64 {
-    let (sheet, reg, reply) = (lent(s, sl), lent(g, gl), buffer(r, rl));
-    let by_walk = engine::register_walk(sheet, reg, reply);
+    let (sheet, rows, reply) = (lent(s, sl), lent(g, gl), buffer(r, rl));
+    let before = reply[..rl.min(8)].to_vec();
+    let by_walk = register::check_by_walk(sheet, rows, reply);
     let said = reply[..rl.min(8)].to_vec();
-    let by_columns = engine::register_columns(sheet, reg, reply);
+    reply[..rl.min(8)].copy_from_slice(&before);
+    let by_columns = register::check(sheet, rows, reply);
     if by_walk == by_columns && said == reply[..rl.min(8)] { by_walk } else { u64::MAX }
 }
