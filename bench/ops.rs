@@ -118,7 +118,6 @@ fn main() {
     let folder = std::env::args().nth(1).expect("a folder of sheets");
     let (x, y) = (&mut vec![0u8; REPLY][..], &mut vec![0u8; REPLY][..]);
     let sheet = |name: &str| fs::read(format!("{folder}/{name}.sheet")).expect(name);
-
     let rows = |name: &str| fs::read(format!("{folder}/{name}.rows")).expect(name);
 
     // Reading: a largest sheet, an empty register.

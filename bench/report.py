@@ -32,7 +32,7 @@ OPERATIONS = {'ranges': 'all ranges', 'bare': 'all ranges, no names', 'count': '
 
 
 def names(edition, groups, place):
-    """As many names as there may be, spread over so many groups, with labels of most bytes that differ in their first or last."""
+    """As many names as there may be, spread over the groups; their labels have most bytes, and differ in the first or last."""
     fill = (b'LONGEST-LABEL' * 3)[:edition.label - 3]
     out = b''
     for i in range(1, NAMES + 1):
@@ -297,12 +297,12 @@ def register_table(measured, after, n, goal):
 
 def against_program(measured, many):
     print('## The register check against an ordinary Rust program\n')
-    print('2,048 rows and 256 groups, a row for each member. The program (`bench/register.rs`, `bench/check.rs`) does the whole '
-          'check through the same bytes, sheet, refusals and reply among it, in two forms: `columns` turns the rows, 64 members '
-          'by 64 groups at a time, into a column of bits for each group and takes the rules by columns; `walk` goes through the '
-          'groups of each member, which is quicker where there are few. Ours is held to the quicker of both. Return and all '
-          'bytes of the reply\'s buffer were the same for all three on every register of this page (%d, with the sheets that '
-          'they stand under), and on those of `tests/agree`.\n' % many)
+    print('2,048 rows and 256 groups, a row for each member. The program (`bench/register.rs`, `bench/check.rs`) does the '
+          'whole check through the same bytes, sheet, refusals and reply among it, in two forms: `columns` turns the rows, 64 '
+          'members by 64 groups at a time, into a column of bits for each group and takes the rules by columns; `walk` goes '
+          'through the groups of each member, which is quicker where there are few. Ours is held to the quicker of both, '
+          'register by register. All three agreed in return and reply on every register measured here (`ops`: all bytes of '
+          'the buffer; `check`: %d registers with their sheets).\n' % many)
     register_table(measured, '', 256, 'at most 1.5 (own 1.1)')
     print('The trees: %s. Modes and bounds are on most groups, no row and no group is empty, 128 names have labels of 32 bytes '
           'that differ in their last three. A member is an ear: of eight recipients six have both ears, two members with one '

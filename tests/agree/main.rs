@@ -1,5 +1,5 @@
-// Holds the library's register check to the ordinary Rust program (bench/register.rs, both of its forms) on registers by chance:
-// the same number returned, the same bytes in two buffers that began alike, also behind the reply and behind the buffer.
+// Holds the library's register check to the ordinary Rust program (bench/register.rs, both of its forms) on registers by
+// chance: the same number returned, the same bytes in two buffers that began alike, behind the reply and the buffer too.
 //
 //   agree [--seed N] [--pairs N] [--only I]     I is one pair's number from a report
 //   agree --self-test                           each of some forms that are wrong on purpose must be noticed
