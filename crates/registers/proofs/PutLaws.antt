@@ -15,7 +15,7 @@ use Rattle.laws.specs.Cases.{compare-le, compare-eq, split}
 use Rattle.laws.specs.Digits.{digit, digit-le, digit-of-zero, digit-or, digit-pow, digit-beyond, ones-of-zero, lowest}
 use Rattle.laws.specs.Sum.{bit}
 use Rattle.bit_matrix.specs.Matrix.{Transposed}
-use Rattle.wire.specs.Edition.{Edition, groupLimit, rowBytes}
+use Rattle.wire.specs.Edition.{Edition, edition1, edition2, groupLimit, rowBytes}
 use Rattle.wire.specs.Limits.{rowLimit}
 use Rattle.wire.specs.Member.{precedes}
 use Rattle.wire.specs.MemberKey.{one-same, rises-or-one}
@@ -89,6 +89,22 @@ bits-more {b} {place} {k} {m} {word} p w l q =
         (omega arith)))
         (λ o. rw (lt-leb (wordBits * k + 1) g o, lt-ltb (g - 1) (wordBits * k) (omega arith), lt-ltb (g - 1) (wordBits * (k + 1)) (omega arith))
         (omega arith))
+
+-- a row has two words or four
+pub words-least : (ed : Edition) → 2 ≤ rowWords ed
+unfolding rowWords groupLimit
+words-least edition1 = omega arith
+words-least edition2 = omega arith
+
+pub words-two : (ed : Edition) → rowWords ed ≤ 2 → rowWords ed ≡ 2
+unfolding rowWords groupLimit
+words-two edition1 l = refl
+words-two edition2 l = absurd (omega arith)
+
+pub words-four : (ed : Edition) → 2 < rowWords ed → rowWords ed ≡ 4
+unfolding rowWords groupLimit
+words-four edition1 l = absurd (omega arith)
+words-four edition2 l = refl
 
 -- groups that the edition has not stay without a digit
 above-put : {ed : Edition} (b : List ℕ) (place : ℕ) {m : ℕ} {t u : List ℕ} → NoneAbove ed t → RowPut ed b place m t u → NoneAbove ed u

@@ -225,14 +225,18 @@ fn put_word(tile: &mut [u64], k: u16, i: usize, word: u64)
     tile[at] = tile[at] | word;
 }
 
-// one of the rows of member i of a tile
+// One of the rows of member i of a tile. It has two words or four, which are put without a loop: a row has too few for one.
 fn put_row(register: &[u8], edition: u16, place: usize, i: usize, tile: &mut [u64])
     requires { ⌜ (place + membershipBytes (editionOf edition) ≤ length (now register)) × ((i < wordBits) × (groupCapacity ≤ length (now tile))) ⌝ }
     ensures { λ _. ⌜ RowPut (editionOf edition) (now (register .entry)) place i (now (tile .entry)) (now (tile .exit)) ⌝ }
 {
-    for k in 0..row_words(edition) {
-        put_word(tile, k, i, word_at(register, place, k));
+    put_word(tile, 0, i, word_at(register, place, 0));
+    put_word(tile, 1, i, word_at(register, place, 1));
+    if row_words(edition) <= 2 {
+        return;
     }
+    put_word(tile, 2, i, word_at(register, place, 2));
+    put_word(tile, 3, i, word_at(register, place, 3));
 }
 
 // How many tiles are put, where the last of so many members is to be in the tile behind them: a tile that has no place left for it is put.
