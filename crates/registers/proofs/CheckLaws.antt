@@ -43,14 +43,14 @@ tallied-refused s d n k t e =
     record { counts = λ rows f. absurd (let z : _≡_ {A = ℕ} 0 1 = cc in omega arith); kept = λ m j f. refl }
 
 -- no digit is set from member n on
-pub others-none : {rs : List Row} {t : List ℕ} {n : ℕ} → ColumnsFilled rs n t → (g i : ℕ) → 1 ≤ g → g ≤ groupCapacity → n ≤ i → i < rowLimit
+pub others-none : {size : ℕ} {rs : List Row} {t : List ℕ} {n : ℕ} → ColumnsFilled size rs n t → (g i : ℕ) → 1 ≤ g → g ≤ size → n ≤ i → i < rowLimit
     → columnDigit t g i ≡ 0
-others-none {rs} {n = n} f g i a c o l = f .each g i a c l ∙ (rw (le-ltb i (length (members rs)) (omega (arith, f .number))))
+others-none {rs = rs} {n = n} f g i a c o l = f .each g i a c l ∙ (rw (le-ltb i (length (members rs)) (omega (arith, f .number))))
 
 -- the counts that were read off are those of the sets
-pub columns-counted : {rs : List Row} {t u : List ℕ} {n words : ℕ} (s : Sheet) → s .size ≤ groupCapacity → ColumnsFilled rs n t → WordsFor n words
+pub columns-counted : {size : ℕ} {rs : List Row} {t u : List ℕ} {n words : ℕ} (s : Sheet) → s .size ≤ size → ColumnsFilled size rs n t → WordsFor n words
     → ColumnsCounted t (s .size) words u → Counted s (columnSets t n) u
-columns-counted {rs} {t} {u} {n} {words} s z f w c =
+columns-counted {t = t} {n = n} {words = words} s z f w c =
     record {
       each = λ g k.
           c .each g (k .first) (k .last)
@@ -60,12 +60,12 @@ columns-counted {rs} {t} {u} {n} {words} s z f w c =
 
 -- the members of a register that was read are no more than the most rows
 pub members-most : (ed : Edition) (groups : ℕ) (b : List ℕ) (rows : ℕ) → read (rowsBefore ed b rows) ≡ readRegister ed groups b
-    → {t : List ℕ} {n : ℕ} → ColumnsFilled (rowsBefore ed b rows) n t → n ≤ rowLimit
+    → {size : ℕ} {t : List ℕ} {n : ℕ} → ColumnsFilled size (rowsBefore ed b rows) n t → n ≤ rowLimit
 members-most ed groups b rows w f = omega (arith, members-within ed b rows (f .number), rows-most ed groups b rows w)
 
 -- a register whose rows were read, and the columns of its n members
-module _ (s : Sheet) (z : s .size ≤ groupCapacity) (ed : Edition) (groups : ℕ) (b : List ℕ) (rows : ℕ)
-    (w : read (rowsBefore ed b rows) ≡ readRegister ed groups b) {t : List ℕ} {n : ℕ} (f : ColumnsFilled (rowsBefore ed b rows) n t) where
+module _ (s : Sheet) {size : ℕ} (z : s .size ≤ size) (ed : Edition) (groups : ℕ) (b : List ℕ) (rows : ℕ)
+    (w : read (rowsBefore ed b rows) ≡ readRegister ed groups b) {t : List ℕ} {n : ℕ} (f : ColumnsFilled size (rowsBefore ed b rows) n t) where
   columns-agree : (rs : List Row) → rowsBefore ed b rows ≡ rs → Agree s (columnSets t n) (listedSets rs)
   columns-agree rs e =
       let f′ = rw e at f in

@@ -29,7 +29,7 @@ use Rattle.rows.proofs.RowBits.{words-groups}
 use Rattle.rows.proofs.RowLaws.{in-group-bit, in-group-none, length-rowsBefore, Stands}
 use Rattle.registers.specs.Columns.{columnWords, columnDigit, ColumnsFilled}
 use Rattle.registers.proofs.ColumnLaws.{digit-bit}
-use Rattle.registers.specs.ColumnSteps.{Put, LowestGroup, tileDigit, NoneAbove, ofMember, MemberPut, wordBit, WordPut, firstBits, RowPut, ofWord, MembersPut, GroupPut, GroupsPut, ColumnPut, nextGroups, ColumnsPut, firstGroups, TilePut, allDigits, TilesFilled, RoomMade, Empty}
+use Rattle.registers.specs.ColumnSteps.{Put, LowestGroup, tileDigit, ofMember, MemberPut, wordBit, WordPut, firstBits, RowPut, ofWord, MembersPut, GroupPut, GroupsPut, ColumnPut, nextGroups, ColumnsPut, firstGroups, TilePut, allDigits, TilesFilled, RoomMade, Empty}
 use Rattle.registers.specs.Joins.{Cleared}
 
 -- what is put in two steps, or not at all
@@ -106,16 +106,6 @@ unfolding rowWords groupLimit
 words-four edition1 l = absurd (omega arith)
 words-four edition2 l = refl
 
--- groups that the edition has not stay without a digit
-above-put : {ed : Edition} (b : List ℕ) (place : ℕ) {m : ℕ} {t u : List ℕ} → NoneAbove ed t → RowPut ed b place m t u → NoneAbove ed u
-above-put {ed} b place {m} n p =
-    record {
-      each = λ g i o y l.
-          p .put .each g i (omega arith) y l
-          ∙ (rw (n .each g i o y l, le-ltb (g - 1) (wordBits * rowWords ed) (omega (arith, words-groups ed)))
-          (split (eqb i m) (λ e. rw e) (λ e. rw e)));
-    }
-
 -- the words of the next n groups are put, word w of their columns
 pub columns-put-none : (l : List ℕ) (before w : ℕ) (t : List ℕ) → ColumnsPut l before 0 w t t
 unfolding nextGroups
@@ -171,17 +161,10 @@ tile-put-more t {l} k {w} p x q =
         (omega arith)))
         (λ y. rw (lt-leb (wordBits * k + 1) g y, lt-ltb (g - 1) (wordBits * k) (omega arith), lt-ltb (g - 1) (wordBits * (k + 1)) (omega arith)) (omega arith))
 
-pub tile-put-all : {ed : Edition} {t : List ℕ} {w : ℕ} {c d : List ℕ} → NoneAbove ed t → MembersPut (firstGroups t (rowWords ed)) w c d → TilePut t w c d
+-- for the groups of its first k words they are the tile's
+first-groups : (t : List ℕ) (k w g i : ℕ) → 1 ≤ g → g ≤ wordBits * k → ofWord w (firstGroups t k) g i ≡ ofWord w (tileDigit t) g i
 unfolding firstGroups
-tile-put-all {ed} {t} {w} n p =
-    record {
-      put = put-as (λ g i a b l. split (eqb (i / wordBits) w)
-          (λ e. rw e
-          (compare-le g (groupLimit ed)
-          (λ o. rw (lt-ltb (g - 1) (wordBits * rowWords ed) (omega (arith, words-groups ed))))
-          (λ o. rw (le-ltb (g - 1) (wordBits * rowWords ed) (omega (arith, words-groups ed)), n .each g (i % wordBits) o b (omega arith)))))
-          (λ e. rw e)) (p .put);
-    }
+first-groups t k w g i a b = rw (lt-ltb (g - 1) (wordBits * k) (omega arith))
 
 -- one digit of word w of a group's column is put
 pub group-put : (h m : ℕ) {w : ℕ} {t u : List ℕ} → ColumnPut h w (2 ^ m) t u → GroupPut h w m t u
@@ -344,16 +327,13 @@ cleared-tile {t} c g i a b l = rw (c .each (wordBits * ((g - 1) / wordBits) + i)
 cleared-of : {t : List ℕ} (w : ℕ) → Cleared groupCapacity t → (g i : ℕ) → 1 ≤ g → g ≤ groupCapacity → ofWord w (tileDigit t) g i ≡ 0
 cleared-of {t} w c g i a b = split (eqb (i / wordBits) w) (λ e. rw e (cleared-tile c g (i % wordBits) a b (omega arith))) (λ e. rw e)
 
-pub none-above : (ed : Edition) {t : List ℕ} → Cleared groupCapacity t → NoneAbove ed t
-none-above ed c = record { each = λ g i o y l. cleared-tile c g i (omega arith) y l }
-
 -- a tile that is full is put, and the next one is begun
-pub room-made : {ed : Edition} {members w : ℕ} {c t d u : List ℕ} → TilePut t w c d → Cleared groupCapacity u
-    → members ≡ wordBits * w + wordBits + 1 → RoomMade ed members c t w d u (w + 1)
-room-made {ed} {members} {w} {c} {t} {d} {u} p x e =
+pub room-made : {words members w : ℕ} {c t d u : List ℕ} → wordBits * words ≤ groupCapacity → TilePut t words w c d → Cleared groupCapacity u
+    → members ≡ wordBits * w + wordBits + 1 → RoomMade words members c t w d u (w + 1)
+room-made {words} {members} {w} {c} {t} {d} {u} z p x e =
     record {
-      above = none-above ed x;
-      same = λ g i a b l. rw (cleared-of (w + 1) x g i a b) (let z = p .put .each g i a b l in omega arith);
+      same = λ g i a b l.
+          rw (cleared-of (w + 1) x g i a (omega arith), ← first-groups t words w g i a b) (let y = p .put .each g i a (omega arith) l in omega arith);
       begun = omega arith;
       within = omega arith;
     }
@@ -374,19 +354,24 @@ member-put f m w c a b p =
     }
 
 -- the digits stay the members' where room is made, and where the last tile is put
-filled-room : {rs : List Row} {n w v m : ℕ} {c t d u : List ℕ} {ed : Edition} → TilesFilled rs n c t w → RoomMade ed m c t w d u v → TilesFilled rs n d u v
+filled-room : {rs : List Row} {words n w v m : ℕ} {c t d u : List ℕ} → TilesFilled (wordBits * words) rs n c t w → RoomMade words m c t w d u v → TilesFilled (wordBits * words) rs n d u v
 filled-room f r = record { number = f .number; each = λ g i a b l. r .same g i a b l ∙ f .each g i a b l }
 
-pub filled-columns : {rs : List Row} {n w : ℕ} {c t d : List ℕ} → TilesFilled rs n c t w → TilePut t w c d → ColumnsFilled rs n d
-filled-columns f p = record { number = f .number; each = λ g i a b l. p .put .each g i a b l ∙ f .each g i a b l }
+pub filled-columns : (words : ℕ) {rs : List Row} {size n w : ℕ} {c t d : List ℕ} → size ≤ wordBits * words → wordBits * words ≤ groupCapacity
+    → TilesFilled (wordBits * words) rs n c t w → TilePut t words w c d → ColumnsFilled size rs n d
+filled-columns words {w = w} {t = t} y z f p =
+    record {
+      number = f .number;
+      each = λ g i a b l. p .put .each g i a (omega arith) l ∙ (rw (first-groups t words w g i a (omega arith)) (f .each g i a (omega arith) l));
+    }
 
 -- the columns of no row
-filled-none : (ed : Edition) (b c t : List ℕ) (w : ℕ) → Empty c → Cleared groupCapacity t → TilesFilled (rowsBefore ed b 0) 0 c t w
+filled-none : (groups : ℕ) → groups ≤ groupCapacity → (ed : Edition) (b c t : List ℕ) (w : ℕ) → Empty c → Cleared groupCapacity t → TilesFilled groups (rowsBefore ed b 0) 0 c t w
 unfolding columnDigit rowsBefore members
-filled-none ed b c t w e x =
+filled-none groups z ed b c t w e x =
     record {
       number = refl;
-      each = λ g i a y l. rw (le-ltb i 0 (omega arith), e .each _, digit-of-zero (i % wordBits), cleared-of w x g i a y) (omega arith);
+      each = λ g i a y l. rw (le-ltb i 0 (omega arith), e .each _, digit-of-zero (i % wordBits), cleared-of w x g i a (omega arith)) (omega arith);
     }
 
 -- no more members than rows
@@ -432,9 +417,9 @@ module _ {ed : Edition} {b : List ℕ} {row : ℕ} {v : RowFound} (s : Stands ed
   members-some e =
       split (v .joined) (λ j. rw j (omega (arith, o .some (rw (is-joined j) (s .some))))) (λ j. rw j (omega arith))
 
-  filled-more : {n m w : ℕ} {c t u : List ℕ} → TilesFilled rs n c t w → m ≡ cond (v .joined) n (n + 1) → wordBits * w < m → m ≤ wordBits * w + wordBits
-      → RowPut ed b (v .bits) (m - 1 - wordBits * w) t u → TilesFilled (rowsBefore ed b (row + 1)) m c u w
-  filled-more {n} {m} {w} {c} f e x y q =
+  filled-more : {groups n m w : ℕ} {c t u : List ℕ} → groups ≤ groupCapacity → TilesFilled groups rs n c t w → m ≡ cond (v .joined) n (n + 1) → wordBits * w < m → m ≤ wordBits * w + wordBits
+      → RowPut ed b (v .bits) (m - 1 - wordBits * w) t u → TilesFilled groups (rowsBefore ed b (row + 1)) m c u w
+  filled-more {groups} {n} {m} {w} {c} z f e x y q =
       let p = member-put (firstBits b (v .bits) (rowWords ed)) (m - 1) w c (omega arith) (omega arith) q in
       rw rows-after
       (split (v .joined)
@@ -442,7 +427,7 @@ module _ {ed : Edition} {b : List ℕ} {row : ℕ} {v : RowFound} (s : Stands ed
       record {
         number = rw (members-joined rs r (is-joined j) (s .some)) same;
         each = λ g i x y l.
-            p .each g i x y l
+            p .each g i x (omega arith) l
             ∙ (rw (f .each g i x y l, same, ← bit-of g x) (sym (joined-in rs r o (is-joined j) (s .some) i g)));
       })
       (λ j. let more : m ≡ length (members rs) + 1 = e ∙ (rw (j, f .number)) in
@@ -450,37 +435,37 @@ module _ {ed : Edition} {b : List ℕ} {row : ℕ} {v : RowFound} (s : Stands ed
       record {
         number = rw (members-new rs r (is-new j), length-append (members rs) (r .member ∷ [])) more;
         each = λ g i x y l.
-            p .each g i x y l
+            p .each g i x (omega arith) l
             ∙ (rw (f .each g i x y l, more, index, ← bit-of g x) (sym (new-in rs r o (is-new j) i g)));
       }))
 
 -- the rows before row `row` do not fall; their members are in the columns and in the tile, which has the last of them
-pub record RowsPut (ed : Edition) (b : List ℕ) (row n : ℕ) (c t : List ℕ) (w : ℕ) : Type 0 where
+pub record RowsPut (ed : Edition) (b : List ℕ) (words row n : ℕ) (c t : List ℕ) (w : ℕ) : Type 0 where
   pub ordered : Ordered (rowsBefore ed b row)
-  pub above : NoneAbove ed t
-  pub filled : TilesFilled (rowsBefore ed b row) n c t w
+  pub within-groups : wordBits * words ≤ groupCapacity
+  pub filled : TilesFilled (wordBits * words) (rowsBefore ed b row) n c t w
   pub from : wordBits * w ≤ n
   pub begun : 1 ≤ n → wordBits * w < n
   pub within : n ≤ wordBits * w + wordBits
 
-pub rows-put-none : (ed : Edition) (b c t : List ℕ) → Empty c → Cleared groupCapacity t → RowsPut ed b 0 0 c t 0
+pub rows-put-none : (ed : Edition) (b : List ℕ) (words : ℕ) → wordBits * words ≤ groupCapacity → (c t : List ℕ) → Empty c → Cleared groupCapacity t → RowsPut ed b words 0 0 c t 0
 unfolding rowsBefore
-rows-put-none ed b c t e x =
+rows-put-none ed b words z c t e x =
     record {
       ordered = ordered-none;
-      above = none-above ed x;
-      filled = filled-none ed b c t 0 e x;
+      within-groups = z;
+      filled = filled-none (wordBits * words) z ed b c t 0 e x;
       from = omega arith;
       begun = λ l. absurd (omega arith);
       within = omega arith;
     }
 
 -- a column has a word for the tile
-pub tiles-within : {ed : Edition} {b : List ℕ} {row n w : ℕ} {c t : List ℕ} → RowsPut ed b row n c t w → n ≤ rowLimit → w < columnWords
+pub tiles-within : {ed : Edition} {b : List ℕ} {words row n w : ℕ} {c t : List ℕ} → RowsPut ed b words row n c t w → n ≤ rowLimit → w < columnWords
 tiles-within {n = n} p l = compare-le 1 n (λ o. omega (arith, p .begun o)) (λ o. omega (arith, p .from))
 
 -- room is wanted for the member of one row more, and with room the row is put
-module _ {ed : Edition} {b : List ℕ} {row : ℕ} {v : RowFound} (s : Stands ed b row v) {n m w : ℕ} {c t : List ℕ} (p : RowsPut ed b row n c t w)
+module _ {ed : Edition} {b : List ℕ} {row : ℕ} {v : RowFound} (s : Stands ed b row v) {words n m w : ℕ} {c t : List ℕ} (p : RowsPut ed b words row n c t w)
     (e : m ≡ cond (v .joined) n (n + 1)) where
   pub room-wanted : (wordBits * w < m) × (m ≤ wordBits * w + wordBits + 1)
   room-wanted =
@@ -489,13 +474,13 @@ module _ {ed : Edition} {b : List ℕ} {row : ℕ} {v : RowFound} (s : Stands ed
       (omega (arith, p .begun (omega arith)), omega (arith, p .within)))
       (λ j. let z = rw j at e in (omega (arith, p .from), omega (arith, p .within)))
 
-  pub rows-put-more : {x : ℕ} {d u u′ : List ℕ} → RoomMade ed m c t w d u x → RowPut ed b (v .bits) (m - 1 - wordBits * x) u u′
-      → RowsPut ed b (row + 1) m d u′ x
+  pub rows-put-more : {x : ℕ} {d u u′ : List ℕ} → RoomMade words m c t w d u x → RowPut ed b (v .bits) (m - 1 - wordBits * x) u u′
+      → RowsPut ed b words (row + 1) m d u′ x
   rows-put-more r q =
       record {
         ordered = ordered-more s (p .ordered);
-        above = above-put b (v .bits) (r .above) q;
-        filled = filled-more s (p .ordered) (filled-room (p .filled) r) e (r .begun) (r .within) q;
+        within-groups = p .within-groups;
+        filled = filled-more s (p .ordered) (p .within-groups) (filled-room (p .filled) r) e (r .begun) (r .within) q;
         from = omega (arith, r .begun);
         begun = λ l. r .begun;
         within = r .within;

@@ -10,7 +10,7 @@ use lib.Bits.{bitAnd}
 use Rattle.laws.specs.Sum.{sum, bit}
 use Rattle.laws.specs.Digits.{digit, Lowest}
 use Rattle.wire.specs.Limits.{rowLimit}
-use Rattle.wire.specs.Edition.{Edition, groupLimit}
+use Rattle.wire.specs.Edition.{Edition}
 use Rattle.wire.specs.Capacity.{groupCapacity}
 use Rattle.wire.specs.RegisterFormat.{Row}
 use Rattle.meaning.specs.OfRecords.{members}
@@ -25,10 +25,6 @@ pub record Put (n : ℕ) (f d e : ℕ → ℕ → ℕ) : Type 0 where
 -- a tile has word k of its member i at 64 * k + i; the word's digits are the member's bits in 64 groups
 unfoldable pub tileDigit : List ℕ → ℕ → ℕ → ℕ
 tileDigit t g i = digit (getD t (wordBits * ((g - 1) / wordBits) + i) 0) ((g - 1) % wordBits)
-
--- no digit is set of a group that the edition has not
-pub record NoneAbove (ed : Edition) (t : List ℕ) : Type 0 where
-  pub each : (g i : ℕ) → groupLimit ed < g → g ≤ groupCapacity → i < wordBits → tileDigit t g i ≡ 0
 
 -- the bits of one member, in a tile: those of a word that comes after `before` groups; of the first k words of the bytes from a
 -- place on, and of a row
@@ -58,7 +54,7 @@ pub record LowestGroup (before word g : ℕ) : Type 0 where
   pub lowest : Lowest word place (bitAnd word (word - 1))
 
 -- the digits of the 64 members of word w: of one of them for one group, and for the groups of a word; of one word for one group; of n words, for the groups after `before`; of a tile, for the
--- groups of its first k words and for all
+-- groups of its first k words
 abbrev pub ofWord : ℕ → (ℕ → ℕ → ℕ) → ℕ → ℕ → ℕ
 ofWord w f g i = cond (eqb (i / wordBits) w) (f g (i % wordBits)) 0
 
@@ -83,23 +79,22 @@ ColumnsPut l before n = MembersPut (nextGroups l before n)
 unfoldable pub firstGroups : List ℕ → ℕ → ℕ → ℕ → ℕ
 firstGroups t k g j = cond (ltb (g - 1) (wordBits * k)) (tileDigit t g j) 0
 
-abbrev pub TilePut : List ℕ → ℕ → List ℕ → List ℕ → Type 0
-TilePut t = MembersPut (tileDigit t)
+abbrev pub TilePut : List ℕ → ℕ → ℕ → List ℕ → List ℕ → Type 0
+TilePut t k = MembersPut (firstGroups t k)
 
 -- the digits of columns, and of a tile that is to be their word w
 abbrev pub allDigits : List ℕ → List ℕ → ℕ → ℕ → ℕ → ℕ
 allDigits c t w g i = max (columnDigit c g i) (ofWord w (tileDigit t) g i)
 
 -- the columns and the tile have a digit for each of the n members of the rows, in the groups of all its rows, and no others
-pub record TilesFilled (rs : List Row) (n : ℕ) (c t : List ℕ) (w : ℕ) : Type 0 where
+pub record TilesFilled (groups : ℕ) (rs : List Row) (n : ℕ) (c t : List ℕ) (w : ℕ) : Type 0 where
   pub number : n ≡ length (members rs)
-  pub each : (g i : ℕ) → 1 ≤ g → g ≤ groupCapacity → i < rowLimit → allDigits c t w g i ≡ bit (memberIn rs i g)
+  pub each : (g i : ℕ) → 1 ≤ g → g ≤ groups → i < rowLimit → allDigits c t w g i ≡ bit (memberIn rs i g)
 
 -- from columns c and tile t behind w words to columns d and tile u behind v words: the digits are the same, and the last of so
 -- many members has its place in the tile
-pub record RoomMade (ed : Edition) (members : ℕ) (c t : List ℕ) (w : ℕ) (d u : List ℕ) (v : ℕ) : Type 0 where
-  pub above : NoneAbove ed u
-  pub same : (g i : ℕ) → 1 ≤ g → g ≤ groupCapacity → i < rowLimit → allDigits d u v g i ≡ allDigits c t w g i
+pub record RoomMade (words members : ℕ) (c t : List ℕ) (w : ℕ) (d u : List ℕ) (v : ℕ) : Type 0 where
+  pub same : (g i : ℕ) → 1 ≤ g → g ≤ wordBits * words → i < rowLimit → allDigits d u v g i ≡ allDigits c t w g i
   pub begun : wordBits * v < members
   pub within : members ≤ wordBits * v + wordBits
 

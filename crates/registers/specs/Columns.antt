@@ -65,7 +65,8 @@ pub record WordsFor (n words : ℕ) : Type 0 where
 abbrev pub BlocksFor : ℕ → ℕ → Type 0
 BlocksFor n blocks = WordsFor n (blockWords * blocks)
 
--- the columns of n members have a digit for each member of the rows, in the groups of all its rows, and no others
-pub record ColumnsFilled (rs : List Row) (n : ℕ) (t : List ℕ) : Type 0 where
+-- the columns of n members have a digit for each member of the rows, in the groups of all its rows, and no others; so many groups
+-- are looked at
+pub record ColumnsFilled (groups : ℕ) (rs : List Row) (n : ℕ) (t : List ℕ) : Type 0 where
   pub number : n ≡ length (members rs)
-  pub each : (g i : ℕ) → 1 ≤ g → g ≤ groupCapacity → i < rowLimit → columnDigit t g i ≡ bit (memberIn rs i g)
+  pub each : (g i : ℕ) → 1 ≤ g → g ≤ groups → i < rowLimit → columnDigit t g i ≡ bit (memberIn rs i g)

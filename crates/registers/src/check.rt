@@ -229,7 +229,7 @@ pub fn check_register(
         Rows::Refused(refusal, row) => Check::Refused(refusal, row),
         Rows::Count(rows) => {
             let mut columns = [0u64; COLUMNS];
-            let n = fill_columns(register, edition, rows, &mut columns);
+            let n = fill_columns(register, edition, size, rows, &mut columns);
             count_groups(&columns, size, BLOCK_WORDS * blocks_for(n), counts);
             let mut some = [0u64; COLUMN_WORDS];
             let mut two = [0u64; COLUMN_WORDS];

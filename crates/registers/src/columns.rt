@@ -23,9 +23,9 @@ ghost use Rattle.laws.specs.Digits.{Lowest};
 ghost use Rattle.wire.specs.Limits.{rowLimit};
 ghost use Rattle.wire.specs.Edition.{editionOf, membershipBytes};
 ghost use Rattle.wire.specs.Capacity.{groupCapacity};
-ghost use Rattle.rows.specs.RowsRead.{wordBits, rowWords, rowsBefore, RowsReadable};
+ghost use Rattle.rows.specs.RowsRead.{wordBits, rowsBefore, RowsReadable};
 ghost use Rattle.registers.specs.Columns.{columnWords, columnsLength, columnWord, BlocksFor, ColumnsFilled};
-ghost use Rattle.registers.specs.ColumnSteps.{LowestGroup, NoneAbove, ofMember, WordPut, RowPut, MembersPut, ColumnPut, GroupPut, GroupsPut, ColumnsPut, firstGroups, TilePut, RoomMade, Empty};
+ghost use Rattle.registers.specs.ColumnSteps.{LowestGroup, ofMember, WordPut, RowPut, MembersPut, ColumnPut, GroupPut, GroupsPut, ColumnsPut, firstGroups, TilePut, RoomMade, Empty};
 ghost use Rattle.registers.specs.Joins.{Cleared};
 
 // one word of a group's column
@@ -127,49 +127,49 @@ fn put_groups(word: u64, before: u16, w: usize, i: usize, columns: &mut [u64])
 }
 
 // the bits of member i of a tile, word by word
-fn put_member(tile: &[u64], edition: u16, w: usize, i: usize, columns: &mut [u64])
-    requires { ⌜ (groupCapacity ≤ length (now tile)) × ((w < columnWords) × ((i < wordBits) × (columnsLength ≤ length (now columns)))) ⌝ }
-    ensures { λ _. ⌜ MembersPut (ofMember i (λ g. firstGroups (now (tile .entry)) (rowWords (editionOf edition)) g i)) w (now (columns .entry)) (now (columns .exit)) ⌝ }
+fn put_member(tile: &[u64], words: u16, w: usize, i: usize, columns: &mut [u64])
+    requires { ⌜ (wordBits * words ≤ length (now tile)) × ((wordBits * words ≤ groupCapacity) × ((w < columnWords) × ((i < wordBits) × (columnsLength ≤ length (now columns))))) ⌝ }
+    ensures { λ _. ⌜ MembersPut (ofMember i (λ g. firstGroups (now (tile .entry)) words g i)) w (now (columns .entry)) (now (columns .exit)) ⌝ }
 {
-    for k in 0..row_words(edition) {
+    for k in 0..words {
         let word = tile[TILE_MEMBERS * (k as usize) + i];
         put_groups(word, WORD_BITS * k, w, i, columns);
     }
 }
 
 // a tile as word w of the columns, member by member
-fn put_members(tile: &[u64], edition: u16, w: usize, columns: &mut [u64])
-    requires { ⌜ (groupCapacity ≤ length (now tile)) × ((w < columnWords) × (columnsLength ≤ length (now columns))) ⌝ }
-    ensures { λ _. ⌜ MembersPut (firstGroups (now (tile .entry)) (rowWords (editionOf edition))) w (now (columns .entry)) (now (columns .exit)) ⌝ }
+fn put_members(tile: &[u64], words: u16, w: usize, columns: &mut [u64])
+    requires { ⌜ (wordBits * words ≤ length (now tile)) × ((wordBits * words ≤ groupCapacity) × ((w < columnWords) × (columnsLength ≤ length (now columns)))) ⌝ }
+    ensures { λ _. ⌜ TilePut (now (tile .entry)) words w (now (columns .entry)) (now (columns .exit)) ⌝ }
 {
     for i in 0..TILE_MEMBERS {
-        put_member(tile, edition, w, i, columns);
+        put_member(tile, words, w, i, columns);
     }
 }
 
 // the same, 64 groups at a time
 fn put_transposed(
     tile: &[u64],
-    edition: u16,
+    words: u16,
     w: usize,
     columns: &mut [u64],
     transposed: &mut [u64],
     spare: &mut [u64],
 )
-    requires { ⌜ (groupCapacity ≤ length (now tile)) × ((w < columnWords) × ((columnsLength ≤ length (now columns)) × ((wordBits ≤ length (now transposed)) × (wordBits ≤ length (now spare))))) ⌝ }
-    ensures { λ _. ⌜ MembersPut (firstGroups (now (tile .entry)) (rowWords (editionOf edition))) w (now (columns .entry)) (now (columns .exit)) ⌝ }
+    requires { ⌜ (wordBits * words ≤ length (now tile)) × ((wordBits * words ≤ groupCapacity) × ((w < columnWords) × ((columnsLength ≤ length (now columns)) × ((wordBits ≤ length (now transposed)) × (wordBits ≤ length (now spare)))))) ⌝ }
+    ensures { λ _. ⌜ TilePut (now (tile .entry)) words w (now (columns .entry)) (now (columns .exit)) ⌝ }
 {
-    for k in 0..row_words(edition) {
+    for k in 0..words {
         transpose(tile, TILE_MEMBERS * (k as usize), transposed, spare);
         put_columns(transposed, WORD_BITS * k, w, columns);
     }
 }
 
 // Whether two members of a tile have few groups each. It decides which way is likely the quicker one, and nothing else.
-fn few_groups(tile: &[u64], edition: u16) -> bool
-    requires { ⌜ groupCapacity ≤ length (now tile) ⌝ }
+fn few_groups(tile: &[u64], words: u16) -> bool
+    requires { ⌜ wordBits * words ≤ length (now tile) ⌝ }
 {
-    for k in 0..row_words(edition) {
+    for k in 0..words {
         let at = TILE_MEMBERS * (k as usize);
         if FEW_GROUPS < groups_in(tile[at]) {
             return false;
@@ -184,35 +184,35 @@ fn few_groups(tile: &[u64], edition: u16) -> bool
 // the one way or the other
 fn put_words(
     tile: &[u64],
-    edition: u16,
+    words: u16,
     w: usize,
     columns: &mut [u64],
     transposed: &mut [u64],
     spare: &mut [u64],
 )
-    requires { ⌜ (groupCapacity ≤ length (now tile)) × ((w < columnWords) × ((columnsLength ≤ length (now columns)) × ((wordBits ≤ length (now transposed)) × (wordBits ≤ length (now spare))))) ⌝ }
-    ensures { λ _. ⌜ MembersPut (firstGroups (now (tile .entry)) (rowWords (editionOf edition))) w (now (columns .entry)) (now (columns .exit)) ⌝ }
+    requires { ⌜ (wordBits * words ≤ length (now tile)) × ((wordBits * words ≤ groupCapacity) × ((w < columnWords) × ((columnsLength ≤ length (now columns)) × ((wordBits ≤ length (now transposed)) × (wordBits ≤ length (now spare)))))) ⌝ }
+    ensures { λ _. ⌜ TilePut (now (tile .entry)) words w (now (columns .entry)) (now (columns .exit)) ⌝ }
 {
-    if few_groups(tile, edition) {
-        put_members(tile, edition, w, columns);
+    if few_groups(tile, words) {
+        put_members(tile, words, w, columns);
         return;
     }
-    put_transposed(tile, edition, w, columns, transposed, spare);
+    put_transposed(tile, words, w, columns, transposed, spare);
 }
 
-// A tile as word w of the columns. Then it is empty.
+// A tile as word w of the columns of the groups that its first words have. Then it is empty.
 fn put_tile(
     tile: &mut [u64],
-    edition: u16,
+    words: u16,
     w: usize,
     columns: &mut [u64],
     transposed: &mut [u64],
     spare: &mut [u64],
 )
-    requires { ⌜ (groupCapacity ≤ length (now tile)) × (NoneAbove (editionOf edition) (now tile) × ((w < columnWords) × ((columnsLength ≤ length (now columns)) × ((wordBits ≤ length (now transposed)) × (wordBits ≤ length (now spare)))))) ⌝ }
-    ensures { λ _. ⌜ TilePut (now (tile .entry)) w (now (columns .entry)) (now (columns .exit)) × Cleared groupCapacity (now (tile .exit)) ⌝ }
+    requires { ⌜ (groupCapacity ≤ length (now tile)) × ((wordBits * words ≤ groupCapacity) × ((w < columnWords) × ((columnsLength ≤ length (now columns)) × ((wordBits ≤ length (now transposed)) × (wordBits ≤ length (now spare)))))) ⌝ }
+    ensures { λ _. ⌜ TilePut (now (tile .entry)) words w (now (columns .entry)) (now (columns .exit)) × Cleared groupCapacity (now (tile .exit)) ⌝ }
 {
-    put_words(tile, edition, w, columns, transposed, spare);
+    put_words(tile, words, w, columns, transposed, spare);
     clear_tile(tile);
 }
 
@@ -242,21 +242,21 @@ fn put_row(register: &[u8], edition: u16, place: usize, i: usize, tile: &mut [u6
 // How many tiles are put, where the last of so many members is to be in the tile behind them: a tile that has no place left for it is put.
 fn make_room(
     tile: &mut [u64],
-    edition: u16,
+    words: u16,
     members: usize,
     tiles: usize,
     columns: &mut [u64],
     transposed: &mut [u64],
     spare: &mut [u64],
 ) -> usize
-    requires { ⌜ (groupCapacity ≤ length (now tile)) × (NoneAbove (editionOf edition) (now tile) × ((members ≤ rowLimit) × ((wordBits * tiles < members) × ((members ≤ wordBits * tiles + wordBits + 1)
+    requires { ⌜ (groupCapacity ≤ length (now tile)) × ((wordBits * words ≤ groupCapacity) × ((members ≤ rowLimit) × ((wordBits * tiles < members) × ((members ≤ wordBits * tiles + wordBits + 1)
         × ((columnsLength ≤ length (now columns)) × ((wordBits ≤ length (now transposed)) × (wordBits ≤ length (now spare)))))))) ⌝ }
-    ensures { λ r. ⌜ RoomMade (editionOf edition) members (now (columns .entry)) (now (tile .entry)) tiles (now (columns .exit)) (now (tile .exit)) r ⌝ }
+    ensures { λ r. ⌜ RoomMade words members (now (columns .entry)) (now (tile .entry)) tiles (now (columns .exit)) (now (tile .exit)) r ⌝ }
 {
     if members <= TILE_MEMBERS * tiles + TILE_MEMBERS {
         return tiles;
     }
-    put_tile(tile, edition, tiles, columns, transposed, spare);
+    put_tile(tile, words, tiles, columns, transposed, spare);
     tiles + 1
 }
 
@@ -271,15 +271,30 @@ fn with_row(members: usize, joined: bool) -> usize
     members + 1
 }
 
-// The columns of the rows of a register that was read, and how many members they have: the reader walks them again, finds each at
-// its place, and tells which go on with the member before.
-pub fn fill_columns(register: &[u8], edition: u16, rows: usize, columns: &mut [u64]) -> usize
-    requires { ⌜ (rows ≤ rowLimit) × (RowsReadable (editionOf edition) (now register) rows × ((columnsLength ≤ length (now columns)) × Empty (now columns))) ⌝ }
-    ensures { λ n. ⌜ ColumnsFilled (rowsBefore (editionOf edition) (now (register .entry)) rows) n (now (columns .exit)) ⌝ }
+// the words that have a bit for each of so many groups
+fn words_for(size: u16) -> u16
+    requires { ⌜ size ≤ groupCapacity ⌝ }
+    ensures { λ r. ⌜ (size ≤ wordBits * r) × (wordBits * r ≤ groupCapacity) ⌝ }
+{
+    (size + WORD_BITS - 1) / WORD_BITS
+}
+
+// The columns of so many groups, of the rows of a register that was read, and how many members they have: the reader walks the rows
+// again, finds each at its place, and tells which go on with the member before.
+pub fn fill_columns(
+    register: &[u8],
+    edition: u16,
+    size: u16,
+    rows: usize,
+    columns: &mut [u64],
+) -> usize
+    requires { ⌜ (size ≤ groupCapacity) × ((rows ≤ rowLimit) × (RowsReadable (editionOf edition) (now register) rows × ((columnsLength ≤ length (now columns)) × Empty (now columns)))) ⌝ }
+    ensures { λ n. ⌜ ColumnsFilled size (rowsBefore (editionOf edition) (now (register .entry)) rows) n (now (columns .exit)) ⌝ }
 {
     let mut tile = [0u64; TILE];
     let mut transposed = [0u64; TILE_MEMBERS];
     let mut spare = [0u64; TILE_MEMBERS];
+    let words = words_for(size);
     let mut at = 0;
     let mut last = 0u64;
     let mut members = 0;
@@ -290,7 +305,7 @@ pub fn fill_columns(register: &[u8], edition: u16, rows: usize, columns: &mut [u
                 members = with_row(members, r.joined);
                 tiles = make_room(
                     &mut tile,
-                    edition,
+                    words,
                     members,
                     tiles,
                     columns,
@@ -317,7 +332,7 @@ pub fn fill_columns(register: &[u8], edition: u16, rows: usize, columns: &mut [u
     }
     put_tile(
         &mut tile,
-        edition,
+        words,
         tiles,
         columns,
         &mut transposed,

@@ -26,7 +26,7 @@ rows-read c = rw (c .rows .given .1) at (c .before .before .read-rows .ensures)
 
 -- the counts are those of the columns
 counted : (c : tie.After-count-groups)
-    → Counted (sheetIn (c .before .before .before .before .before .before .before .before .before .before .before .before .before .before .before .before .before .before .before .args .groups .now) (c .before .before .before .before .before .before .before .before .before .before .before .before .before .before .before .before .before .before .before .args .size)) (columnSets (c .before .before .before .before .before .fill-columns .last .1 .1 .1 .0) (c .before .before .before .before .before .fill-columns .result))
+    → Counted (sheetIn (c .before .before .before .before .before .before .before .before .before .before .before .before .before .before .before .before .before .before .before .args .groups .now) (c .before .before .before .before .before .before .before .before .before .before .before .before .before .before .before .before .before .before .before .args .size)) (columnSets (c .before .before .before .before .before .fill-columns .last .1 .1 .1 .1 .0) (c .before .before .before .before .before .fill-columns .result))
     (c .count-groups .last .1 .1 .1 .0)
 counted c =
     let w = c .before .before in
@@ -60,7 +60,7 @@ slice-aggregate-fill-columns c = search needs
 fill-columns-requires : tie.Need-fill-columns-requires
 fill-columns-requires c κs =
     let r = rows-read (c .before .before) in
-    (rows-most _ _ _ _ r, (rows-readable _ _ _ _ r, (le-refl columnsLength, record { each = zeros columnsLength })))
+    (c .before .before .before .before .before .before .before .before .before .before .before .before .before .pre .0 .small, (rows-most _ _ _ _ r, (rows-readable _ _ _ _ r, (le-refl columnsLength, record { each = zeros columnsLength }))))
 
 slice-aggregate-count-groups : tie.Need-slice-aggregate-count-groups
 slice-aggregate-count-groups c = search needs
@@ -101,7 +101,7 @@ scan-requires c κs =
     let z = size-in (start .args .groups .now) (start .args .size) in (
       start .pre .0,
       record {
-        columns = le-of-eq (sym (f .fill-columns .kept .1 .1 .1 .0));
+        columns = le-of-eq (sym (f .fill-columns .kept .1 .1 .1 .1 .0));
         members = members-most _ _ _ _ (rows-read n) (f .fill-columns .ensures);
         others = λ h i y. others-none (f .fill-columns .ensures) h i (y .first) (omega (arith, y .last, z, start .pre .0 .small));
         sons = g .gather-sons .ensures;
@@ -126,8 +126,8 @@ returns-2 c =
     let f = k .before .before .before .before .before in
     let n = f .before .before .before in
     let start = n .before .before .before .before .before .before .before .before .before .before .before in
-    let z : sheetIn (start .args .groups .now) (start .args .size) .size ≤ groupCapacity
-    = omega (arith, size-in (start .args .groups .now) (start .args .size), start .pre .0 .small) in (
+    let z : sheetIn (start .args .groups .now) (start .args .size) .size ≤ start .args .size
+    = omega (arith, size-in (start .args .groups .now) (start .args .size)) in (
       checked-columns _ z _ _ _ _ (rows-read n) (f .fill-columns .ensures) _ (start .pre .0 .tree) (c .before .before .scan .ensures),
       tallied-columns _ z _ _ _ _ (rows-read n) (f .fill-columns .ensures) _ _ (counted k),
     )

@@ -2,25 +2,17 @@
 use borrow.Author.Needs.{needs}
 use native.Mathlib.Omega.{arith}
 use Prim.Native.Nat.{_-_, _≤_}
-use mathlib.Core.Path.{_≡_}
-use Rattle.wire.specs.Edition.{editionOf}
-use Rattle.wire.specs.EditionFacts.{groups-within}
-use Rattle.rows.specs.RowsRead.{rowWords}
-use Rattle.rows.proofs.RowBits.{words-groups}
 use Rattle.registers.proofs.columns.few_groups.Statement.{statement}
 use Rattle.registers.proofs.columns.few_groups.Tie as tie
 
 abbrev Inv-loop : tie.InvT-loop
-Inv-loop tile edition k₀ k-end k = (k-end ≡ rowWords (editionOf edition)) × (k ≤ k-end)
+Inv-loop tile words k₀ k = k ≤ words
 
 abbrev μ-loop : tie.MeasureT-loop
-μ-loop tile edition k₀ k-end k = k-end - k
-
-row-words-requires : tie.Need-row-words-requires Inv-loop μ-loop
-row-words-requires c κs = search needs
+μ-loop tile words k₀ k = words - k
 
 loop-holds : tie.Need-loop-holds Inv-loop μ-loop
-loop-holds c = (c .row-words .ensures, search needs)
+loop-holds c = omega arith
 
 cast-at : tie.Need-cast-at Inv-loop μ-loop
 cast-at c = search needs
@@ -32,10 +24,7 @@ mul-groups-in : tie.Need-mul-groups-in Inv-loop μ-loop
 mul-groups-in c = search needs
 
 shared-slice-read-groups-in : tie.Need-shared-slice-read-groups-in Inv-loop μ-loop
-shared-slice-read-groups-in c =
-    let l = c .before .before in
-    let ed = editionOf (l .before .before .before .args .edition) in
-    omega (arith, words-groups ed, groups-within ed, l .loop .inv .0, l .before .before .before .pre)
+shared-slice-read-groups-in c = search needs
 
 groups-in-requires : tie.Need-groups-in-requires Inv-loop μ-loop
 groups-in-requires c κs = search needs
@@ -50,10 +39,7 @@ mul-groups-in-2 : tie.Need-mul-groups-in-2 Inv-loop μ-loop
 mul-groups-in-2 c = search needs
 
 shared-slice-read-groups-in-2 : tie.Need-shared-slice-read-groups-in-2 Inv-loop μ-loop
-shared-slice-read-groups-in-2 c =
-    let l = c .before .before .before .before .before in
-    let ed = editionOf (l .before .before .before .args .edition) in
-    omega (arith, words-groups ed, groups-within ed, l .loop .inv .0, l .before .before .before .pre)
+shared-slice-read-groups-in-2 c = search needs
 
 groups-in-requires-2 : tie.Need-groups-in-requires-2 Inv-loop μ-loop
 groups-in-requires-2 c κs = search needs
@@ -79,7 +65,6 @@ few-groups-spec =
     (tie.spec
     Inv-loop
     μ-loop
-    row-words-requires
     loop-holds
     cast-at
     mul-at

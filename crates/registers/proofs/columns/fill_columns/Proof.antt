@@ -17,27 +17,30 @@ use Rattle.registers.proofs.columns.fill_columns.Statement.{statement}
 use Rattle.registers.proofs.columns.fill_columns.Tie as tie
 
 abbrev Inv-loop : tie.InvT-loop
-Inv-loop register edition rows columns₀ tile₀ transposed₀ spare₀ at₀ last₀ members₀ tiles₀ row₀ columns tile transposed spare at last members tiles row =
+Inv-loop register edition size rows columns₀ tile₀ transposed₀ spare₀ words at₀ last₀ members₀ tiles₀ row₀ columns tile transposed spare at last members tiles row =
     (row ≤ rows) × ((at ≡ rowBytes (editionOf edition) * row) × ((keyMember last ≡ lastMember (rowsBefore (editionOf edition) register row))
     × ((length columns ≡ length columns₀) × ((length tile ≡ groupCapacity) × ((length transposed ≡ wordBits) × ((length spare ≡ wordBits)
-    × RowsPut (editionOf edition) register row members columns tile tiles))))))
+    × RowsPut (editionOf edition) register words row members columns tile tiles))))))
 
 abbrev μ-loop : tie.MeasureT-loop
-μ-loop register edition rows columns₀ tile₀ transposed₀ spare₀ at₀ last₀ members₀ tiles₀ row₀ columns tile transposed spare at last members tiles row =
+μ-loop register edition size rows columns₀ tile₀ transposed₀ spare₀ words at₀ last₀ members₀ tiles₀ row₀ columns tile transposed spare at last members tiles row =
     rows - row
 
 -- the reader has reached a row that is known to be readable
 known : (c : tie.After-row-of Inv-loop μ-loop)
-    → RowsReadable (editionOf (c .before .before .before .before .before .args .edition)) (c .before .before .before .before .before .args .register .now) (c .before .before .before .before .before .args .rows)
-known c = c .before .before .before .before .before .pre .1 .0
+    → RowsReadable (editionOf (c .before .before .before .before .before .before .args .edition)) (c .before .before .before .before .before .before .args .register .now) (c .before .before .before .before .before .before .args .rows)
+known c = c .before .before .before .before .before .before .pre .1 .1 .0
 
 -- and hands it up
 found : (c : tie.After-r Inv-loop μ-loop)
-    → Stands (editionOf (c .before .before .before .before .before .before .before .args .edition)) (c .before .before .before .before .before .before .before .args .register .now) (c .before .before .before .before .loop .row) (c .r .given .0 .0)
+    → Stands (editionOf (c .before .before .before .before .before .before .before .before .args .edition)) (c .before .before .before .before .before .before .before .before .args .register .now) (c .before .before .before .before .loop .row) (c .r .given .0 .0)
 found c =
     let f = c .before .before in
     let l = f .before .before .loop in
     row-stands _ (known f) (f .before .loop-test .taken) (l .inv .1 .0) (l .inv .1 .1 .0) _ (rw (c .r .given .1) at (f .row-of .ensures))
+
+words-for-requires : tie.Need-words-for-requires Inv-loop μ-loop
+words-for-requires c κs = search needs
 
 loop-holds : tie.Need-loop-holds Inv-loop μ-loop
 loop-holds c = (
@@ -54,7 +57,7 @@ loop-holds c = (
             length-replicate {A = ℕ} _ 0,
             (
               length-replicate {A = ℕ} _ 0,
-              rows-put-none _ _ _ _ (c .before .before .pre .1 .1 .1) (record { each = λ w l. zeros groupCapacity w }),
+              rows-put-none _ _ _ (c .words-for .ensures .1) _ _ (c .before .before .before .pre .1 .1 .1 .1) (record { each = λ w l. zeros groupCapacity w }),
             ),
           ),
         ),
@@ -73,7 +76,7 @@ with-row-requires : tie.Need-with-row-requires Inv-loop μ-loop
 with-row-requires c κs =
     let f = c .before .before .before in
     let l = f .before .before .loop in
-    omega (arith, members-within _ _ (l .row) (l .inv .1 .1 .1 .1 .1 .1 .1 .filled .number), f .before .loop-test .taken, f .before .before .before .before .before .pre .0)
+    omega (arith, members-within _ _ (l .row) (l .inv .1 .1 .1 .1 .1 .1 .1 .filled .number), f .before .loop-test .taken, f .before .before .before .before .before .before .pre .1 .0)
 
 slice-aggregate-make-room : tie.Need-slice-aggregate-make-room Inv-loop μ-loop
 slice-aggregate-make-room c = search needs
@@ -94,10 +97,10 @@ make-room-requires c κs =
     let wanted = room-wanted (found r) p (w .with-row .ensures) in (
       search needs,
       (
-        p .above,
+        p .within-groups,
         (
-          omega (arith, with-row-most (r .r .given .0 .0 .joined) (l .members), w .with-row .ensures, members-within _ _ (l .row) (p .filled .number), f .before .loop-test .taken, f .before .before .before .before .before .pre .0),
-          (wanted .0, (wanted .1, (rw (l .inv .1 .1 .1 .0) (f .before .before .before .before .before .pre .1 .1 .0), (search needs, search needs)))),
+          omega (arith, with-row-most (r .r .given .0 .0 .joined) (l .members), w .with-row .ensures, members-within _ _ (l .row) (p .filled .number), f .before .loop-test .taken, f .before .before .before .before .before .before .pre .1 .0),
+          (wanted .0, (wanted .1, (rw (l .inv .1 .1 .1 .0) (f .before .before .before .before .before .before .pre .1 .1 .1 .0), (search needs, search needs)))),
         ),
       ),
     )
@@ -149,7 +152,12 @@ returns-2 c =
     (rw (c .enum-told2 .given .1) at (f .row-of .ensures)))
 
 add-row : tie.Need-add-row Inv-loop μ-loop
-add-row c = search needs
+add-row c =
+    let w = c .before .before .before .before .before .before .before .before .before .before .before .before .before in
+    let f = w .before .before .before .before in
+    let taken = f .before .loop-test .taken in
+    let most = f .before .before .before .before .before .before .pre .1 .0 in
+    search (needs, taken, most)
 
 loop-less : tie.Need-loop-less Inv-loop μ-loop
 loop-less c = search needs
@@ -191,9 +199,9 @@ put-tile-requires c κs =
     let p = l .inv .1 .1 .1 .1 .1 .1 .1 in (
       search needs,
       (
-        p .above,
+        p .within-groups,
         (
-          tiles-within p (omega (arith, members-within _ _ (l .row) (p .filled .number), l .inv .0, a .before .before .before .pre .0)),
+          tiles-within p (omega (arith, members-within _ _ (l .row) (p .filled .number), l .inv .0, a .before .before .before .before .pre .1 .0)),
           (search needs, (search needs, search needs)),
         ),
       ),
@@ -207,8 +215,9 @@ returns-3 c =
     let t = c .before .before .before .before .before in
     let a = t .before .before .before .before .before .before in
     let l = a .loop in
-    let full : l .row ≡ a .before .before .before .args .rows = omega arith in
-    filled-columns (rw full at (l .inv .1 .1 .1 .1 .1 .1 .1) .filled) (t .put-tile .ensures .0)
+    let full : l .row ≡ a .before .before .before .before .args .rows = omega arith in
+    let p = rw full at (l .inv .1 .1 .1 .1 .1 .1 .1) in
+    filled-columns _ (a .before .words-for .ensures .0) (p .within-groups) (p .filled) (t .put-tile .ensures .0)
 
 pub fill-columns-spec : {M : Type 1} → statement M
 fill-columns-spec =
@@ -216,6 +225,7 @@ fill-columns-spec =
     (tie.spec
     Inv-loop
     μ-loop
+    words-for-requires
     loop-holds
     row-of-requires
     enum-known-r

@@ -15,13 +15,10 @@ add-if1 c = search needs
 returns : tie.Need-returns
 returns c =
     let s = c .before .before .before .before .before in
-    record { above = s .pre .1 .0; same = λ g i a b l. refl; begun = s .pre .1 .1 .1 .0; within = omega (arith, c .if1 .taken) }
+    record { same = λ g i a b l. refl; begun = s .pre .1 .1 .1 .0; within = omega (arith, c .if1 .taken) }
 
 put-tile-requires : tie.Need-put-tile-requires
-put-tile-requires c κs =
-    let e = c .before .before .before .before in
-    let s = e .before .before .before .before .before in
-    (s .pre .0, (s .pre .1 .0, (omega arith, search needs)))
+put-tile-requires c κs = search needs
 
 add-result : tie.Need-add-result
 add-result c = search needs
@@ -41,7 +38,8 @@ same-length-4 c = search needs
 returns-2 : tie.Need-returns-2
 returns-2 c =
     let p = c .before .before .before .before .before .before .before .before in
-    room-made (p .put-tile .ensures .0) (p .put-tile .ensures .1) (omega arith)
+    let s = p .before .before .before .before .before .before .before .before .before .before in
+    room-made (s .pre .1 .0) (p .put-tile .ensures .0) (p .put-tile .ensures .1) (omega arith)
 
 pub make-room-spec : {M : Type 1} → statement M
 make-room-spec =

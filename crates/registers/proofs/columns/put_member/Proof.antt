@@ -4,26 +4,19 @@ use native.Mathlib.Omega.{arith}
 use Prim.Native.Nat.{_-_, _≤_}
 use mathlib.Core.Path.{_≡_, refl}
 use lib.ListN.{length}
-use Rattle.wire.specs.Edition.{editionOf}
-use Rattle.wire.specs.EditionFacts.{groups-within}
-use Rattle.rows.specs.RowsRead.{rowWords}
-use Rattle.rows.proofs.RowBits.{words-groups}
 use Rattle.registers.proofs.PutLaws.{MemberGroups, member-none, member-more}
 use Rattle.registers.proofs.columns.put_member.Statement.{statement}
 use Rattle.registers.proofs.columns.put_member.Tie as tie
 
 abbrev Inv-loop : tie.InvT-loop
-Inv-loop tile edition w i columns₀ k₀ k-end columns k =
-    (k-end ≡ rowWords (editionOf edition)) × ((k ≤ k-end) × ((length columns ≡ length columns₀) × MemberGroups tile k w i columns₀ columns))
+Inv-loop tile words w i columns₀ k₀ columns k =
+    (k ≤ words) × ((length columns ≡ length columns₀) × MemberGroups tile k w i columns₀ columns)
 
 abbrev μ-loop : tie.MeasureT-loop
-μ-loop tile edition w i columns₀ k₀ k-end columns k = k-end - k
-
-row-words-requires : tie.Need-row-words-requires Inv-loop μ-loop
-row-words-requires c κs = search needs
+μ-loop tile words w i columns₀ k₀ columns k = words - k
 
 loop-holds : tie.Need-loop-holds Inv-loop μ-loop
-loop-holds c = (c .row-words .ensures, (search needs, (refl, member-none _ _ _ _)))
+loop-holds c = (omega arith, (refl, member-none _ _ _ _))
 
 cast-word : tie.Need-cast-word Inv-loop μ-loop
 cast-word c = search needs
@@ -38,25 +31,13 @@ mul-word-2 : tie.Need-mul-word-2 Inv-loop μ-loop
 mul-word-2 c = search needs
 
 shared-slice-read-word : tie.Need-shared-slice-read-word Inv-loop μ-loop
-shared-slice-read-word c =
-    let l = c .before .before in
-    let s = l .before .before .before .before in
-    let ed = editionOf (s .args .edition) in
-    omega (arith, words-groups ed, groups-within ed, l .loop .inv .0, s .pre .0, s .pre .1 .1 .0)
+shared-slice-read-word c = search needs
 
 mul-put-groups : tie.Need-mul-put-groups Inv-loop μ-loop
-mul-put-groups c =
-    let l = c .before .before in
-    let s = l .before .before .before .before in
-    let ed = editionOf (s .args .edition) in
-    omega (arith, words-groups ed, groups-within ed, l .loop .inv .0)
+mul-put-groups c = search needs
 
 put-groups-requires : tie.Need-put-groups-requires Inv-loop μ-loop
-put-groups-requires c κs =
-    let l = c .before .before .before in
-    let s = l .before .before .before .before in
-    let ed = editionOf (s .args .edition) in
-    (omega (arith, words-groups ed, groups-within ed, l .loop .inv .0), search needs)
+put-groups-requires c κs = search needs
 
 add-k : tie.Need-add-k Inv-loop μ-loop
 add-k c = search needs
@@ -68,7 +49,7 @@ loop-again : tie.Need-loop-again Inv-loop μ-loop
 loop-again c =
     let p = c .before .before in
     let l = p .before .before .before .before .loop in
-    (l .inv .0, (search needs, (search needs, member-more _ _ _ (l .inv .1 .1 .1) refl (p .before .before .shared-slice-known2 .given _ .fits) (p .put-groups .ensures))))
+    (search needs, (search needs, member-more _ _ _ (l .inv .1 .1) refl (p .before .before .shared-slice-known2 .given _ .fits) (p .put-groups .ensures)))
 
 same-length : tie.Need-same-length Inv-loop μ-loop
 same-length c = search needs
@@ -76,9 +57,8 @@ same-length c = search needs
 returns : tie.Need-returns Inv-loop μ-loop
 returns c =
     let a = c .before in
-    let l = a .loop in
-    let all : l .k ≡ rowWords (editionOf (a .before .before .before .before .args .edition)) = omega (arith, l .inv .0) in
-    rw all at (l .inv .1 .1 .1)
+    let all : a .loop .k ≡ a .before .before .before .args .words = omega arith in
+    rw all at (a .loop .inv .1 .1)
 
 pub put-member-spec : {M : Type 1} → statement M
 put-member-spec =
@@ -86,7 +66,6 @@ put-member-spec =
     (tie.spec
     Inv-loop
     μ-loop
-    row-words-requires
     loop-holds
     cast-word
     mul-word

@@ -4,18 +4,17 @@ use native.Mathlib.Omega.{arith}
 use Prim.Native.Nat.{_-_, _≤_}
 use mathlib.Core.Path.{_≡_, refl}
 use lib.ListN.{length}
-use Rattle.wire.specs.Edition.{editionOf}
-use Rattle.rows.specs.RowsRead.{wordBits, rowWords}
+use Rattle.rows.specs.RowsRead.{wordBits}
 use Rattle.registers.proofs.PutLaws.{FirstMembers, members-none, members-more, members-all}
 use Rattle.registers.proofs.columns.put_members.Statement.{statement}
 use Rattle.registers.proofs.columns.put_members.Tie as tie
 
 abbrev Inv-loop : tie.InvT-loop
-Inv-loop tile edition w columns₀ i₀ columns i =
-    (i ≤ wordBits) × ((length columns ≡ length columns₀) × FirstMembers tile (rowWords (editionOf edition)) i w columns₀ columns)
+Inv-loop tile words w columns₀ i₀ columns i =
+    (i ≤ wordBits) × ((length columns ≡ length columns₀) × FirstMembers tile words i w columns₀ columns)
 
 abbrev μ-loop : tie.MeasureT-loop
-μ-loop tile edition w columns₀ i₀ columns i = wordBits - i
+μ-loop tile words w columns₀ i₀ columns i = wordBits - i
 
 loop-holds : tie.Need-loop-holds Inv-loop μ-loop
 loop-holds c = (omega arith, (refl, members-none _ _ _ _))

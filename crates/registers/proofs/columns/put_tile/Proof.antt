@@ -1,6 +1,5 @@
 -- `registers::columns::put_tile` meets its contract.
 use borrow.Author.Needs.{needs}
-use Rattle.registers.proofs.PutLaws.{tile-put-all}
 use Rattle.registers.proofs.columns.put_tile.Statement.{statement}
 use Rattle.registers.proofs.columns.put_tile.Tie as tie
 
@@ -25,9 +24,7 @@ same-length-4 c = search needs
 returns : tie.Need-returns
 returns c =
     let t = c .before .before in
-    let p = t .before .before .before .before .before .before .before .before in
-    let s = p .before .before .before .before .before .before .before .before .before in
-    (tile-put-all (s .pre .1 .0) (p .put-words .ensures), t .clear-tile .ensures)
+    (t .before .before .before .before .before .before .before .before .put-words .ensures, t .clear-tile .ensures)
 
 pub put-tile-spec : {M : Type 1} → statement M
 put-tile-spec =

@@ -4,28 +4,21 @@ use native.Mathlib.Omega.{arith}
 use Prim.Native.Nat.{_-_, _≤_}
 use mathlib.Core.Path.{_≡_, refl}
 use lib.ListN.{length}
-use Rattle.wire.specs.Edition.{editionOf}
-use Rattle.wire.specs.EditionFacts.{groups-within}
-use Rattle.rows.specs.RowsRead.{rowWords}
-use Rattle.rows.proofs.RowBits.{words-groups}
-use Rattle.registers.specs.ColumnSteps.{MembersPut, firstGroups}
+use Rattle.registers.specs.ColumnSteps.{TilePut}
 use Rattle.registers.proofs.PutLaws.{tile-put-none, tile-put-more}
 use Rattle.registers.proofs.columns.put_transposed.Statement.{statement}
 use Rattle.registers.proofs.columns.put_transposed.Tie as tie
 
 abbrev Inv-loop : tie.InvT-loop
-Inv-loop tile edition w columns₀ transposed₀ spare₀ k₀ k-end columns transposed spare k =
-    (k-end ≡ rowWords (editionOf edition)) × ((k ≤ k-end) × ((length columns ≡ length columns₀) × ((length transposed ≡ length transposed₀)
-    × ((length spare ≡ length spare₀) × MembersPut (firstGroups tile k) w columns₀ columns))))
+Inv-loop tile words w columns₀ transposed₀ spare₀ k₀ columns transposed spare k =
+    (k ≤ words) × ((length columns ≡ length columns₀) × ((length transposed ≡ length transposed₀) × ((length spare ≡ length spare₀)
+    × TilePut tile k w columns₀ columns)))
 
 abbrev μ-loop : tie.MeasureT-loop
-μ-loop tile edition w columns₀ transposed₀ spare₀ k₀ k-end columns transposed spare k = k-end - k
-
-row-words-requires : tie.Need-row-words-requires Inv-loop μ-loop
-row-words-requires c κs = search needs
+μ-loop tile words w columns₀ transposed₀ spare₀ k₀ columns transposed spare k = words - k
 
 loop-holds : tie.Need-loop-holds Inv-loop μ-loop
-loop-holds c = (c .row-words .ensures, (search needs, (refl, (refl, (refl, tile-put-none _ _ _)))))
+loop-holds c = (omega arith, (refl, (refl, (refl, tile-put-none _ _ _))))
 
 cast-transpose : tie.Need-cast-transpose Inv-loop μ-loop
 cast-transpose c = search needs
@@ -34,23 +27,13 @@ mul-transpose : tie.Need-mul-transpose Inv-loop μ-loop
 mul-transpose c = search needs
 
 transpose-requires : tie.Need-transpose-requires Inv-loop μ-loop
-transpose-requires c κs =
-    let l = c .before .before .before in
-    let s = l .before .before .before .before .before .before in
-    let ed = editionOf (s .args .edition) in
-    (omega (arith, words-groups ed, groups-within ed, l .loop .inv .0, s .pre .0), (search needs, search needs))
+transpose-requires c κs = search needs
 
 mul-put-columns : tie.Need-mul-put-columns Inv-loop μ-loop
-mul-put-columns c =
-    let l = c .before .before .before .before .before .before .before .before .before in
-    let ed = editionOf (l .before .before .before .before .before .before .args .edition) in
-    omega (arith, words-groups ed, groups-within ed, l .loop .inv .0)
+mul-put-columns c = search needs
 
 put-columns-requires : tie.Need-put-columns-requires Inv-loop μ-loop
-put-columns-requires c κs =
-    let l = c .before .before .before .before .before .before .before .before .before .before in
-    let ed = editionOf (l .before .before .before .before .before .before .args .edition) in
-    (omega (arith, words-groups ed, groups-within ed, l .loop .inv .0), (search needs, (search needs, search needs)))
+put-columns-requires c κs = search needs
 
 add-k : tie.Need-add-k Inv-loop μ-loop
 add-k c = search needs
@@ -62,13 +45,8 @@ loop-again : tie.Need-loop-again Inv-loop μ-loop
 loop-again c =
     let p = c .before .before in
     let t = p .before .before .before .before .before .before .before in
-    let l = t .before .before .before .before .loop in (
-      l .inv .0,
-      (
-        search needs,
-        (search needs, (search needs, (search needs, tile-put-more _ _ (l .inv .1 .1 .1 .1 .1) (t .transpose .ensures) (p .put-columns .ensures)))),
-      ),
-    )
+    let l = t .before .before .before .before .loop in
+    (search needs, (search needs, (search needs, (search needs, tile-put-more _ _ (l .inv .1 .1 .1 .1) (t .transpose .ensures) (p .put-columns .ensures)))))
 
 same-length : tie.Need-same-length Inv-loop μ-loop
 same-length c = search needs
@@ -82,9 +60,8 @@ same-length-3 c = search needs
 returns : tie.Need-returns Inv-loop μ-loop
 returns c =
     let a = c .before in
-    let l = a .loop in
-    let all : l .k ≡ rowWords (editionOf (a .before .before .before .before .before .before .args .edition)) = omega (arith, l .inv .0) in
-    rw all at (l .inv .1 .1 .1 .1 .1)
+    let all : a .loop .k ≡ a .before .before .before .before .before .args .words = omega arith in
+    rw all at (a .loop .inv .1 .1 .1 .1)
 
 pub put-transposed-spec : {M : Type 1} → statement M
 put-transposed-spec =
@@ -92,7 +69,6 @@ put-transposed-spec =
     (tie.spec
     Inv-loop
     μ-loop
-    row-words-requires
     loop-holds
     cast-transpose
     mul-transpose
