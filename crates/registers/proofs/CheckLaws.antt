@@ -16,7 +16,6 @@ use Rattle.meaning.specs.Tree.{Tree}
 use Rattle.meaning.specs.OfRecords.{members, listedSets}
 use Rattle.meaning.specs.ReadableRows.{memberIn, distinct-of-readable}
 use Rattle.laws.specs.Cases.{compare-le}
-use Rattle.wire.specs.Capacity.{groupCapacity}
 use Rattle.rows.specs.RowsRead.{wordBits, rowsBefore}
 use Rattle.rows.proofs.RowLaws.{rows-most}
 use Rattle.registers.specs.Columns.{columnDigit, inColumn, columnSets, columns-distinct, WordsFor, ColumnsFilled}

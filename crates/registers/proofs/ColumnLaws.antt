@@ -1,7 +1,7 @@
 -- Laws of columns of digits, word by word.
-use Prim.Native.Nat.{ℕ, _+_, _*_, _/_, _%_, _^_, _≤_, _<_, max}
-use mathlib.Core.Path.{_≡_, sym, ap, _∙_}
-use mathlib.Core.Bool.{true, cond}
+use Prim.Native.Nat.{ℕ, _+_, _*_, _/_, _%_, _≤_, _<_}
+use mathlib.Core.Path.{_≡_, sym}
+use mathlib.Core.Bool.{true}
 use mathlib.Core.List.{List}
 use native.Mathlib.Omega.{arith}
 use borrow.Author.Tests.{eq-eqb, ne-eqb, eqb-true}
@@ -12,7 +12,6 @@ use lib.Bits.{bitOr}
 use Rattle.laws.specs.Sum.{bit}
 use Rattle.laws.specs.Cases.{compare-eq}
 use Rattle.laws.specs.Digits.{digit, digit-le, digit-or}
-use Rattle.wire.specs.Limits.{rowLimit}
 use Rattle.wire.specs.Capacity.{groupCapacity}
 use Rattle.rows.specs.RowsRead.{wordBits}
 use Rattle.registers.specs.Columns.{columnWords, columnsLength, columnWord, columnDigit, inColumn}
