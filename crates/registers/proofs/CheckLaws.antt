@@ -26,7 +26,7 @@ use Rattle.registers.specs.Checked.{AnswerTo, Checked, Tallied}
 use Rattle.registers.specs.declared.check.Check.{Check}
 use Rattle.registers.specs.declared.check.Check.the-variants as check
 use Rattle.registers.proofs.ColumnLaws.{bit-column}
-use Rattle.registers.proofs.PutLaws.{members-within}
+use Rattle.registers.proofs.FillLaws.{members-within}
 use Rattle.registers.proofs.CountLaws.{column-count}
 
 -- a refused register

@@ -53,8 +53,8 @@ pub record LowestGroup (before word g : ℕ) : Type 0 where
   pub numbered : g ≡ before + place + 1
   pub lowest : Lowest word place (bitAnd word (word - 1))
 
--- the digits of the 64 members of word w: of one of them for one group, and for the groups of a word; of one word for one group; of n words, for the groups after `before`; of a tile, for the
--- groups of its first k words
+-- the digits of the 64 members of word w: of one of them, for one group and for the groups of a word; of a word, for one group; of
+-- n words, for the groups after `before`; of a tile, for the groups of its first k words
 abbrev pub ofWord : ℕ → (ℕ → ℕ → ℕ) → ℕ → ℕ → ℕ
 ofWord w f g i = cond (eqb (i / wordBits) w) (f g (i % wordBits)) 0
 

@@ -1,9 +1,9 @@
 // The check of a register: the lowest broken group with its first broken rule, once all rows are read.
 use crate::columns::blocks_for;
 use crate::columns::column_word;
-use crate::columns::fill_columns;
 use crate::counts::count_groups;
 use crate::counts::count_of;
+use crate::fill::fill_columns;
 use crate::joins::join_sons;
 use crate::limits::BLOCK_WORDS;
 use crate::limits::COLUMN_WORDS;
