@@ -1,9 +1,9 @@
 // The reply to `sheet_register` under a sheet that was read: the register's refusal, or the answer of its check.
 // `specs/RegisterReply` writes the operation down.
 // Document 01, "Registers", "Replies", refusals 10 to 14; document 02, card 4 (15).
+use columns::limits::GROUP_PLACES;
 use registers::check::Check;
 use registers::check::check_register;
-use registers::limits::GROUP_PLACES;
 use replies::give_answer;
 use replies::pairs::pack;
 ghost use Rattle.wire.specs.Edition.{editionOf};

@@ -5,7 +5,7 @@ use mathlib.Core.Path.{_≡_, refl, _∙_}
 use mathlib.Core.List.{List}
 use native.Mathlib.Omega.{arith}
 use borrow.Author.Tests.{lt-ltb, le-ltb}
-use lib.ListN.{length, getD, replicate, length-replicate, getD-replicate, List·getD-eq-default}
+use lib.ListN.{length}
 use Rattle.laws.specs.SumLaws.{bit-eq}
 use Rattle.wire.specs.Edition.{Edition}
 use Rattle.wire.specs.Limits.{rowLimit}
@@ -15,18 +15,17 @@ use Rattle.meaning.specs.Sheet.{Sheet}
 use Rattle.meaning.specs.Tree.{Tree}
 use Rattle.meaning.specs.OfRecords.{members, listedSets}
 use Rattle.meaning.specs.ReadableRows.{memberIn, distinct-of-readable}
-use Rattle.laws.specs.Cases.{compare-le}
 use Rattle.rows.specs.RowsRead.{wordBits, rowsBefore}
 use Rattle.rows.proofs.RowLaws.{rows-most}
-use Rattle.registers.specs.Columns.{columnDigit, inColumn, columnSets, columns-distinct, WordsFor, ColumnsFilled}
-use Rattle.registers.specs.ColumnSteps.{ColumnsCounted}
+use Rattle.columns.specs.Columns.{columnDigit, inColumn, columnSets, columns-distinct, WordsFor, ColumnsFilled}
+use Rattle.registers.specs.Tallies.{ColumnsCounted}
 use Rattle.registers.specs.Tallies.{Counted}
 use Rattle.registers.specs.Agree.{Agree, answered-agree, count-agree}
 use Rattle.registers.specs.Checked.{AnswerTo, Checked, Tallied}
 use Rattle.registers.specs.declared.check.Check.{Check}
 use Rattle.registers.specs.declared.check.Check.the-variants as check
-use Rattle.registers.proofs.ColumnLaws.{bit-column}
-use Rattle.registers.proofs.FillLaws.{members-within}
+use Rattle.columns.proofs.ColumnLaws.{bit-column}
+use Rattle.columns.proofs.FillLaws.{members-within}
 use Rattle.registers.proofs.CountLaws.{column-count}
 
 -- a refused register
@@ -99,10 +98,3 @@ module _ (s : Sheet) {size : ℕ} (z : s .size ≤ size) (ed : Edition) (groups 
             record { each = λ g k. c .each g k ∙ count-agree s (columnSets t n) (listedSets rs) g (columns-agree rs same) k };
         kept = λ m j e. absurd (let x = w ∙ e in let o : _≡_ {A = ℕ} 0 1 = cc in omega arith);
       }
-
--- tables start as zeros
-pub zeros : (n i : ℕ) → getD {A = ℕ} (replicate n 0) i 0 ≡ 0
-zeros n i =
-    compare-le n i
-    (λ o. List·getD-eq-default (replicate n 0) 0 (rw (length-replicate {A = ℕ} n 0) o))
-    (λ o. getD-replicate n i 0 0 o)

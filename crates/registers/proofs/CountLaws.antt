@@ -12,9 +12,9 @@ use Rattle.laws.specs.SumLaws.{sum-eq, sum-zero, sum-parts}
 use Rattle.laws.specs.Digits.{digit, ones-digits}
 use Rattle.meaning.specs.Sets.{count}
 use Rattle.rows.specs.RowsRead.{wordBits}
-use Rattle.registers.specs.Columns.{columnWord, columnDigit, columnSets}
-use Rattle.registers.specs.ColumnSteps.{ColumnsCounted}
-use Rattle.registers.proofs.ColumnLaws.{digit-at, column-le, bit-column}
+use Rattle.columns.specs.Columns.{columnWord, columnDigit, columnSets}
+use Rattle.registers.specs.Tallies.{ColumnsCounted}
+use Rattle.columns.proofs.ColumnLaws.{digit-at, column-le, bit-column}
 
 -- one word more
 pub count-word : (t : List ℕ) (g w : ℕ) → getD t (columnWord g w) 0 < 2 ^ 64

@@ -9,8 +9,8 @@ use native.Mathlib.Omega.{arith}
 use native.Mathlib.Nat.{zero-add}
 use native.Mathlib.Numerals.{add-one}
 use borrow.Author.Tests.{lt-ltb}
-use lib.ListN.{length, getD, set, take, length-take, drop-of-length-le}
-use lib.Seq.{getD-set-same, getD-set-other, append-snoc, slice, slice-cons, length-slice}
+use lib.ListN.{length, getD, take, length-take, drop-of-length-le}
+use lib.Seq.{append-snoc, slice, slice-cons, length-slice}
 use lib.Bits.{bitAnd}
 use Rattle.laws.specs.Cases.{compare-le, compare-eq, not-true-false, true-not-false}
 use Rattle.laws.specs.Digits.{digit-of-zero, digit-and, digit-or}
@@ -19,29 +19,12 @@ use Rattle.meaning.specs.SonList.{sonList, Rising}
 use Rattle.meaning.proofs.SonListLaws.{listed-son, son-listed, son-list-rises}
 use Rattle.wire.specs.Capacity.{groupCapacity}
 use Rattle.rows.specs.RowsRead.{wordBits}
-use Rattle.registers.specs.Columns.{columnWord, columnDigit, inColumn}
+use Rattle.columns.specs.Columns.{columnWord, columnDigit, inColumn}
 use Rattle.registers.specs.SonLists.{SonsListed}
 use Rattle.registers.specs.SonSteps.{severalSons, SonsReadable}
-use Rattle.registers.specs.Joins.{Cleared, ColumnJoined, total, heldBy, Joined}
-use Rattle.registers.proofs.ColumnLaws.{column-le, column-one, one-column}
-
--- the words of u below w are f's, those from w on are t's
-pub record WordsTo (f : ℕ → ℕ) (w : ℕ) (t u : List ℕ) : Type 0 where
-  pub done : (v : ℕ) → v < w → getD u v 0 ≡ f v
-  pub left : (v : ℕ) → w ≤ v → getD u v 0 ≡ getD t v 0
-
-pub words-to-none : (f : ℕ → ℕ) (t : List ℕ) → WordsTo f 0 t t
-words-to-none f t = record { done = λ v l. absurd (omega arith); left = λ v l. refl }
-
-pub words-to-more : {f : ℕ → ℕ} {w : ℕ} {t u : List ℕ} (x : ℕ) → WordsTo f w t u → w < length u → x ≡ f w → WordsTo f (w + 1) t (set u w x)
-words-to-more {f} {w} {t} {u} x c l e =
-    record {
-      done = λ v o.
-          compare-eq v w
-          (λ z. rw z (getD-set-same u w x 0 l ∙ e))
-          (λ z. getD-set-other u w v x 0 z ∙ c .done v (omega arith));
-      left = λ v o. getD-set-other u w v x 0 (λ z. omega arith) ∙ c .left v (omega arith);
-    }
+use Rattle.columns.specs.ColumnSteps.{Cleared}
+use Rattle.registers.specs.Joins.{ColumnJoined, total, heldBy, Joined}
+use Rattle.columns.proofs.ColumnLaws.{column-le, column-one, one-column}
 
 -- the digits of words that are 0, and of words to which a column is put
 cleared-digit : {words : ℕ} {t : List ℕ} → Cleared words t → (i : ℕ) → i < wordBits * words → columnDigit t 0 i ≡ 0

@@ -17,10 +17,10 @@ use Rattle.reading.specs.Modes.{disjointMode, coverMode, sameMode}
 use Rattle.reading.specs.SheetIn.{sheetIn, Tabled, group-in, parent-in, lo-in, hi-in, disjoint-in, cover-in, same-in, parent-below}
 use Rattle.meaning.proofs.SonLaws.{son-parent}
 use Rattle.laws.specs.Cases.{and-true, or-left, or-right, split, compare-le}
-use Rattle.registers.specs.Columns.{columnDigit, inColumn, columnSets, WordsFor}
+use Rattle.columns.specs.Columns.{columnDigit, inColumn, columnSets, WordsFor}
 use Rattle.registers.specs.Joins.{asksSons, heldBy, Joined}
 use Rattle.registers.specs.RuleTests.{parentIn, loIn, hiIn, modeIn, mayBreak, memberBreaks, countBreaks}
-use Rattle.registers.proofs.ColumnLaws.{bit-column, column-one, one-column}
+use Rattle.columns.proofs.ColumnLaws.{bit-column, column-one, one-column}
 use Rattle.registers.proofs.JoinLaws.{none-held, held-none, two-held, held-two}
 
 zero-column : (t : List ℕ) (g i : ℕ) → columnDigit t g i ≡ 0 → inColumn t g i ≡ false

@@ -14,7 +14,7 @@ use Rattle.meaning.specs.Rule.{Rule, ruleNumber, Broken}
 use Rattle.reading.specs.SheetIn.{sheetIn, Tabled, size-in, group-in, parent-in}
 use Rattle.laws.specs.Cases.{compare-le, below-suc, true-not-false}
 use Rattle.registers.specs.Unbroken.{unbroken-fits, fits-answered, broken-answered}
-use Rattle.registers.specs.Columns.{columnSets, columns-distinct, WordsFor}
+use Rattle.columns.specs.Columns.{columnSets, columns-distinct, WordsFor}
 use Rattle.registers.specs.SonLists.{keptSons}
 use Rattle.registers.specs.SonSteps.{severalSons}
 use Rattle.registers.specs.Joins.{Joined, JoinedFor}

@@ -14,9 +14,9 @@ use Rattle.laws.specs.Cases.{split, compare-le, compare-eq}
 use Rattle.laws.specs.SumLaws.{bit-true}
 use Rattle.laws.specs.Digits.{digit-of-zero, digit-some, digit-less}
 use Rattle.rows.specs.RowsRead.{wordBits}
-use Rattle.registers.specs.Columns.{columnWord, inColumn}
+use Rattle.columns.specs.Columns.{columnWord, inColumn}
 use Rattle.registers.specs.RuleTests.{MembersPassing, SomeMember}
-use Rattle.registers.proofs.ColumnLaws.{digit-at, bit-column}
+use Rattle.columns.proofs.ColumnLaws.{digit-at, bit-column}
 
 -- a word of a table that has one column
 pub first-word : (t : List ℕ) (w : ℕ) → getD t w 0 ≡ getD t (columnWord 0 w) 0

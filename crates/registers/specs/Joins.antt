@@ -7,11 +7,7 @@ use lib.ListN.{getD}
 use lib.Bits.{bitAnd, bitOr}
 use Rattle.reading.specs.Modes.{disjointMode, coverMode}
 use Rattle.rows.specs.RowsRead.{wordBits}
-use Rattle.registers.specs.Columns.{columnWord, columnDigit}
-
--- the first words of a table are 0
-pub record Cleared (words : ℕ) (t : List ℕ) : Type 0 where
-  pub each : (w : ℕ) → w < words → getD t w 0 ≡ 0
+use Rattle.columns.specs.Columns.{columnWord, columnDigit}
 
 -- group g's column is put to those before
 pub record ColumnJoined (t : List ℕ) (g words : ℕ) (some two some′ two′ : List ℕ) : Type 0 where

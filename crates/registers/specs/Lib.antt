@@ -1,6 +1,4 @@
 pub mod Unbroken
-pub mod Columns
-pub mod ColumnSteps
 pub mod SonLists
 pub mod SonSteps
 pub mod Joins

@@ -11,7 +11,7 @@ use Rattle.laws.specs.Digits.{digit}
 use Rattle.wire.specs.Limits.{noEnd}
 use Rattle.reading.specs.Modes.{disjointMode, coverMode, sameMode}
 use Rattle.rows.specs.RowsRead.{wordBits}
-use Rattle.registers.specs.Columns.{inColumn}
+use Rattle.columns.specs.Columns.{inColumn}
 
 -- by a rule's number, 1 to 4
 abbrev pub byRule : ℕ → Bool → Bool → Bool → Bool → Bool

@@ -3,12 +3,14 @@ use Prim.Native.Nat.{ℕ, _+_, _*_, _≤_, _<_}
 use mathlib.Core.Path.{_≡_}
 use mathlib.Core.List.{List}
 use lib.ListN.{length, getD}
+use Rattle.laws.specs.Sum.{sum}
 use Rattle.wire.specs.Limits.{rowLimit}
 use Rattle.meaning.specs.Sheet.{Sheet, Group}
 use Rattle.meaning.specs.Sets.{Sets, count}
 use Rattle.reading.specs.SheetIn.{sheetIn}
 use Rattle.wire.specs.Capacity.{groupCapacity}
-use Rattle.registers.specs.Columns.{columnWords, blockWords, groupPlaces, columnsLength, columnDigit, columnSets}
+use Rattle.rows.specs.RowsRead.{wordBits}
+use Rattle.columns.specs.Columns.{columnWords, blockWords, groupPlaces, columnsLength, columnDigit, columnSets}
 use Rattle.registers.specs.SonLists.{SonsListed}
 use Rattle.registers.specs.SonSteps.{SonsReadable}
 
@@ -56,3 +58,7 @@ pub record WordAsked (c some two : List ℕ) (w g p : ℕ) : Type 0 where
   pub parent-last : p ≤ groupCapacity
   pub some-words : w < length some
   pub two-words : w < length two
+
+-- place g of the table u is the number of ones of group g's column
+pub record ColumnsCounted (t : List ℕ) (size words : ℕ) (u : List ℕ) : Type 0 where
+  pub each : (g : ℕ) → 1 ≤ g → g ≤ size → getD u g 0 ≡ sum (columnDigit t g) (wordBits * words)

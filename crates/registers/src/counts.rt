@@ -1,5 +1,5 @@
 // How many members each group has: the ones of its column.
-use crate::columns::column_word;
+use columns::table::column_word;
 use reading::tables::GroupNo;
 ghost use mathlib.Core.Path.{_≡_};
 ghost use Prim.Native.Nat.{_*_, _≤_, _<_};
@@ -7,8 +7,8 @@ ghost use lib.ListN.{length, getD, set};
 ghost use Rattle.laws.specs.Sum.{sum};
 ghost use Rattle.wire.specs.Capacity.{groupCapacity};
 ghost use Rattle.rows.specs.RowsRead.{wordBits};
-ghost use Rattle.registers.specs.Columns.{columnWords, columnsLength, columnDigit};
-ghost use Rattle.registers.specs.ColumnSteps.{ColumnsCounted};
+ghost use Rattle.columns.specs.Columns.{columnWords, columnsLength, columnDigit};
+ghost use Rattle.registers.specs.Tallies.{ColumnsCounted};
 
 pub fn count_of(counts: &[u32], g: GroupNo) -> u32
     requires { ⌜ g .0 < length (now counts) ⌝ }

@@ -1,14 +1,15 @@
 // The columns of a group's sons put together: who is in some son, and who is in two.
-use crate::columns::column_word;
 use crate::sons::start_at;
+use columns::table::column_word;
 use reading::tables::GroupNo;
 ghost use Prim.Native.Nat.{_≤_};
 ghost use lib.ListN.{length};
 ghost use Rattle.wire.specs.Capacity.{groupCapacity};
-ghost use Rattle.registers.specs.Columns.{columnWords, columnsLength};
+ghost use Rattle.columns.specs.Columns.{columnWords, columnsLength};
 ghost use Rattle.registers.specs.SonLists.{keptSons};
 ghost use Rattle.registers.specs.SonSteps.{SonsReadable};
-ghost use Rattle.registers.specs.Joins.{Cleared, ColumnJoined, Joined};
+ghost use Rattle.columns.specs.ColumnSteps.{Cleared};
+ghost use Rattle.registers.specs.Joins.{ColumnJoined, Joined};
 
 // nobody is in some son, nor in two
 fn clear(words: usize, some: &mut [u64], two: &mut [u64])

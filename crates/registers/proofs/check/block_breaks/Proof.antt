@@ -4,7 +4,7 @@ use native.Mathlib.Omega.{arith}
 use Prim.Native.Nat.{_+_, _-_, _*_, _≤_}
 use mathlib.Core.Path.{_≡_}
 use Rattle.rows.specs.RowsRead.{wordBits}
-use Rattle.registers.specs.Columns.{blockWords, blockMembers}
+use Rattle.columns.specs.Columns.{blockWords, blockMembers}
 use Rattle.registers.specs.RuleTests.{memberBreaks}
 use Rattle.registers.proofs.WordLaws.{MembersSeen, members-seen-none, members-seen-more, members-seen-all}
 use Rattle.registers.proofs.check.block_breaks.Statement.{statement}

@@ -11,9 +11,10 @@ use Rattle.reading.specs.SheetIn.{sheetIn, size-in}
 use Rattle.wire.specs.Capacity.{groupCapacity}
 use Rattle.rows.specs.RowsRead.{rowsBefore}
 use Rattle.rows.proofs.RowLaws.{rows-most, rows-readable}
-use Rattle.registers.specs.Columns.{columnWords, columnsLength, columnSets}
+use Rattle.columns.specs.Columns.{columnWords, columnsLength, columnSets}
 use Rattle.registers.specs.Tallies.{sonStarts, Counted}
-use Rattle.registers.proofs.CheckLaws.{checked-refused, tallied-refused, others-none, columns-counted, members-most, checked-columns, tallied-columns, zeros}
+use Rattle.columns.proofs.FillLaws.{zeros}
+use Rattle.registers.proofs.CheckLaws.{checked-refused, tallied-refused, others-none, columns-counted, members-most, checked-columns, tallied-columns}
 use Rattle.registers.proofs.check.check_register.Statement.{statement}
 use Rattle.registers.proofs.check.check_register.Tie as tie
 

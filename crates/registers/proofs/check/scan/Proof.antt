@@ -7,7 +7,7 @@ use mathlib.Core.Logic.{⊎-elim}
 use native.Mathlib.Omega.{arith}
 use lib.ListN.{length}
 use Rattle.reading.specs.SheetIn.{sheetIn, size-in, group-in, parent-below}
-use Rattle.registers.specs.Columns.{blockMembers, columnSets}
+use Rattle.columns.specs.Columns.{blockMembers, columnSets}
 use Rattle.registers.specs.RuleTests.{parentIn}
 use Rattle.registers.specs.declared.check.Check.the-variants as check
 use Rattle.registers.proofs.JoinLaws.{sons-readable}

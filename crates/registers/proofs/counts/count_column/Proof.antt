@@ -6,7 +6,7 @@ use mathlib.Core.Path.{_≡_, refl, sym}
 use lib.Count.{ones, ones-le}
 use Rattle.laws.specs.Sum.{sum}
 use Rattle.rows.specs.RowsRead.{wordBits}
-use Rattle.registers.specs.Columns.{columnDigit}
+use Rattle.columns.specs.Columns.{columnDigit}
 use Rattle.registers.proofs.CountLaws.{count-word, count-most}
 use Rattle.registers.proofs.counts.count_column.Statement.{statement}
 use Rattle.registers.proofs.counts.count_column.Tie as tie

@@ -4,7 +4,7 @@ use native.Mathlib.Omega.{arith}
 use Prim.Native.Nat.{_+_, _-_, _≤_}
 use mathlib.Core.Path.{_≡_, refl}
 use lib.ListN.{length}
-use Rattle.registers.specs.ColumnSteps.{ColumnsCounted}
+use Rattle.registers.specs.Tallies.{ColumnsCounted}
 use Rattle.registers.proofs.CountLaws.{counts-none, counts-more}
 use Rattle.registers.proofs.counts.count_groups.Statement.{statement}
 use Rattle.registers.proofs.counts.count_groups.Tie as tie

@@ -4,7 +4,7 @@ use native.Mathlib.Omega.{arith}
 use Prim.Native.Nat.{_-_}
 use mathlib.Core.Path.{_≡_, refl}
 use lib.ListN.{length}
-use Rattle.registers.proofs.JoinLaws.{WordsTo, words-to-none, words-to-more}
+use Rattle.columns.proofs.ColumnLaws.{WordsTo, words-to-none, words-to-more}
 use Rattle.registers.proofs.joins.clear.Statement.{statement}
 use Rattle.registers.proofs.joins.clear.Tie as tie
 

@@ -6,8 +6,8 @@ use Prim.Native.Nat.{_-_}
 use mathlib.Core.Path.{_≡_, refl}
 use lib.ListN.{length, getD}
 use lib.Bits.{bitAnd, bitOr}
-use Rattle.registers.specs.Columns.{columnWord}
-use Rattle.registers.proofs.JoinLaws.{WordsTo, words-to-none, words-to-more}
+use Rattle.columns.specs.Columns.{columnWord}
+use Rattle.columns.proofs.ColumnLaws.{WordsTo, words-to-none, words-to-more}
 use Rattle.registers.proofs.joins.join_column.Statement.{statement}
 use Rattle.registers.proofs.joins.join_column.Tie as tie
 

@@ -1,0 +1,5 @@
+pub mod ColumnLaws
+pub mod PutLaws
+pub mod BitLaws
+pub mod TileLaws
+pub mod FillLaws
