@@ -165,6 +165,7 @@ fn main() {
         }
     }
 
+    measure_register("register mixed", &sheet("mixed"), &rows("mixed"), &[0, 0]);
     for tree in ["star", "bushy", "caterpillar", "chain"] {
         // A sheet that the rows fit, and one that they break at its last group alone.
         for of in ["", "-two-rows"].map(|after| format!("{tree}{after}")) {

@@ -68,11 +68,11 @@ def register(shape, rows_each, n, edition, many=2048):
     into one, and without 'disjoint' often into a second. Where there are fewer members than groups it goes from several,
     and what these part from is not 'disjoint'. Modes and bounds are on most groups. Members are ears, and most recipients
     have two. A member has one row, or two: then the root is in both, and any other of its groups in the first, in the
-    second or in both."""
+    second or in both. 'mixed' is a chain whose members, each by chance, begin at the root or anywhere."""
     rng, parts = random.Random(shape), random.Random('parts')
     groups, members = range(1, n + 1), many // rows_each
     parent = {g: {'star': 1, 'bushy': (g + 2) // 4, 'caterpillar': g - 1 if g % 2 == 0 else g - 2,
-                  'chain': g - 1}[shape] for g in groups}
+                  'chain': g - 1, 'mixed': g - 1}[shape] for g in groups}
     parent[1] = 0
     sons = {g: [s for s in groups if parent[s] == g] for g in groups}
     up = {g: set(way_up([parent[g] for g in groups], g)) for g in groups}
@@ -92,7 +92,8 @@ def register(shape, rows_each, n, edition, many=2048):
     assert sum(m != 0 for m in mode.values()) > n / 2
     rows, size = b'', dict.fromkeys(groups, 0)
     for k, (number, side) in enumerate(ears(members), 1):
-        held = set().union(*(up[g] for g in range(k, n + 1, members) or [rng.randint(1, n)]))
+        low = range(k, n + 1, members) or [1 if shape == 'mixed' and rng.random() < 0.5 else rng.randint(1, n)]
+        held = set().union(*(up[g] for g in low))
         for g in groups:
             if g in held and sons[g]:
                 if mode[g] & SAME:
@@ -241,7 +242,10 @@ def draw():
             write(name + '.rows', rows)
             write(name + '.sheet', under['fits'])
             registers.append((name + '.rows', name + '.sheet'))
-    return sheets, registers
+    rows, under = register('mixed', 1, 256, EDITIONS[1])
+    write('mixed.rows', rows)
+    write('mixed.sheet', under['fits'])
+    return sheets, registers + [('mixed.rows', 'mixed.sheet')]
 
 
 def agreement(library, registers):
@@ -262,7 +266,8 @@ def agreement(library, registers):
 
 def head(parts):
     print('# Benchmarks\n')
-    print('Printed by `%s`. Middle of 101 runs for our operations and for Rust, on the same bytes and taken in turns; middle '
+    print('Printed by `%s`. Middle of 101 runs for our operations and for Rust, on the same bytes and taken in turns, a run '
+          'being as many calls as fill a tenth of a millisecond, one at least; middle '
           'of %d to %d for solvers, each after such 101 runs of ours. A ratio of times taken in turns stands where the machine '
           'does other work too; single times want an idle one. Sheets and registers of up to 128 groups are of edition 1, '
           'those of 256 of edition 2, where nothing else is said.\n' % (' '.join(['bench/run'] + parts), RUNS, 3 * RUNS))
@@ -301,12 +306,16 @@ def against_program(measured, many):
           'whole check through the same bytes, sheet, refusals and reply among it, in two forms: `columns` turns the rows, 64 '
           'members by 64 groups at a time, into a column of bits for each group and takes the rules by columns; `walk` goes '
           'through the groups of each member, which is quicker where there are few. Ours is held to the quicker of both, '
-          'register by register. All three agreed in return and reply on every register measured here (`ops`: all bytes of '
-          'the buffer; `check`: %d registers with their sheets).\n' % many)
-    register_table(measured, '', 256, 'at most 1.5 (own 1.1)')
+          'register by register; our own goal is 1.1. All three agreed in return and reply on every register measured here '
+          '(`ops`: all bytes of the buffer; `check`: %d registers with their sheets).\n' % many)
+    register_table(measured, '', 256, 'at most 1.5')
     print('The trees: %s. Modes and bounds are on most groups, no row and no group is empty, 128 names have labels of 32 bytes '
           'that differ in their last three. A member is an ear: of eight recipients six have both ears, two members with one '
           'number, and two have one.\n' % ', '.join(REGISTERS))
+    (ours, columns, walk), _ = measured['register mixed']
+    print('A chain of 256 groups whose members, each by chance, are in the first two groups or go down to any depth (a tile of '
+          '64 members is put bit by bit where 16 of them have few groups together, else transposed): ours %s, Rust by columns '
+          '%s, by walk %s, %.2f over the quicker.\n' % (show(ours), show(columns), show(walk), ours / min(columns, walk)))
     print('1,024 members, each on two rows, the root in both, any other group in one or both:\n')
     register_table(measured, '-two-rows', 256, None)
     print('128 groups (edition 1, labels of 16 bytes), a row for each member:\n')

@@ -1,5 +1,5 @@
--- The steps to the columns: the words of a row go into a tile, which has 64 members, and the words of a tile, transposed, into the
--- columns. Digits are by group and member.
+-- The steps to the columns: the words of a row go into a tile, which has 64 members, and a tile into one word of each column.
+-- Digits are by group and member.
 use Prim.Native.Nat.{ℕ, _+_, _-_, _*_, _/_, _%_, _≤_, _<_, max}
 use mathlib.Core.Path.{_≡_}
 use mathlib.Core.Bool.{cond}

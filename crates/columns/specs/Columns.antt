@@ -1,5 +1,5 @@
 -- Membership as columns: for each group a column of digits, 64 members a word, member i being digit i mod 64 of word i div 64.
--- A table has the columns one behind the other, by the groups' numbers.
+-- A table has the columns in the order of the groups' numbers.
 use Prim.Native.Nat.{ℕ, _+_, _*_, _/_, _%_, _≤_, _<_}
 use mathlib.Core.Path.{_≡_}
 use mathlib.Core.Bool.{Bool}
@@ -31,9 +31,9 @@ blockMembers = wordBits * blockWords
 abbrev pub groupPlaces : ℕ
 groupPlaces = groupCapacity + 1
 
--- columns stand so many words apart
+-- columns stand so many words apart, more than they have
 abbrev pub columnStride : ℕ
-columnStride = 40
+columnStride = columnWords + 8
 
 abbrev pub columnsLength : ℕ
 columnsLength = columnStride * groupPlaces

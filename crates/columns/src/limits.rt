@@ -24,5 +24,7 @@ pub const BLOCK_WORDS: usize = 8;
 
 pub const BLOCK_MEMBERS: usize = BLOCK_WORDS * WORD_BITS as usize;
 
-// A member that is in no more of 64 groups is taken to be in few.
-pub const FEW_GROUPS: u32 = 2;
+// A tile is taken to have few groups where so many of its members, the same number apart, have no more of 64 groups together.
+pub const SAMPLE: usize = 16;
+
+pub const FEW_GROUPS: u32 = 8;

@@ -1,8 +1,9 @@
 // A tile has the words of 64 members, word k of member i at 64 k + i. It goes into the columns as one word of each: its words are
-// transposed, 64 groups at a time, or put bit by bit where its members are in few groups.
+// transposed, 64 groups at a time, or put bit by bit where a sample of its members is in few groups.
 use crate::bits::groups_in;
 use crate::bits::put_groups;
 use crate::limits::FEW_GROUPS;
+use crate::limits::SAMPLE;
 use crate::limits::TILE;
 use crate::limits::TILE_MEMBERS;
 use crate::table::put_column_word;
@@ -70,16 +71,23 @@ fn put_transposed(
     }
 }
 
-// Whether two members of a tile have few groups each. It decides which way is likely the quicker one, and nothing else.
+// the groups of a sample of a tile's members, of the 64 groups whose words begin at a place
+fn sampled(tile: &[u64], at: usize) -> u64
+    requires { ⌜ at + wordBits ≤ length (now tile) ⌝ }
+{
+    let mut some = 0u64;
+    for j in 0..SAMPLE {
+        some = some | tile[at + TILE_MEMBERS / SAMPLE * j];
+    }
+    some
+}
+
+// Whether a sample of a tile's members have few groups together. It decides which way is likely the quicker one, and nothing else.
 fn few_groups(tile: &[u64], words: u16) -> bool
     requires { ⌜ wordBits * words ≤ length (now tile) ⌝ }
 {
     for k in 0..words {
-        let at = TILE_MEMBERS * (k as usize);
-        if FEW_GROUPS < groups_in(tile[at]) {
-            return false;
-        }
-        if FEW_GROUPS < groups_in(tile[at + TILE_MEMBERS / 2]) {
+        if FEW_GROUPS < groups_in(sampled(tile, TILE_MEMBERS * (k as usize))) {
             return false;
         }
     }
@@ -140,7 +148,7 @@ fn put_word(tile: &mut [u64], k: u16, i: usize, word: u64)
     tile[at] = tile[at] | word;
 }
 
-// One of the rows of member i of a tile. It has two words or four, which are put without a loop: a row has too few for one.
+// One of the rows of member i of a tile. It has two words or four, which are put one after another: a loop over so few took twice as long.
 pub fn put_row(register: &[u8], edition: u16, place: usize, i: usize, tile: &mut [u64])
     requires { ⌜ (place + membershipBytes (editionOf edition) ≤ length (now register)) × ((i < wordBits) × (groupCapacity ≤ length (now tile))) ⌝ }
     ensures { λ _. ⌜ RowPut (editionOf edition) (now (register .entry)) place i (now (tile .entry)) (now (tile .exit)) ⌝ }
