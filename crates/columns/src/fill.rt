@@ -31,7 +31,7 @@ fn with_row(members: usize, joined: bool) -> usize
 }
 
 // the words that have a bit for each of so many groups
-fn words_for(size: u16) -> u16
+fn group_words(size: u16) -> u16
     requires { ⌜ size ≤ groupCapacity ⌝ }
     ensures { λ r. ⌜ (size ≤ wordBits * r) × (wordBits * r ≤ groupCapacity) ⌝ }
 {
@@ -53,7 +53,7 @@ pub fn fill_columns(
     let mut tile = [0u64; TILE];
     let mut transposed = [0u64; TILE_MEMBERS];
     let mut spare = [0u64; TILE_MEMBERS];
-    let words = words_for(size);
+    let words = group_words(size);
     let mut at = 0;
     let mut last = 0u64;
     let mut members = 0;

@@ -39,8 +39,8 @@ found c =
     let l = f .before .before .loop in
     row-stands _ (known f) (f .before .loop-test .taken) (l .inv .1 .0) (l .inv .1 .1 .0) _ (rw (c .r .given .1) at (f .row-of .ensures))
 
-words-for-requires : tie.Need-words-for-requires Inv-loop μ-loop
-words-for-requires c κs = search needs
+group-words-requires : tie.Need-group-words-requires Inv-loop μ-loop
+group-words-requires c κs = search needs
 
 loop-holds : tie.Need-loop-holds Inv-loop μ-loop
 loop-holds c = (
@@ -57,7 +57,7 @@ loop-holds c = (
             length-replicate {A = ℕ} _ 0,
             (
               length-replicate {A = ℕ} _ 0,
-              rows-put-none _ _ _ (c .words-for .ensures .1) _ _ (c .before .before .before .pre .1 .1 .1 .1) (record { each = λ w l. zeros groupCapacity w }),
+              rows-put-none _ _ _ (c .group-words .ensures .1) _ _ (c .before .before .before .pre .1 .1 .1 .1) (record { each = λ w l. zeros groupCapacity w }),
             ),
           ),
         ),
@@ -217,7 +217,7 @@ returns-3 c =
     let l = a .loop in
     let full : l .row ≡ a .before .before .before .before .args .rows = omega arith in
     let p = rw full at (l .inv .1 .1 .1 .1 .1 .1 .1) in
-    filled-columns _ (a .before .words-for .ensures .0) (p .within-groups) (p .filled) (t .put-tile .ensures .0)
+    filled-columns _ (a .before .group-words .ensures .0) (p .within-groups) (p .filled) (t .put-tile .ensures .0)
 
 pub fill-columns-spec : {M : Type 1} → statement M
 fill-columns-spec =
@@ -225,7 +225,7 @@ fill-columns-spec =
     (tie.spec
     Inv-loop
     μ-loop
-    words-for-requires
+    group-words-requires
     loop-holds
     row-of-requires
     enum-known-r
