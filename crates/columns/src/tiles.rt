@@ -148,7 +148,7 @@ fn put_word(tile: &mut [u64], k: u16, i: usize, word: u64)
     tile[at] = tile[at] | word;
 }
 
-// One of the rows of member i of a tile. It has two words or four, which are put one after another: a loop over so few took twice as long.
+// One of the rows of member i of a tile. It has two words or four, put one after another: a loop over so few costs more.
 pub fn put_row(register: &[u8], edition: u16, place: usize, i: usize, tile: &mut [u64])
     requires { ⌜ (place + membershipBytes (editionOf edition) ≤ length (now register)) × ((i < wordBits) × (groupCapacity ≤ length (now tile))) ⌝ }
     ensures { λ _. ⌜ RowPut (editionOf edition) (now (register .entry)) place i (now (tile .entry)) (now (tile .exit)) ⌝ }
