@@ -1,14 +1,14 @@
 -- One exchange, two words at a time: which digits the two words have that are written.
-use Prim.Native.Nat.{ℕ, _+_, _-_, _*_, _/_, _%_, _^_, _≤_, _<_}
+use Prim.Native.Nat.{ℕ, _*_, _%_, _^_, _-_, _/_, _+_, _≤_, _<_}
 use mathlib.Core.Path.{_≡_}
 use mathlib.Core.List.{List}
 use native.Mathlib.Omega.{arith}
-use lib.ListN.{length, getD, set, length-set}
+use lib.ListN.{getD, length, set, length-set}
 use lib.Seq.{getD-set-same, getD-set-other}
 use lib.Bits.{bitAnd, bitOr}
-use Rattle.laws.specs.Cases.{compare-le, compare-eq}
 use Rattle.laws.specs.Digit.{digit}
-use Rattle.laws.specs.Digits.{digit-le, digit-and, digit-or, digit-less, digit-shift, digit-beyond, digit-mod, digit-under, digit-raised}
+use Rattle.laws.proofs.Cases.{compare-le, compare-eq}
+use Rattle.laws.proofs.Digits.{digit-le, digit-and, digit-or, digit-less, digit-shift, digit-beyond, digit-mod, digit-under, digit-raised}
 use Rattle.bit_matrix.specs.Matrix.{side}
 use Rattle.bit_matrix.specs.Exchange.{Mask, fromRow, fromColumn, Exchanged}
 

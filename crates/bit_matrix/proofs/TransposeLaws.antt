@@ -1,5 +1,5 @@
 -- Six exchanges are the transpose: where each digit stands after some of them, and that each exchange brings all digits one step on.
-use Prim.Native.Nat.{ℕ, zero, suc, _+_, _-_, _*_, _/_, _%_, _<_}
+use Prim.Native.Nat.{ℕ, _+_, _*_, _/_, _%_, _<_, zero, suc, _-_}
 use mathlib.Core.Path.{_≡_, refl}
 use mathlib.Core.List.{List}
 use mathlib.Core.Bool.{Bool, true, _&&_}
@@ -7,10 +7,10 @@ use native.Mathlib.Omega.{arith}
 use borrow.Author.Tests.{ltb-true, eqb-true}
 use lib.ListN.{getD}
 use lib.Dec.{eqb, ltb}
-use Rattle.laws.specs.Cases.{and-true, below-suc}
 use Rattle.laws.specs.Digit.{digit}
+use Rattle.laws.proofs.Cases.{and-true, below-suc}
 use Rattle.bit_matrix.specs.Matrix.{side, Transposed}
-use Rattle.bit_matrix.specs.Exchange.{Mask, fromRow, fromColumn, Exchanged}
+use Rattle.bit_matrix.specs.Exchange.{fromRow, fromColumn, Mask, Exchanged}
 
 -- after exchanges down to blocks of s digits, p = 64 / s: which word, and which of its digits, stands at digit c of word r
 abbrev wordFrom : ℕ → ℕ → ℕ → ℕ → ℕ

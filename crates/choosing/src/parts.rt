@@ -10,7 +10,7 @@ ghost use mathlib.Core.Bool.{true, false, cond};
 ghost use mathlib.Core.Logic.{_↔_};
 ghost use Prim.Native.Nat.{_≤_};
 ghost use Rattle.sizes.specs.Span.{In, Makes, join, lap, add, eq};
-ghost use Rattle.sizes.specs.SpanLaws.{sonOf};
+ghost use Rattle.sizes.specs.Span.{sonOf};
 ghost use Rattle.laws.specs.Sum.{bit};
 ghost use Rattle.measuring.specs.Held.{spanHeld, pairOf, kindHeld};
 ghost use Rattle.choosing.specs.Parted.{Divisible, Shared};

@@ -1,24 +1,27 @@
 -- From the tables of a sheet that was read to the claim itself.
 use Prim.Native.Nat.{ℕ, _-_, _≤_, _<_}
-use mathlib.Core.Path.{_≡_, sym, ap, subst, _∙_}
+use mathlib.Core.Path.{_≡_, subst, sym, ap, _∙_}
 use mathlib.Core.List.{List}
 use native.Mathlib.Omega.{arith}
 use lib.ListN.{length}
+use Rattle.reading.specs.declared.records.Head.{Head}
+use Rattle.reading.specs.declared.claim.Claim.{Claim as ClaimRead}
 use Rattle.wire.specs.Record.{read}
 use Rattle.wire.specs.SheetFormat.{nameOf, readSheet}
-use Rattle.wire.specs.Facts.{read-right}
+use Rattle.wire.proofs.Facts.{read-right}
 use Rattle.meaning.specs.Sheet.{Sheet}
 use Rattle.meaning.specs.Place.{Question}
 use Rattle.meaning.specs.OfRecords.{claimed, claimAt}
-use Rattle.meaning.specs.Readable.{name-group-most}
-use Rattle.reading.specs.Answers.{headRecord}
-use Rattle.reading.specs.Tables.{length-groupsIn}
+use Rattle.meaning.proofs.Readable.{name-group-most}
 use Rattle.reading.specs.ClaimHeld.{claimRecord}
-use Rattle.reading.specs.ClaimTable.{claimIn, getD-claimsIn}
-use Rattle.reading.specs.Loaded.{length-recordsIn, recordsOf, Held}
-use Rattle.reading.specs.declared.records.Head.{Head}
-use Rattle.reading.specs.declared.claim.Claim.{Claim as ClaimRead}
-use Rattle.claims.specs.Named.{Askable, claimMeant, claim-named}
+use Rattle.reading.specs.ClaimTable.{claimIn}
+use Rattle.reading.specs.Answers.{headRecord}
+use Rattle.reading.specs.Loaded.{recordsOf, Held}
+use Rattle.reading.proofs.TablesLaws.{length-groupsIn}
+use Rattle.reading.proofs.ClaimTableLaws.{getD-claimsIn}
+use Rattle.reading.proofs.LoadedLaws.{length-recordsIn}
+use Rattle.claims.specs.Named.{Askable, claimMeant}
+use Rattle.claims.proofs.NamedLaws.{claim-named}
 use Rattle.replies.specs.Reply.{Call}
 use Rattle.claim_reply.specs.ClaimReply.{VerdictFor}
 

@@ -1,3 +1,4 @@
+pub mod Answering
 pub mod ShownAlike
 pub mod SetsLaws
 pub mod ClaimLaws

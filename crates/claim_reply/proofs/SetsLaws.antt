@@ -1,24 +1,26 @@
 -- The verdict on a claim, put together: from what the tables show to the sets read back from the reply.
 use Prim.Native.Nat.{ℕ, _-_, _≤_}
-use mathlib.Core.Path.{_≡_, sym, ap, subst, _∙_}
+use mathlib.Core.Path.{_≡_, _∙_, sym, ap, subst}
 use mathlib.Core.List.{List}
 use mathlib.Core.Logic.{inl}
 use native.Mathlib.Omega.{arith}
 use lib.Dec.{eqb}
+use Rattle.claims.specs.declared.verdict.Verdict.{Verdict}
 use Rattle.wire.specs.Limits.{verdictBytes}
 use Rattle.meaning.specs.Sheet.{Sheet}
 use Rattle.meaning.specs.Tree.{Tree}
 use Rattle.meaning.specs.Place.{Question}
-use Rattle.sizes.specs.Witness.{HasWitness, ShownWitness, witness-at}
+use Rattle.sizes.specs.Witness.{ShownWitness, HasWitness}
+use Rattle.sizes.proofs.WitnessLaws.{witness-at}
 use Rattle.runs.specs.Told.{numberIn}
 use Rattle.choosing.specs.Divided.{markedIn}
 use Rattle.claims.specs.Verdict.{verdictNumber}
-use Rattle.claims.specs.Named.{SpeaksUpTo}
 use Rattle.claims.specs.Decided.{Shows}
-use Rattle.claims.specs.declared.verdict.Verdict.{Verdict}
-use Rattle.replies.specs.Wrote.{Wrote, word-kept}
+use Rattle.claims.proofs.NamedLaws.{SpeaksUpTo}
+use Rattle.replies.specs.Wrote.{Wrote}
 use Rattle.replies.specs.Written.{VerdictAt, ShownAt, SetsPut}
-use Rattle.claim_reply.specs.ClaimReply.{shownAt, shownFirst, shownCount, shownMark, VerdictIn, SetsIn}
+use Rattle.replies.proofs.WroteLaws.{word-kept}
+use Rattle.claim_reply.specs.ClaimReply.{VerdictIn, shownAt, shownFirst, shownCount, shownMark, SetsIn}
 use Rattle.claim_reply.proofs.ShownAlike.{shown-fits-alike, shown-witness-alike}
 
 -- the verdict's record, and that it stays under the records after it

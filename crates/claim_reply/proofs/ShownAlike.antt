@@ -6,18 +6,18 @@ use mathlib.Core.Bool.{Bool}
 use mathlib.Core.List.{List, [], _∷_, List·Memᴰ·head, List·Memᴰ·tail}
 use native.Mathlib.Omega.{arith}
 use Rattle.laws.specs.Sum.{bit}
+use Rattle.laws.proofs.SumLaws.{sum-eq}
 use Rattle.meaning.specs.Sheet.{Sheet, Son}
 use Rattle.meaning.specs.Tree.{Tree}
-use Rattle.meaning.specs.Sets.{count, numbered}
+use Rattle.meaning.specs.Sets.{numbered, count}
 use Rattle.meaning.specs.Fits.{Meets, Fits}
 use Rattle.meaning.specs.Claim.{Claim, counted, within, separate, named, union, countNamed, Says}
 use Rattle.meaning.specs.Place.{every, Question, allSay, somePlace}
-use Rattle.sizes.specs.Witness.{ShownWitness}
 use Rattle.meaning.specs.Shown.{shown, above}
-use Rattle.laws.specs.SumLaws.{sum-eq}
 use Rattle.meaning.proofs.SonLaws.{son-parent}
-use Rattle.claims.specs.Groups.{AllUpTo}
-use Rattle.claims.specs.Named.{SpeaksUpTo}
+use Rattle.sizes.specs.Witness.{ShownWitness}
+use Rattle.claims.proofs.GroupsLaws.{AllUpTo}
+use Rattle.claims.proofs.NamedLaws.{SpeaksUpTo}
 
 module _ (n m : ℕ) (h k : ℕ → ℕ → Bool) (e : (g : ℕ) → g ≤ m → (x : ℕ) → h g x ≡ k g x) where
   named-alike : (g : ℕ) → g ≤ m → (x : ℕ) → named (numbered n h) g x ≡ named (numbered n k) g x

@@ -1,3 +1,2 @@
 pub mod ClaimReply
-pub mod Answering
 pub mod Asked

@@ -1,31 +1,26 @@
 -- The verdict on a claim: document 01, "Replies" (kinds 18 and 19); document 02, card 1. Which sets are shown is open but for
 -- this: they fit, and they answer what the claim asks.
 use Prim.Native.Nat.{ℕ, _≤_}
-use mathlib.Core.Path.{_≡_, refl}
-use mathlib.Core.Bool.{Bool, true, false, cond, true≢false, false≢true}
+use mathlib.Core.Path.{_≡_}
+use mathlib.Core.Bool.{Bool, cond, false, true}
 use mathlib.Core.List.{List}
-use Rattle.meaning.specs.Sheet.{Sheet, Group}
-use Rattle.meaning.specs.Tree.{Tree, Rooted}
-use Rattle.meaning.specs.Sets.{Sets}
-use Rattle.meaning.specs.Fits.{Fits}
-use Rattle.wire.specs.SheetFormat.{ListKind, inside, apart, place}
-use Rattle.meaning.specs.Place.{Question, allSay, somePlace, listsAsk}
-use Rattle.meaning.specs.Shown.{shown, above}
-use Rattle.sizes.specs.Runs.{runs-first, shown-fits-above}
-use Rattle.sizes.specs.Witness.{HasWitness, ShownWitness}
-use Rattle.reading.specs.ClaimHeld.{listAs, claimRecord}
 use Rattle.reading.specs.declared.claim.Claim.{Claim as ClaimRead}
-use Rattle.reading.specs.declared.claim.Claim.the-variants as claim
-use Rattle.runs.specs.Told.{numberIn, Told, told-runs}
-use Rattle.choosing.specs.Divided.{markedIn}
-use Rattle.claims.specs.Verdict.{verdictNumber}
-use Rattle.claims.specs.Judged.{Showing}
-use Rattle.claims.specs.Named.{claimMeant}
-use Rattle.claims.specs.Ways.{isPlace}
 use Rattle.claims.specs.declared.verdict.Verdict.{Verdict}
 use Rattle.claims.specs.declared.verdict.Verdict.the-variants.{Holds, Denied}
 use Rattle.claims.specs.declared.verdict.Decision.{Decision}
 use Rattle.claims.specs.declared.verdict.Decision.the-variants.{Shown, Alone}
+use Rattle.meaning.specs.Sheet.{Sheet, Group}
+use Rattle.meaning.specs.Sets.{Sets}
+use Rattle.meaning.specs.Fits.{Fits}
+use Rattle.meaning.specs.Place.{Question, allSay, somePlace}
+use Rattle.meaning.specs.Shown.{shown, above}
+use Rattle.sizes.specs.Witness.{ShownWitness, HasWitness}
+use Rattle.reading.specs.ClaimHeld.{listAs}
+use Rattle.runs.specs.Told.{numberIn}
+use Rattle.choosing.specs.Divided.{markedIn}
+use Rattle.claims.specs.Verdict.{verdictNumber}
+use Rattle.claims.specs.Ways.{isPlace}
+use Rattle.reading.specs.declared.claim.Claim.the-variants as claim
 
 -- Sets that answer a claim deny one of kinds 4 to 6 and grant one of kind 7; where there are none, it is the other way round.
 abbrev pub verdictOn : Question → Bool → Verdict
@@ -36,19 +31,6 @@ verdictOn (somePlace l r) answered = cond answered Holds Denied
 abbrev pub asksPlace : ClaimRead → Bool
 asksPlace (claim.Count k) = false
 asksPlace (claim.Lists l) = isPlace (listAs (l .kind))
-
--- the verdict on a claim that is read, by that
-pub verdict-read : (c : ClaimRead) (sheet names : List ℕ) (answered : Bool)
-    → verdictOn (claimMeant names (claimRecord sheet c)) answered ≡ cond (asksPlace c) (cond answered Holds Denied) (cond answered Denied Holds)
-unfolding claimMeant
-verdict-read (claim.Count k) sheet names answered = refl
-verdict-read (claim.Lists l) sheet names answered = by-kind _ _ (listAs (l .kind))
-  where
-    by-kind : (l r : List ℕ) (k : ListKind)
-        → verdictOn (listsAsk k l r) answered ≡ cond (isPlace k) (cond answered Holds Denied) (cond answered Denied Holds)
-    by-kind l r inside = refl
-    by-kind l r apart = refl
-    by-kind l r place = refl
 
 -- the verdict's number, and whether sets are shown
 abbrev pub decisionNumber : Decision → ℕ
@@ -76,24 +58,3 @@ pub record Decided (s : Sheet) (q : Question) (firsts sizes marks : List ℕ) (r
   pub shown : decisionShows r ≡ true → Shows s q firsts sizes marks
   -- no sets that fit answer it
   pub alone : decisionShows r ≡ false → HasWitness s q → ⊥
-
--- numbers that show an answer, with starts
-pub showing-shows : {s : Sheet} {q : Question} {firsts sizes marks : List ℕ} → Tree s → Rooted s → Showing s q sizes marks
-    → Told s (numberIn sizes) (numberIn firsts) → Shows s q firsts sizes marks
-showing-shows {firsts = firsts} t r d w =
-    let f = d .fitting .found in
-    let h = told-runs t r (f .choice .others) w in
-    record {
-      fits = shown-fits-above t (f .choice) h;
-      shows = d .shows (numberIn firsts) h;
-      first = runs-first t (f .choice .others) h;
-      mark = f .bits;
-    }
-
-pub decided-shown : {s : Sheet} {q : Question} {firsts sizes marks : List ℕ} {v : Verdict} → v ≡ verdictOn q true
-    → Shows s q firsts sizes marks → Decided s q firsts sizes marks (Shown v)
-decided-shown e w = record { number = rw e; shown = λ o. w; alone = λ o. absurd (true≢false o) }
-
-pub decided-alone : {s : Sheet} {q : Question} {firsts sizes marks : List ℕ} {v : Verdict} → v ≡ verdictOn q false
-    → (HasWitness s q → ⊥) → Decided s q firsts sizes marks (Alone v)
-decided-alone e h = record { number = rw e; shown = λ o. absurd (false≢true o); alone = λ o. h }

@@ -1,14 +1,12 @@
 -- Whether some sets that fit answer a question by themselves, with numbers and marks that show such sets.
 use Prim.Native.Nat.{ℕ}
-use mathlib.Core.Path.{_≡_}
-use mathlib.Core.Bool.{Bool, true}
+use mathlib.Core.Bool.{Bool}
 use mathlib.Core.List.{List}
-use Rattle.meaning.specs.Sheet.{Sheet, Group}
+use Rattle.meaning.specs.Sheet.{Sheet}
 use Rattle.meaning.specs.Place.{Question}
 use Rattle.meaning.specs.Shown.{shown, above}
-use Rattle.sizes.specs.Balanced.{Choice}
 use Rattle.sizes.specs.Runs.{Starts}
-use Rattle.sizes.specs.Witness.{HasWitness, ShownWitness}
+use Rattle.sizes.specs.Witness.{ShownWitness, HasWitness}
 use Rattle.runs.specs.Told.{numberIn}
 use Rattle.choosing.specs.Divided.{markedIn}
 use Rattle.choosing.specs.Chosen.{Found}
@@ -28,8 +26,3 @@ pub record Showing (s : Sheet) (q : Question) (sizes marks : List ℕ) : Type 0 
 
 abbrev pub Judged : Sheet → Question → List ℕ → List ℕ → Bool → Type 0
 Judged s q sizes marks x = Witnessed (Showing s q sizes marks) (HasWitness s q) x
-
--- a choice looks at the flags of its own states only
-pub choice-allowed : {s : Sheet} {may can : ℕ → Bool → Bool} {f : ℕ → ℕ} {M : ℕ → Bool}
-    → ((g : ℕ) → Group s g → can g (M g) ≡ true) → Choice s may f M → Choice s can f M
-choice-allowed e w = record { others = w .others; one = w .one; least = w .least; most = w .most; allowed = e }

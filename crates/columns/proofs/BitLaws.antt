@@ -1,19 +1,20 @@
 -- The groups of a word are put into the columns one by one, the lowest first.
-use Prim.Native.Nat.{ℕ, zero, suc, _+_, _-_, _/_, _%_, _^_, _≤_, _<_, max}
-use mathlib.Core.Path.{_≡_, refl, sym}
+use Prim.Native.Nat.{ℕ, _/_, _%_, _^_, _+_, _-_, _≤_, max, zero, suc, _<_}
+use mathlib.Core.Path.{_≡_, sym, refl}
 use mathlib.Core.Bool.{cond}
 use mathlib.Core.List.{List}
 use native.Mathlib.Omega.{arith}
-use borrow.Author.Tests.{le-leb, lt-leb, eq-eqb, ne-eqb}
+use borrow.Author.Tests.{eq-eqb, ne-eqb, le-leb, lt-leb}
 use lib.Dec.{eqb}
 use lib.Bits.{bitAnd}
 use lib.Count.{ones}
-use Rattle.laws.specs.Cases.{compare-le, compare-eq, split}
-use Rattle.laws.specs.Digits.{digit, digit-le, digit-of-zero, digit-pow, ones-of-zero, lowest}
 use Rattle.laws.specs.Sum.{bit}
+use Rattle.laws.specs.Digit.{digit}
+use Rattle.laws.proofs.Cases.{compare-eq, split, compare-le}
+use Rattle.laws.proofs.Digits.{digit-pow, digit-le, digit-of-zero, lowest, ones-of-zero}
 use Rattle.rows.specs.RowsRead.{wordBits}
 use Rattle.columns.specs.Columns.{columnDigit}
-use Rattle.columns.specs.ColumnSteps.{LowestGroup, ofMember, wordBit, MembersPut, GroupPut, GroupsPut, ColumnPut}
+use Rattle.columns.specs.ColumnSteps.{GroupPut, ColumnPut, wordBit, ofMember, MembersPut, LowestGroup, GroupsPut}
 use Rattle.columns.proofs.PutLaws.{put-as, put-none, put-then}
 
 -- one digit of word w of a group's column is put

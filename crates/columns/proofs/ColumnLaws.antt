@@ -1,21 +1,26 @@
 -- Laws of columns of digits, word by word.
-use Prim.Native.Nat.{ℕ, _+_, _*_, _/_, _%_, _≤_, _<_}
-use mathlib.Core.Path.{_≡_, refl, sym, _∙_}
+use Prim.Native.Nat.{ℕ, _+_, _*_, _/_, _%_, _<_, _≤_}
+use mathlib.Core.Path.{_≡_, sym, refl, _∙_}
 use mathlib.Core.Bool.{true}
 use mathlib.Core.List.{List}
+use lib.ListN.{getD, length, set}
+use lib.Dec.{eqb}
 use native.Mathlib.Omega.{arith}
 use borrow.Author.Tests.{eq-eqb, ne-eqb, eqb-true}
-use lib.ListN.{length, getD, set}
 use lib.Seq.{getD-set-same, getD-set-other}
-use lib.Dec.{eqb}
 use lib.Bits.{bitOr}
 use Rattle.laws.specs.Sum.{bit}
-use Rattle.laws.specs.Cases.{compare-eq}
-use Rattle.laws.specs.Digits.{digit, digit-le, digit-or}
+use Rattle.laws.specs.Digit.{digit}
+use Rattle.laws.proofs.Cases.{compare-eq}
+use Rattle.laws.proofs.Digits.{digit-le, digit-or}
 use Rattle.wire.specs.Capacity.{groupCapacity}
+use Rattle.meaning.specs.Sets.{Distinct}
 use Rattle.rows.specs.RowsRead.{wordBits}
-use Rattle.columns.specs.Columns.{columnWords, columnsLength, columnWord, columnDigit, inColumn}
+use Rattle.columns.specs.Columns.{columnSets, columnWord, columnDigit, inColumn, columnWords, columnsLength}
 use Rattle.columns.specs.ColumnSteps.{ColumnPut}
+
+pub columns-distinct : (t : List ℕ) (n : ℕ) → Distinct (columnSets t n)
+columns-distinct t n = record { once = λ i j k l e. e }
 
 -- digit j of word w
 pub digit-at : (t : List ℕ) (g w j : ℕ) → j < wordBits → columnDigit t g (wordBits * w + j) ≡ digit (getD t (columnWord g w) 0) j

@@ -1,32 +1,37 @@
 -- The digits of columns and tile are those of the members of the rows so far.
-use Prim.Native.Nat.{ℕ, _+_, _-_, _*_, _/_, _%_, _≤_, _<_}
-use mathlib.Core.Path.{_≡_, refl, sym, _∙_}
+use Prim.Native.Nat.{ℕ, _≤_, _<_, _+_, _-_, _*_, _/_, _%_}
+use mathlib.Core.Path.{_≡_, _∙_, refl, sym}
 use mathlib.Core.Bool.{Bool, true, false, cond}
 use mathlib.Core.List.{List, [], _∷_, _++_}
+use lib.ListN.{length, getD, length-append, replicate, length-replicate, getD-replicate, List·getD-eq-default}
 use native.Mathlib.Omega.{arith}
 use native.Mathlib.Numerals.{add-one}
-use borrow.Author.Tests.{lt-ltb, le-ltb, eq-eqb, ne-eqb}
-use lib.ListN.{length, getD, length-append, replicate, length-replicate, getD-replicate, List·getD-eq-default}
-use Rattle.laws.specs.Cases.{compare-le, compare-eq, split}
-use Rattle.laws.specs.Digits.{digit-le, digit-of-zero}
-use Rattle.laws.specs.Sum.{bit}
-use Rattle.wire.specs.Edition.{Edition, groupLimit, rowBytes}
-use Rattle.wire.specs.Limits.{rowLimit}
-use Rattle.wire.specs.Member.{precedes}
-use Rattle.wire.specs.MemberKey.{one-same, rises-or-one}
-use Rattle.wire.specs.RegisterFormat.{Row, rowOf, inGroup, lastMember}
-use Rattle.meaning.specs.OfRecords.{members}
-use Rattle.meaning.specs.ReadableRows.{members-few, Ordered, ordered-none, ordered-after, members-joined, members-new, joined-in, new-in}
-use Rattle.wire.specs.Capacity.{groupCapacity}
-use Rattle.rows.specs.RowsRead.{wordBits, rowWords, fromRow, rowsBefore, bitsPlace, bitAt}
+use borrow.Author.Tests.{eq-eqb, ne-eqb, le-ltb, lt-ltb}
 use Rattle.rows.specs.declared.decode.RowFound.{RowFound}
+use Rattle.laws.specs.Sum.{bit}
+use Rattle.laws.proofs.Cases.{compare-eq, compare-le, split}
+use Rattle.laws.proofs.Digits.{digit-of-zero, digit-le}
+use Rattle.wire.specs.Limits.{rowLimit}
+use Rattle.wire.specs.Edition.{Edition, groupLimit, rowBytes}
+use Rattle.wire.specs.Capacity.{groupCapacity}
+use Rattle.wire.specs.Member.{precedes}
+use Rattle.wire.specs.RegisterFormat.{Row, rowOf, inGroup, lastMember}
+use Rattle.wire.proofs.MemberKeyLaws.{one-same, rises-or-one}
+use Rattle.meaning.specs.OfRecords.{members}
+use Rattle.meaning.specs.MemberIn.{memberIn}
+use Rattle.meaning.proofs.ReadableRows.{members-few, Ordered, ordered-after, members-joined, members-new, joined-in, new-in, ordered-none}
+use Rattle.rows.specs.RowsRead.{wordBits, rowsBefore, rowWords, fromRow, bitAt}
+use Rattle.rows.proofs.RowLaws.{length-rowsBefore, bitsPlace, in-group-bit, in-group-none, Stands}
 use Rattle.rows.proofs.RowBits.{words-groups}
-use Rattle.rows.proofs.RowLaws.{in-group-bit, in-group-none, length-rowsBefore, Stands}
-use Rattle.columns.specs.Columns.{columnWords, columnDigit, ColumnsFilled}
+use Rattle.columns.specs.Columns.{ColumnsFilled, columnDigit, columnWords}
+use Rattle.columns.specs.ColumnSteps.{allDigits, Put, ofMember, MemberPut, RoomMade, TilePut, Empty, Cleared, firstBits, RowPut}
 use Rattle.columns.proofs.ColumnLaws.{digit-bit}
-use Rattle.columns.specs.ColumnSteps.{Put, ofMember, MemberPut, firstBits, RowPut, TilePut, allDigits, TilesFilled, RoomMade, Empty}
-use Rattle.columns.specs.ColumnSteps.{Cleared}
 use Rattle.columns.proofs.TileLaws.{first-groups, cleared-of}
+
+-- the columns and the tile have a digit for each of the n members of the rows, in the groups of all its rows, and no others
+pub record TilesFilled (groups : ℕ) (rs : List Row) (n : ℕ) (c t : List ℕ) (w : ℕ) : Type 0 where
+  pub number : n ≡ length (members rs)
+  pub each : (g i : ℕ) → 1 ≤ g → g ≤ groups → i < rowLimit → allDigits c t w g i ≡ bit (memberIn rs i g)
 
 -- a row of member m is put into the tile that has it
 member-put : (f : ℕ → ℕ) (m w : ℕ) {t u : List ℕ} (c : List ℕ) → wordBits * w ≤ m → m < wordBits * w + wordBits

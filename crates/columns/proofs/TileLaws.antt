@@ -4,22 +4,23 @@ use mathlib.Core.Path.{_≡_, refl}
 use mathlib.Core.Bool.{cond}
 use mathlib.Core.List.{List}
 use native.Mathlib.Omega.{arith}
-use borrow.Author.Tests.{lt-ltb, le-ltb, le-leb, lt-leb, eq-eqb, ne-eqb}
+use borrow.Author.Tests.{le-leb, lt-leb, eq-eqb, ne-eqb, le-ltb, lt-ltb}
 use lib.ListN.{length, getD, set}
 use lib.Seq.{getD-set-same, getD-set-other}
-use lib.Dec.{ltb, eqb}
+use lib.Dec.{eqb, ltb}
 use lib.Bits.{bitOr}
-use Rattle.laws.specs.Cases.{compare-le, compare-eq, split}
-use Rattle.laws.specs.Digits.{digit, digit-of-zero, digit-or, digit-beyond}
-use Rattle.bit_matrix.specs.Matrix.{Transposed}
+use Rattle.laws.specs.Digit.{digit}
+use Rattle.laws.proofs.Cases.{compare-le, compare-eq, split}
+use Rattle.laws.proofs.Digits.{digit-or, digit-beyond, digit-of-zero}
 use Rattle.wire.specs.Edition.{Edition, edition1, edition2, groupLimit}
-use Rattle.meaning.specs.OfRecords.{members}
 use Rattle.wire.specs.Capacity.{groupCapacity}
-use Rattle.rows.specs.RowsRead.{wordBits, rowWords, WordAt}
+use Rattle.meaning.specs.OfRecords.{members}
+use Rattle.rows.specs.RowsRead.{wordBits, WordAt, rowWords}
+use Rattle.bit_matrix.specs.Matrix.{Transposed}
 use Rattle.columns.specs.Columns.{columnDigit}
-use Rattle.columns.specs.ColumnSteps.{tileDigit, ofMember, MemberPut, wordBit, WordPut, firstBits, ofWord, MembersPut, GroupsPut, ColumnPut, nextGroups, ColumnsPut, firstGroups, TilePut, RoomMade}
-use Rattle.columns.specs.ColumnSteps.{Cleared}
-use Rattle.columns.proofs.PutLaws.{put-as, put-none, put-then}
+use Rattle.columns.specs.ColumnSteps.{tileDigit, WordPut, MemberPut, firstBits, wordBit, nextGroups, ColumnsPut, ColumnPut, MembersPut}
+use Rattle.columns.specs.ColumnSteps.{firstGroups, ofWord, ofMember, GroupsPut, Cleared, TilePut, RoomMade}
+use Rattle.columns.proofs.PutLaws.{put-none, put-then, put-as}
 
 -- a word of a member is put into a tile
 pub word-put : (t : List ℕ) (k m word : ℕ) → word < 2 ^ 64 → wordBits * (k + 1) ≤ groupCapacity → m < wordBits → groupCapacity ≤ length t

@@ -1,21 +1,20 @@
 -- The steps to the columns: the words of a row go into a tile, which has 64 members, and a tile into one word of each column.
 -- Digits are by group and member.
-use Prim.Native.Nat.{ℕ, _+_, _-_, _*_, _/_, _%_, _≤_, _<_, max}
+use Prim.Native.Nat.{ℕ, _≤_, _<_, max, _+_, _-_, _*_, _/_, _%_}
 use mathlib.Core.Path.{_≡_}
 use mathlib.Core.Bool.{cond}
 use mathlib.Core.List.{List}
-use lib.ListN.{length, getD}
-use lib.Dec.{leb, ltb, eqb}
+use lib.ListN.{getD}
+use lib.Dec.{eqb, leb, ltb}
 use lib.Bits.{bitAnd}
 use Rattle.laws.specs.Sum.{bit}
-use Rattle.laws.specs.Digits.{digit, Lowest}
+use Rattle.laws.specs.Digit.{digit}
+use Rattle.laws.specs.Lowest.{Lowest}
 use Rattle.wire.specs.Limits.{rowLimit}
 use Rattle.wire.specs.Edition.{Edition}
 use Rattle.wire.specs.Capacity.{groupCapacity}
-use Rattle.wire.specs.RegisterFormat.{Row}
 use Rattle.meaning.specs.OfRecords.{members}
-use Rattle.meaning.specs.ReadableRows.{memberIn}
-use Rattle.rows.specs.RowsRead.{wordBits, rowWords, bitAt}
+use Rattle.rows.specs.RowsRead.{wordBits, bitAt, rowWords}
 use Rattle.columns.specs.Columns.{columnDigit}
 
 -- from the digits d to the digits e of n members, the digits f are set beside those that are
@@ -85,11 +84,6 @@ TilePut t k = MembersPut (firstGroups t k)
 -- the digits of columns, and of a tile that is to be their word w
 abbrev pub allDigits : List ℕ → List ℕ → ℕ → ℕ → ℕ → ℕ
 allDigits c t w g i = max (columnDigit c g i) (ofWord w (tileDigit t) g i)
-
--- the columns and the tile have a digit for each of the n members of the rows, in the groups of all its rows, and no others
-pub record TilesFilled (groups : ℕ) (rs : List Row) (n : ℕ) (c t : List ℕ) (w : ℕ) : Type 0 where
-  pub number : n ≡ length (members rs)
-  pub each : (g i : ℕ) → 1 ≤ g → g ≤ groups → i < rowLimit → allDigits c t w g i ≡ bit (memberIn rs i g)
 
 -- from columns c and tile t behind w words to columns d and tile u behind v words: the digits are the same, and the last of so
 -- many members has its place in the tile

@@ -1,19 +1,19 @@
 -- Membership as columns: for each group a column of digits, 64 members a word, member i being digit i mod 64 of word i div 64.
 -- A table has the columns in the order of the groups' numbers.
-use Prim.Native.Nat.{ℕ, _+_, _*_, _/_, _%_, _≤_, _<_}
+use Prim.Native.Nat.{ℕ, _*_, _+_, _/_, _%_, _≤_, _<_}
 use mathlib.Core.Path.{_≡_}
 use mathlib.Core.Bool.{Bool}
 use mathlib.Core.List.{List}
-use lib.ListN.{length, getD}
+use lib.ListN.{getD, length}
 use lib.Dec.{eqb}
 use Rattle.laws.specs.Sum.{bit}
-use Rattle.laws.specs.Digits.{digit}
+use Rattle.laws.specs.Digit.{digit}
 use Rattle.wire.specs.Limits.{rowLimit}
-use Rattle.wire.specs.RegisterFormat.{Row}
-use Rattle.meaning.specs.Sets.{Sets, Distinct, numbered}
-use Rattle.meaning.specs.OfRecords.{members}
-use Rattle.meaning.specs.ReadableRows.{memberIn}
 use Rattle.wire.specs.Capacity.{groupCapacity}
+use Rattle.wire.specs.RegisterFormat.{Row}
+use Rattle.meaning.specs.Sets.{Sets, numbered}
+use Rattle.meaning.specs.OfRecords.{members}
+use Rattle.meaning.specs.MemberIn.{memberIn}
 use Rattle.rows.specs.RowsRead.{wordBits}
 
 -- the words of a column: a digit for each member, who are no more than the rows
@@ -52,9 +52,6 @@ inColumn t g i = eqb (columnDigit t g i) 1
 -- the sets that the columns list of n members
 abbrev pub columnSets : List ℕ → ℕ → Sets ℕ
 columnSets t n = numbered n (inColumn t)
-
-pub columns-distinct : (t : List ℕ) (n : ℕ) → Distinct (columnSets t n)
-columns-distinct t n = record { once = λ i j k l e. e }
 
 -- so many words have a digit for each of n members, and a column has as many
 pub record WordsFor (n words : ℕ) : Type 0 where

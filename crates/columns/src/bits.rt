@@ -6,7 +6,7 @@ ghost use Prim.Native.Nat.{_+_, _-_, _≤_, _<_};
 ghost use lib.ListN.{length};
 ghost use lib.Bits.{bitAnd};
 ghost use lib.Count.{ones};
-ghost use Rattle.laws.specs.Digits.{Lowest};
+ghost use Rattle.laws.specs.Lowest.{Lowest};
 ghost use Rattle.wire.specs.Capacity.{groupCapacity};
 ghost use Rattle.rows.specs.RowsRead.{wordBits};
 ghost use Rattle.columns.specs.Columns.{columnWords, columnsLength};

@@ -1,13 +1,13 @@
 -- Bytes that two buffers have alike: a field settles its bytes, and the records of a reply settle the reply.
-use Prim.Native.Nat.{ℕ, zero, suc, _+_, _-_, _*_, _≤_, _<_}
+use Prim.Native.Nat.{ℕ, _+_, _≤_, _<_, zero, suc, _-_, _*_}
 use mathlib.Core.Path.{_≡_}
 use mathlib.Core.List.{List}
 use native.Mathlib.Omega.{arith}
-use lib.ListN.{length, getD, drop}
+use lib.ListN.{getD, length, drop}
 use lib.Seq.{getD-drop, ext-getD}
+use Rattle.laws.proofs.Cases.{compare-le}
 use Rattle.wire.specs.Bytes.{u16At, u32At}
 use Rattle.wire.specs.Encoding.{Bytes}
-use Rattle.laws.specs.Cases.{compare-le}
 
 -- the n bytes from place i on are the same in b and c
 pub record Alike (b c : List ℕ) (i n : ℕ) : Type 0 where

@@ -7,27 +7,27 @@ use mathlib.Core.List.{List}
 use mathlib.Core.Logic.{_⊎_, inl, inr, ⊎-elim}
 use native.Mathlib.Omega.{arith}
 use lib.ListN.{length, drop}
-use Rattle.wire.specs.Limits.{rangeBytes, verdictBytes, shownBytes, answerBytes}
+use Rattle.claims.specs.declared.verdict.Verdict.{Verdict}
+use Rattle.wire.specs.Limits.{rangeBytes, answerBytes, verdictBytes, shownBytes}
 use Rattle.wire.specs.Record.{read}
-use Rattle.wire.specs.SheetFormat.{Records, readSheet}
+use Rattle.wire.specs.SheetFormat.{readSheet, Records}
 use Rattle.wire.specs.RegisterFormat.{Row, readRegister}
 use Rattle.wire.specs.Encoding.{Bytes}
 use Rattle.meaning.specs.Sheet.{Sheet, Group}
+use Rattle.meaning.specs.Sets.{count, Sets}
 use Rattle.meaning.specs.Fits.{Possible}
-use Rattle.meaning.specs.Sets.{Sets, count}
-use Rattle.meaning.specs.OfRecords.{sheetOf, claimAt, listedSets}
-use Rattle.sizes.specs.Readable.{readable-possible-or-not, readable-witness-or-not, readable-arrangement-once}
+use Rattle.meaning.specs.OfRecords.{sheetOf, listedSets, claimAt}
 use Rattle.sizes.specs.Witness.{HasWitness}
-use Rattle.registers.specs.Settled.{answered-once}
-use Rattle.claims.specs.declared.verdict.Verdict.{Verdict}
-use Rattle.replies.specs.Reply.{call, packed, Replied, OnceSheet}
+use Rattle.sizes.proofs.Readable.{readable-possible-or-not, readable-arrangement-once, readable-witness-or-not}
+use Rattle.registers.proofs.Settled.{answered-once}
+use Rattle.replies.specs.Reply.{call, OnceSheet, packed, Replied}
 use Rattle.range_reply.specs.RangesReply.{rangeAt, rangeLeast, rangeGreatest, runFirst, runCount, RangesIn, RangesCall}
 use Rattle.range_reply.proofs.RangesOnce.{range-once}
 use Rattle.register_reply.specs.RegisterReply.{AnswerIn, Register}
-use Rattle.claim_reply.specs.ClaimReply.{shownAt, VerdictIn, SetsIn, ClaimVerdict}
-use Rattle.claim_reply.specs.Answering.{verdict-answering}
+use Rattle.claim_reply.specs.ClaimReply.{VerdictIn, shownAt, SetsIn, ClaimVerdict}
+use Rattle.claim_reply.proofs.Answering.{verdict-answering}
 use Rattle.group_sheet.proofs.Alike.{Alike, alike-then, alike-many, u16-alike, u32-alike}
-use Rattle.group_sheet.proofs.Exits.{once-read, once-possible, once-numbered, once-room, replied-alike}
+use Rattle.group_sheet.proofs.Exits.{once-read, once-possible, once-room, replied-alike, once-numbered}
 
 -- Ranges.
 -- the record of a group, from its range and its run

@@ -1,24 +1,26 @@
 -- The groups of a sheet that was read, as its table holds them, and their sons, as the check keeps them.
 use Prim.Native.Nat.{ℕ, _*_, _≤_}
-use mathlib.Core.Path.{_≡_, refl, ap, _∙_}
+use mathlib.Core.Path.{_≡_, ap, _∙_, refl}
 use mathlib.Core.List.{List}
 use native.Mathlib.Omega.{arith}
 use lib.ListN.{length}
-use Rattle.wire.specs.Record.{read}
+use Rattle.reading.specs.declared.records.Head.{Head}
+use Rattle.reading.specs.declared.load.Loaded.{Loaded}
 use Rattle.wire.specs.Capacity.{groupCapacity}
+use Rattle.wire.specs.Record.{read}
 use Rattle.wire.specs.SheetFormat.{Records, readSheet}
-use Rattle.wire.specs.Facts.{read-right, right-few}
+use Rattle.wire.proofs.Facts.{read-right, right-few}
 use Rattle.meaning.specs.Sheet.{Group}
 use Rattle.meaning.specs.SonList.{sonList}
 use Rattle.meaning.specs.OfRecords.{sheetOf}
-use Rattle.meaning.specs.Readable.{tree-of-right, rooted-of-right}
-use Rattle.reading.specs.Tables.{groupFields, groupsIn, length-groupsIn}
+use Rattle.meaning.proofs.Readable.{tree-of-right, rooted-of-right}
+use Rattle.reading.specs.Tables.{groupFields, groupsIn}
 use Rattle.reading.specs.SheetIn.{sheetIn, Tabled}
-use Rattle.reading.specs.Loaded.{Loads, loaded-sheet, loaded-held}
-use Rattle.reading.specs.declared.records.Head.{Head}
-use Rattle.reading.specs.declared.load.Loaded.{Loaded}
-use Rattle.reading.specs.declared.load.Loaded.the-variants as loaded
+use Rattle.reading.specs.Loaded.{Loads}
+use Rattle.reading.proofs.TablesLaws.{length-groupsIn}
+use Rattle.reading.proofs.LoadedLaws.{loaded-sheet, loaded-held}
 use Rattle.registers.specs.SonLists.{keptSons, SonsListed}
+use Rattle.reading.specs.declared.load.Loaded.the-variants as loaded
 
 -- the groups of a readable sheet, as the table holds them
 tabled : (b t : List ℕ) (n : ℕ) (d : Records) → readSheet b ≡ read d → d .groups ≡ groupsIn t n

@@ -1,6 +1,4 @@
 pub mod Sum
-pub mod Cases
-pub mod SumLaws
 pub mod Digit
-pub mod Digits
+pub mod Lowest
 pub mod Tabulate

@@ -1,3 +1,5 @@
+pub mod Readable
+pub mod ReadableRows
 pub mod SonLaws
 pub mod SonListLaws
 pub mod Worked

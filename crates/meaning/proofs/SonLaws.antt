@@ -1,15 +1,15 @@
 -- Laws of the sons of a group and of sums over them.
-use Prim.Native.Nat.{ℕ, zero, suc, _+_, _≤_, _<_, zero-le}
-use mathlib.Core.Path.{_≡_, refl, sym, _∙_}
-use mathlib.Core.Bool.{Bool, true, false, _&&_}
+use Prim.Native.Nat.{ℕ, _≤_, zero-le, suc, _+_, _<_, zero}
+use mathlib.Core.Path.{_≡_, sym, _∙_, refl}
+use mathlib.Core.Bool.{true, _&&_, false, Bool}
 use native.Mathlib.Omega.{arith}
 use native.Mathlib.Nat.{le-refl}
 use borrow.Author.Tests.{ltb-true, eqb-true, lt-ltb, eq-eqb}
 use lib.Dec.{ltb, eqb}
 use Rattle.laws.specs.Sum.{sum, bit}
-use Rattle.laws.specs.Cases.{split, and-true, compare-le, compare-eq, not-true-false}
-use Rattle.laws.specs.SumLaws.{true-bit, sum-le, sum-eq, sum-zero, sum-add, sum-term, sum-prefix, sum-gap, locate}
-use Rattle.meaning.specs.Sheet.{Sheet, Group, Son}
+use Rattle.laws.proofs.Cases.{and-true, not-true-false, split, compare-le, compare-eq}
+use Rattle.laws.proofs.SumLaws.{sum-le, sum-gap, sum-eq, sum-term, sum-prefix, locate, sum-add, sum-zero, true-bit}
+use Rattle.meaning.specs.Sheet.{Sheet, Son, Group}
 use Rattle.meaning.specs.Tree.{Tree, Rooted}
 use Rattle.meaning.specs.Sons.{isSon, only, sons}
 use Rattle.meaning.specs.Fits.{Meets}

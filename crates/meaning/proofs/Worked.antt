@@ -1,34 +1,34 @@
 -- The worked sheets that are shown by proof, those of document 01 and some for document 02, cards 1 and 3, and worked registers for
 -- cards 2 and 4, in one list: `worked`. They speak of the meaning alone.
-use Prim.Native.Nat.{ℕ, zero, suc, _+_, _-_, _≤_, _<_, zero-le}
-use mathlib.Core.Path.{_≡_, refl, sym, ap, _∙_, subst}
-use mathlib.Core.Bool.{Bool, true, false, cond, _&&_, _||_, false≢true}
-use mathlib.Core.List.{List, [], _∷_}
+use Prim.Native.Nat.{ℕ, zero, suc, _+_, _≤_, _<_, _-_, zero-le}
+use mathlib.Core.Path.{_≡_, subst, ap, refl, sym, _∙_}
+use mathlib.Core.Bool.{Bool, false, true, cond, false≢true, _&&_, _||_}
+use mathlib.Core.List.{[], _∷_, List}
 use mathlib.Core.Logic.{_↔_}
 use native.Mathlib.Omega.{arith}
 use lib.Dec.{leb, ltb, eqb}
-use Rattle.wire.specs.Member.{Side, left, right, sideNumber, oneMember}
-use Rattle.wire.specs.Ears.{ear}
-use Rattle.wire.specs.RegisterFormat.{Row, inGroup}
-use Rattle.wire.specs.SheetFormat.{GroupRecord, NameRecord, count, lists, inside, apart, place}
-use Rattle.laws.specs.Sum.{sum, bit}
 use native.Mathlib.Nat.{le-of-eq}
+use Rattle.laws.specs.Sum.{bit, sum}
 use Rattle.laws.specs.Digit.{digit}
-use Rattle.laws.specs.Cases.{split, compare-eq, and-true, not-true-false, true-not-false, or-true, or-left, or-false}
-use Rattle.laws.specs.SumLaws.{bit-le, bit-le-true, bit-true, bit-most, true-bit}
-use Rattle.laws.specs.SumLaws.{sum-le, sum-eq, sum-add, sum-zero, sum-term, sum-gap-term, sum-tight}
-use Rattle.meaning.specs.Sheet.{Sheet, Group, Son, AtMost, endOf}
-use Rattle.meaning.specs.Sons.{isSon, sons}
-use Rattle.meaning.specs.SonList.{passing, sonList}
+use Rattle.laws.proofs.Cases.{compare-eq, split, not-true-false, true-not-false, and-true, or-true, or-left, or-false}
+use Rattle.laws.proofs.SumLaws.{sum-le, sum-eq, sum-add, sum-zero, sum-gap-term, bit-le, bit-le-true, sum-tight, bit-most, true-bit, bit-true}
+use Rattle.laws.proofs.SumLaws.{sum-term}
+use Rattle.wire.specs.Member.{Side, left, right, sideNumber, oneMember}
+use Rattle.wire.specs.SheetFormat.{GroupRecord, NameRecord, lists, place, count, inside, apart}
+use Rattle.wire.specs.RegisterFormat.{Row, inGroup}
+use Rattle.wire.proofs.Ears.{ear}
+use Rattle.meaning.specs.Sheet.{Sheet, Group, Son, endOf, AtMost}
+use Rattle.meaning.specs.Sons.{sons, isSon}
+use Rattle.meaning.specs.SonList.{sonList, passing}
 use Rattle.meaning.specs.Sets.{Sets, numbered}
-use Rattle.meaning.specs.Sets as sets
-use Rattle.meaning.specs.Fits.{Meets, Fits, Possible, Attains, groupsOf}
+use Rattle.meaning.specs.Fits.{Possible, Fits, Attains, Meets, groupsOf}
 use Rattle.meaning.specs.Claim.{Breakable, countNamed}
-use Rattle.meaning.specs.Place.{every, Fillable, Question, allSay, somePlace}
+use Rattle.meaning.specs.Place.{Fillable, Question, allSay, somePlace, every}
 use Rattle.meaning.specs.Rule.{Broken}
+use Rattle.meaning.specs.OfRecords.{sheetOf, claimed, members, listedSets, listed}
+use Rattle.meaning.proofs.SonLaws.{sons-sum, cover-bits, sons-locate, sons-one}
+use Rattle.meaning.specs.Sets as sets
 use Rattle.meaning.specs.Rule as rule
-use Rattle.meaning.specs.OfRecords.{sheetOf, claimed, members, listed, listedSets}
-use Rattle.meaning.proofs.SonLaws.{sons-locate, sons-one, sons-sum, cover-bits}
 
 -- a group record: parent, lo, hi, mode
 abbrev group : ℕ → ℕ → ℕ → ℕ → GroupRecord

@@ -11,5 +11,4 @@ pub mod Shown
 pub mod Part
 pub mod Arranged
 pub mod OfRecords
-pub mod Readable
-pub mod ReadableRows
+pub mod MemberIn

@@ -1,27 +1,28 @@
 -- The bytes of a sheet with lo and hi written over are the bytes of the replaced records (`specs/Planning`).
-use Prim.Native.Nat.{ℕ, zero, suc, _+_, _*_, _/_, _%_, _≤_, _<_}
-use mathlib.Core.Path.{_≡_, refl, sym, ap, _∙_}
-use mathlib.Core.List.{List, [], _∷_, _++_, append-assoc, append-nil, flatMap}
+use Prim.Native.Nat.{ℕ, zero, suc, _<_, _/_, _%_, _+_, _*_, _≤_}
+use mathlib.Core.Path.{_≡_, refl, _∙_, ap, sym}
+use mathlib.Core.List.{List, [], _∷_, flatMap, _++_, append-assoc, append-nil}
 use mathlib.Core.Logic.{inl}
 use native.Mathlib.Omega.{arith}
-use lib.ListN.{length, drop, getD, set, length-drop, length-append}
-use lib.Seq.{sets, getD-drop, drop-drop, ext-getD}
-use Rattle.laws.specs.Cases.{compare-le, compare-eq}
-use Rattle.wire.specs.Limits.{boundLimit, noEnd}
-use Rattle.wire.specs.Capacity.{headBytes, groupBytes}
-use Rattle.wire.specs.Bytes.{u16At, le16}
-use Rattle.wire.specs.Record.{lengthOf, kindOf, after, read}
-use Rattle.wire.specs.SheetFormat.{GroupRecord, Records, groupTests, groupOf, readSheet, u16s}
+use lib.ListN.{set, length, getD, drop, length-drop, length-append}
+use lib.Seq.{sets, drop-drop, getD-drop, ext-getD}
+use Rattle.laws.proofs.Cases.{compare-le, compare-eq}
+use Rattle.wire.specs.Limits.{noEnd, boundLimit}
+use Rattle.wire.specs.Capacity.{groupBytes, headBytes}
+use Rattle.wire.specs.Bytes.{le16, u16At}
+use Rattle.wire.specs.Record.{lengthOf, after, kindOf, read}
+use Rattle.wire.specs.SheetFormat.{Records, GroupRecord, groupTests, groupOf, u16s, readSheet}
 use Rattle.wire.specs.Encoding.{Bytes, encodeRecord, encodeHead, encodeGroup, encodeName, encodeClaim, encodeSheet}
-use Rattle.wire.specs.Sorts.{Framed, GroupFrame, group-frame}
-use Rattle.wire.specs.Fields.{u16-drop}
-use Rattle.wire.specs.Many.{Reads, stop, go, kept-read, encode-reads}
-use Rattle.wire.specs.Facts.{SheetRead, sheet-read, bytes-drop, bytes-after}
-use Rattle.wire.specs.RoundTripRecords.{fields-read, name-back, claim-back}
-use Rattle.wire.specs.RoundTripSheet.{readable-is-encoded}
+use Rattle.wire.proofs.Many.{Reads, stop, go, kept-read, encode-reads}
+use Rattle.wire.proofs.Sorts.{Framed, GroupFrame, group-frame}
+use Rattle.wire.proofs.Facts.{SheetRead, bytes-drop, sheet-read, bytes-after}
+use Rattle.wire.proofs.Fields.{u16-drop}
+use Rattle.wire.proofs.RoundTripRecords.{fields-read, name-back, claim-back}
+use Rattle.wire.proofs.RoundTripSheet.{readable-is-encoded}
 use Rattle.meaning.specs.OfRecords.{sheetOf}
-use Rattle.replies.specs.Wrote.{Wrote, wrote-then, word-kept, wrote-word, word-put}
-use Rattle.range_reply.specs.Planning.{rangeLo, rangeHi, replacedGroup, replacedFrom, replaced, groupPlace, groupOver, writtenOver, EndsWithin}
+use Rattle.replies.specs.Wrote.{Wrote}
+use Rattle.replies.proofs.WroteLaws.{wrote-then, word-kept, wrote-word, word-put}
+use Rattle.range_reply.specs.Planning.{rangeLo, rangeHi, groupPlace, groupOver, writtenOver, replacedGroup, replacedFrom, replaced, EndsWithin}
 use Rattle.range_reply.proofs.Replaced.{replaced-length, fields-within}
 
 -- bytes stay bytes where bytes are stored

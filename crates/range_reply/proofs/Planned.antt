@@ -3,32 +3,32 @@
 use Prim.Native.Nat.{ℕ, _*_, _≤_, _<_}
 use mathlib.Core.Path.{_≡_, refl, sym, subst, subst⁻¹}
 use mathlib.Core.List.{List}
-use mathlib.Core.Logic.{_↔_, Iff·symm, Iff·trans, ⊎-elim}
+use mathlib.Core.Logic.{⊎-elim, Iff·symm, Iff·trans, _↔_}
 use native.Mathlib.Omega.{arith}
 use lib.ListN.{length}
-use Rattle.laws.specs.Cases.{compare-le}
+use Rattle.laws.proofs.Cases.{compare-le}
 use Rattle.wire.specs.Limits.{rangeBytes}
 use Rattle.wire.specs.Record.{Reading, read, refused}
 use Rattle.wire.specs.SheetFormat.{Records, readSheet}
 use Rattle.wire.specs.Encoding.{Bytes, encodeSheet}
-use Rattle.wire.specs.Facts.{sheet-positive, read-right, read-within}
-use Rattle.wire.specs.RoundTripSheet.{read-encoded-sheet}
+use Rattle.wire.proofs.Facts.{sheet-positive, read-right, read-within}
+use Rattle.wire.proofs.RoundTripSheet.{read-encoded-sheet}
 use Rattle.meaning.specs.Sheet.{Sheet, Group, Top}
 use Rattle.meaning.specs.Tree.{Tree, Rooted}
-use Rattle.meaning.specs.Sets.{Sets, count}
-use Rattle.meaning.specs.Fits.{Fits, Possible, Attains}
+use Rattle.meaning.specs.Sets.{count, Sets}
+use Rattle.meaning.specs.Fits.{Possible, Fits, Attains}
 use Rattle.meaning.specs.OfRecords.{sheetOf}
-use Rattle.meaning.specs.Readable.{root-under-none, tree-of-right, rooted-of-right}
-use Rattle.sizes.specs.Runs.{run-of, in-run, above-runs}
-use Rattle.sizes.specs.Possible.{sizes-count}
-use Rattle.sizes.specs.Rebound.{rebound, group-rebound}
-use Rattle.sizes.specs.ArrangedOnce.{arrangement-runs}
-use Rattle.sizes.specs.Readable.{readable-possible-or-not}
-use Rattle.sizes.specs.Smallest.{arrangement-least, runs-in-root}
-use Rattle.sizes.specs.RangesAsBounds.{RangeEnds, same-sets, same-ranges, same-arrangement}
-use Rattle.replies.specs.Reply.{Call, packed, Replied}
-use Rattle.range_reply.specs.RangesReply.{rangeLeast, rangeGreatest, runFirst, runCount, RangesIn, RangesCall}
-use Rattle.range_reply.specs.Planning.{Answerable, Smallest, replaced, EndsWithin, SameNumbers, RangesAsBounds}
+use Rattle.meaning.proofs.Readable.{root-under-none, tree-of-right, rooted-of-right}
+use Rattle.sizes.proofs.RunsLaws.{run-of, in-run, above-runs}
+use Rattle.sizes.proofs.Possible.{sizes-count}
+use Rattle.sizes.proofs.Rebound.{rebound, group-rebound}
+use Rattle.sizes.proofs.ArrangedOnce.{arrangement-runs}
+use Rattle.sizes.proofs.Smallest.{arrangement-least, runs-in-root}
+use Rattle.sizes.proofs.RangesAsBounds.{RangeEnds, same-ranges, same-arrangement, same-sets}
+use Rattle.sizes.proofs.Readable.{readable-possible-or-not}
+use Rattle.replies.specs.Reply.{Call, Replied, packed}
+use Rattle.range_reply.specs.RangesReply.{RangesIn, RangesCall, runFirst, runCount, rangeLeast, rangeGreatest}
+use Rattle.range_reply.specs.Planning.{Answerable, Smallest, SameNumbers, replaced, EndsWithin, RangesAsBounds}
 use Rattle.range_reply.proofs.RangesOnce.{range-once}
 use Rattle.range_reply.proofs.Replaced.{replaced-length, replaced-sheet, replaced-ends, replaced-within}
 use Rattle.range_reply.proofs.InPlace.{written-over}

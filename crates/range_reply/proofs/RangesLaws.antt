@@ -10,12 +10,13 @@ use Rattle.meaning.specs.Sheet.{Group}
 use Rattle.meaning.specs.Arranged.{Arranged}
 use Rattle.sizes.specs.Span.{Span}
 use Rattle.sizes.specs.Ranged.{Ranged}
-use Rattle.sizes.specs.ArrangedAlike.{arranged-eq}
-use Rattle.reading.specs.SheetIn.{sheetIn, size-in}
+use Rattle.sizes.proofs.ArrangedAlike.{arranged-eq}
+use Rattle.reading.specs.SheetIn.{sheetIn}
+use Rattle.reading.proofs.SheetInLaws.{size-in}
 use Rattle.runs.specs.Told.{numberIn}
 use Rattle.ranging.specs.Tables.{leastIn, greatestIn, spanIn}
 use Rattle.ranging.specs.Narrowed.{Measures}
-use Rattle.ranging.specs.Said.{range-said, bounds-said, arrangement-fits}
+use Rattle.ranging.proofs.Said.{range-said, bounds-said, arrangement-fits}
 use Rattle.replies.specs.Wrote.{Wrote}
 use Rattle.replies.specs.Written.{RangeAt, RangesPut}
 use Rattle.range_reply.specs.RangesReply.{rangeAt, runFirst, runCount}

@@ -4,10 +4,10 @@ use mathlib.Core.Path.{_≡_, sym, ap, _∙_}
 use mathlib.Core.Logic.{_↔_}
 use borrow.Author.Tests.{eqb-true}
 use lib.Dec.{eqb}
-use Rattle.laws.specs.Cases.{split}
+use Rattle.laws.proofs.Cases.{split}
 use Rattle.wire.specs.Limits.{noGreatest}
-use Rattle.meaning.specs.Sheet.{Top, fin, inf, AtMost, endOf}
-use Rattle.sizes.specs.ArrangedOnce.{ends-once}
+use Rattle.meaning.specs.Sheet.{Top, fin, inf, endOf, AtMost}
+use Rattle.sizes.proofs.ArrangedOnce.{ends-once}
 
 -- the number that stands for an upper end
 numberOf : Top → ℕ

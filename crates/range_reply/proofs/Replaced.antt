@@ -1,6 +1,6 @@
 -- The replaced records (`specs/Planning`): as many, with the same parents and modes, and with the ranges as bounds. They are
 -- within the limits, and their sheet is the sheet with other bounds.
-use Prim.Native.Nat.{ℕ, zero, suc, _+_, _-_, _≤_, _<_}
+use Prim.Native.Nat.{ℕ, zero, suc, _+_, _≤_, _<_, _-_}
 use mathlib.Core.Path.{_≡_, refl, ap, _∙_}
 use mathlib.Core.List.{List, [], _∷_, _++_}
 use mathlib.Core.Logic.{_⊎_, inl, inr, ⊎-elim}
@@ -10,16 +10,16 @@ use borrow.Author.Tests.{eqb-true, eqb-false, ne-eqb}
 use lib.Dec.{eqb}
 use lib.ListN.{length, getD, length-append}
 use Rattle.laws.specs.Digit.{digit}
-use Rattle.laws.specs.Cases.{split}
+use Rattle.laws.proofs.Cases.{split}
 use Rattle.wire.specs.Limits.{boundLimit, noEnd, noGreatest}
 use Rattle.wire.specs.SheetFormat.{GroupRecord, Records}
 use Rattle.wire.specs.Encoding.{Each, none, more, GroupRight, SheetWithin}
 use Rattle.meaning.specs.Sheet.{Sheet, Group, endOf}
-use Rattle.meaning.specs.OfRecords.{groupAt, sheetOf}
-use Rattle.sizes.specs.Rebound.{rebound}
-use Rattle.sizes.specs.RangesAsBounds.{RangeEnds}
+use Rattle.meaning.specs.OfRecords.{sheetOf, groupAt}
+use Rattle.sizes.proofs.Rebound.{rebound}
+use Rattle.sizes.proofs.RangesAsBounds.{RangeEnds}
 use Rattle.range_reply.specs.RangesReply.{rangeGreatest, RangesIn}
-use Rattle.range_reply.specs.Planning.{rangeLo, rangeHi, replacedGroup, replacedFrom, replaced, EndsWithin}
+use Rattle.range_reply.specs.Planning.{rangeLo, rangeHi, replacedGroup, replacedFrom, EndsWithin, replaced}
 
 module _ (out : List ℕ) where
   pub replaced-length : (n : ℕ) (gs : List GroupRecord) → length (replacedFrom out n gs) ≡ length gs

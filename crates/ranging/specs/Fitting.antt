@@ -1,48 +1,14 @@
 -- Whether some sets fit a sheet, from the tables that measuring leaves (document 01, refusal 8).
 use Prim.Native.Nat.{ℕ}
 use mathlib.Core.Path.{_≡_}
-use mathlib.Core.Bool.{Bool, true, false}
+use mathlib.Core.Bool.{Bool, true}
 use mathlib.Core.List.{List}
 use mathlib.Core.Logic.{_↔_}
 use Rattle.meaning.specs.Fits.{Possible}
-use Rattle.reading.specs.SheetIn.{sheetIn, Tabled, few-groups}
+use Rattle.reading.specs.SheetIn.{sheetIn}
 use Rattle.ranging.specs.Sized.{Arrangeable}
-use native.Mathlib.Omega.{arith}
-use Rattle.meaning.specs.Sheet.{Sheet}
-use Rattle.meaning.specs.Tree.{Tree, Rooted}
-use Rattle.sizes.specs.Span.{Span}
-use Rattle.sizes.specs.Fold.{Measured}
-use Rattle.sizes.specs.Ranged.{free}
-use Rattle.sizes.specs.MeasuredLaws.{spans-measured}
-use Rattle.measuring.specs.Pairs.{pairIn}
-use Rattle.measuring.specs.Tables.{mayIn, spansIn, freeTable, free-flag}
-use Rattle.measuring.specs.Done.{Lent, AllDone}
-use Rattle.ranging.specs.Said.{measures-done, measured-free}
 
 -- r says whether some sets fit, and the tables are measured
 pub record PossibleTold (groups : List ℕ) (n : ℕ) (spans after : List ℕ) (r : Bool) : Type 0 where
   pub told : (r ≡ true) ↔ Possible (sheetIn groups n)
   pub measured : Possible (sheetIn groups n) → Arrangeable groups n spans after
-
--- the tables that measuring with free flags leaves
-module _ {t spans after : List ℕ} {n : ℕ} (k : Tabled t n) (w : AllDone (sheetIn t n) (spansIn t n freeTable) spans after) where
-  free-measured : Measured (sheetIn t n) free (spansIn t n freeTable)
-  free-measured =
-      measured-free (λ g q c. free-flag g (q .first) (omega (arith, q .last, few-groups k)) c)
-      (spans-measured (sheetIn t n) (mayIn freeTable) (k .tree))
-
-  pub root-told : (b : Bool)
-      → ((s : Sheet) (z : ℕ → Bool → Span) → Tree s → Rooted s → Measured s free z → pairIn spans 1 false ≡ z 1 false
-      → (b ≡ true) ↔ Possible s) → (b ≡ true) ↔ Possible (sheetIn t n)
-  root-told b h =
-      h (sheetIn t n) _ (k .tree) (k .rooted) free-measured (w .spanned 1 (k .rooted .one) false)
-
-  pub arrangeable : Lent n spans after → Possible (sheetIn t n) → Arrangeable t n spans after
-  arrangeable l p = record {
-    tabled = k;
-    lent = l;
-    z = spansIn t n freeTable;
-    measured = free-measured;
-    measures = measures-done w;
-    fit = p;
-  }

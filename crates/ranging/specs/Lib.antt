@@ -1,6 +1,5 @@
-pub mod PullLaws
+pub mod Pull
 pub mod Tables
 pub mod Narrowed
 pub mod Sized
-pub mod Said
 pub mod Fitting

@@ -9,7 +9,7 @@ ghost use mathlib.Core.Path.{_≡_};
 ghost use Prim.Native.Nat.{_≤_};
 ghost use Rattle.sizes.specs.Span as sizes;
 ghost use Rattle.measuring.specs.Held.{topOf, spanHeld, kindHeld};
-ghost use Rattle.ranging.specs.PullLaws.{pullBy};
+ghost use Rattle.ranging.specs.Pull.{pullBy};
 
 // the upper end u less a
 fn shorter(u: u32, a: u32) -> u32

@@ -1,25 +1,13 @@
 -- Laws of the readers' answers: what an answer says of the tests, which of the four sorts a record is, and what it carries.
-use Prim.Native.Nat.{ℕ, _+_, _-_, _*_, _≤_, _<_}
-use mathlib.Core.Path.{_≡_, refl, sym, ap, _∙_}
-use mathlib.Core.List.{List, [], _∷_, _++_, flatMap}
+use Prim.Native.Nat.{ℕ, _+_, _-_, _≤_, _<_, _*_}
+use mathlib.Core.Path.{_≡_, _∙_, refl, ap, sym}
+use mathlib.Core.List.{List, _∷_, _++_, flatMap, []}
 use native.Mathlib.Omega.{arith}
-use borrow.Author.Tests.{eqb-true, eqb-false, ne-eqb}
+use borrow.Author.Tests.{ne-eqb, eqb-true, eqb-false}
 use denote.Enum.Declared.{tagOf}
-use lib.ListN.{length, getD, take, drop, length-append, length-take, length-drop}
+use lib.ListN.{drop, length, getD, take, length-take, length-drop, length-append}
 use lib.Seq.{ext-getD, getD-take, getD-drop}
 use lib.Dec.{eqb}
-use Rattle.wire.specs.Bytes.{u16At, le16}
-use Rattle.wire.specs.Record.{kindOf, Test, refusal, Reading, read, refused, onward}
-use Rattle.wire.specs.SheetFormat.{GroupRecord, NameRecord, listNumber, headOf, groupOf, nameOf, claimOf, claimTests, leftOf, rightOf}
-use Rattle.wire.specs.Encoding.{encodeRecord, encodeClaim}
-use Rattle.wire.specs.Fields.{length-le16s}
-use Rattle.laws.specs.Cases.{split}
-use Rattle.wire.specs.Passing.{passed}
-use Rattle.wire.specs.Sorts.{length-u16s, claim-nonzero, claim-cases, claim-count, claim-lists}
-use Rattle.laws.specs.Tabulate.{length-tabulate, getD-tabulate}
-use Rattle.reading.specs.Meant.{meantNumber}
-use Rattle.reading.specs.ClaimHeld.{leftNames, rightNames, claimRecord}
-use Rattle.reading.specs.Answers.{headRecord, Value, head, group, name, claim, bytesFrom, recordAs, answerAs, refusalIn, AnswerOf, WholeName}
 use Rattle.reading.specs.declared.tables.Meant.{Meant}
 use Rattle.reading.specs.declared.claim.Lists.{Lists}
 use Rattle.reading.specs.declared.claim.Claim.{Claim}
@@ -27,12 +15,24 @@ use Rattle.reading.specs.declared.records.Head.{Head}
 use Rattle.reading.specs.declared.records.Group.{Group}
 use Rattle.reading.specs.declared.records.Name.{Name}
 use Rattle.reading.specs.declared.records.Record.{Record}
-use Rattle.reading.specs.declared.records.Record.the-variants as record-of
 use Rattle.reading.specs.declared.records.Answer.{Answer}
-use Rattle.reading.specs.declared.records.Answer.the-variants as answer
 use Rattle.reading.proofs.records.Record.{the-type}
+use Rattle.laws.proofs.Cases.{split}
+use Rattle.laws.proofs.TabulateLaws.{length-tabulate, getD-tabulate}
+use Rattle.wire.specs.Bytes.{u16At, le16}
+use Rattle.wire.specs.Record.{kindOf, Test, refusal, onward, Reading, read, refused}
+use Rattle.wire.specs.SheetFormat.{GroupRecord, NameRecord, headOf, groupOf, nameOf, claimOf, listNumber, claimTests, leftOf, rightOf}
+use Rattle.wire.specs.Encoding.{encodeRecord, encodeClaim}
+use Rattle.wire.proofs.Passing.{passed}
+use Rattle.wire.proofs.Sorts.{length-u16s, claim-nonzero, claim-cases, claim-count, claim-lists}
+use Rattle.wire.proofs.Fields.{length-le16s}
+use Rattle.reading.specs.Meant.{meantNumber}
+use Rattle.reading.specs.ClaimHeld.{claimRecord, leftNames, rightNames}
+use Rattle.reading.specs.Answers.{Value, recordAs, answerAs, AnswerOf, refusalIn, head, group, name, claim, headRecord, bytesFrom, WholeName}
 use Rattle.reading.proofs.Fields.{length-at}
-use Rattle.reading.proofs.Strings.{label-at, label-length}
+use Rattle.reading.proofs.Strings.{label-length, label-at}
+use Rattle.reading.specs.declared.records.Answer.the-variants as answer
+use Rattle.reading.specs.declared.records.Record.the-variants as record-of
 
 -- the record x was handed up: all tests passed, and it carries what stands there
 pub record Handed (tests : List ℕ → List Test) (value : List ℕ → Value) (s : List ℕ) (at : ℕ) (x : Record) : Type 0 where

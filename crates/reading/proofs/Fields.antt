@@ -1,24 +1,22 @@
 -- Laws of the bytes from a place on: their fields, the frame of a record there, and what its tests show.
-use Prim.Native.Nat.{ℕ, _+_, _-_, _*_, _≤_, _<_, zero-le}
-use mathlib.Core.Path.{_≡_, refl, sym, ap, _∙_}
-use mathlib.Core.Bool.{Bool, true, false, cond, not, _&&_}
+use Prim.Native.Nat.{ℕ, _+_, _≤_, zero-le, _<_, _*_}
+use mathlib.Core.Path.{_≡_, sym, _∙_, ap, refl}
+use mathlib.Core.Bool.{true, false, _&&_, Bool, cond, not}
 use mathlib.Core.List.{List, [], _∷_}
 use native.Mathlib.Omega.{arith}
 use native.Mathlib.Nat.{add-zero}
-use borrow.Author.Tests.{le-leb, lt-leb, leb-true, eq-eqb, ne-eqb, eqb-true}
-use lib.ListN.{length, drop, length-drop}
+use borrow.Author.Tests.{le-leb, leb-true, lt-leb, eq-eqb, ne-eqb, eqb-true}
+use lib.ListN.{drop, length, length-drop}
 use lib.Dec.{leb, eqb}
-use Rattle.wire.specs.Fields.{u16-drop, u16s-drop}
-use Rattle.wire.specs.Passing.{passed}
-use Rattle.laws.specs.Cases.{split, and-true, compare-le, compare-eq}
-use Rattle.wire.specs.Sorts.{Framed, framed-true, framed-of, group-nonzero, group-frame, name-nonzero, name-frame}
-use Rattle.wire.specs.Sorts.{claim-nonzero, claim-frame}
+use Rattle.laws.proofs.Cases.{split, and-true, compare-le, compare-eq}
 use Rattle.wire.specs.Edition.{Edition, labelLimit}
 use Rattle.wire.specs.Bytes.{u16At}
-use Rattle.wire.specs.Record.{framed, Test, test, refusal}
-use Rattle.wire.specs.SheetFormat.{GroupRecord, NameRecord, ClaimRecord, u16s}
-use Rattle.wire.specs.SheetFormat.{groupTests, nameOf, nameTests, used, lastClaim, claimTests}
-use Rattle.reading.specs.Answers.{kindIn, FrameAt, Whole, WholeName, claimBody}
+use Rattle.wire.specs.Record.{framed, refusal, Test, test}
+use Rattle.wire.specs.SheetFormat.{u16s, ClaimRecord, claimTests, lastClaim, GroupRecord, groupTests, NameRecord, nameTests, nameOf, used}
+use Rattle.wire.proofs.Passing.{passed}
+use Rattle.wire.proofs.Sorts.{framed-of, Framed, framed-true, group-nonzero, group-frame, name-nonzero, name-frame, claim-nonzero, claim-frame}
+use Rattle.wire.proofs.Fields.{u16-drop, u16s-drop}
+use Rattle.reading.specs.Answers.{FrameAt, Whole, kindIn, claimBody, WholeName}
 
 pub field-at : (s : List ℕ) (at i : ℕ) → u16At (drop at s) i ≡ u16At s (at + i)
 field-at s at i = u16-drop at s i

@@ -1,20 +1,20 @@
 -- Laws of the hashes of labels: equal labels have one hash, so a label whose hash was not seen was not used before.
-use Prim.Native.Nat.{ℕ, zero, suc, _+_, _-_, _*_, _%_, _≤_, _<_}
+use Prim.Native.Nat.{ℕ, _+_, _-_, suc, _*_, _%_, _≤_, _<_, zero}
 use mathlib.Core.Path.{_≡_, refl}
-use mathlib.Core.Bool.{true, false, false≢true}
+use mathlib.Core.Bool.{true, false≢true, false}
 use mathlib.Core.List.{List, [], _∷_}
 use native.Mathlib.Omega.{arith}
 use native.Mathlib.Numerals.{add-one}
 use borrow.Author.Tests.{eqb-true}
-use lib.ListN.{length, getD, take, drop, set}
+use lib.ListN.{take, drop, length, getD, set}
 use lib.Seq.{getD-set-same, getD-set-other}
 use lib.Dec.{eqb}
+use Rattle.laws.proofs.Cases.{and-true, split, compare-eq}
 use Rattle.wire.specs.Bytes.{u16At}
 use Rattle.wire.specs.SheetFormat.{nameOf, sameLabel, used}
-use Rattle.laws.specs.Cases.{split, compare-eq, and-true}
 use Rattle.reading.specs.Loaded.{recordsIn}
-use Rattle.reading.specs.LabelHash.{labelHashes, hashFrom, labelHash, AllSeen}
-use Rattle.reading.proofs.Strings.{run-more, label-at, used-none, used-more}
+use Rattle.reading.specs.LabelHash.{hashFrom, labelHash, labelHashes, AllSeen}
+use Rattle.reading.proofs.Strings.{label-at, run-more, used-none, used-more}
 
 -- the bytes of a label that are left from i on
 pub hash-start : (s : List ℕ) (at end : ℕ) → end ≡ at + 2 + u16At s at →

@@ -1,3 +1,7 @@
+pub mod TablesLaws
+pub mod SheetInLaws
+pub mod ClaimTableLaws
+pub mod LoadedLaws
 pub mod Fields
 pub mod ListKinds
 pub mod Strings

@@ -3,11 +3,11 @@ use Prim.Native.Nat.{ℕ, _≤_}
 use mathlib.Core.Path.{_≡_, refl}
 use mathlib.Core.Bool.{false}
 use lib.Dec.{eqb}
-use Rattle.wire.specs.SheetFormat.{ListKind, inside, apart, place, listNumber, listKindOf, lastClaim}
-use Rattle.wire.specs.Sorts.{list-number}
-use Rattle.reading.specs.ClaimHeld.{listAs, listRead}
 use Rattle.reading.specs.declared.claim.ListKind.{ListKind as ListKindRead}
 use Rattle.reading.specs.declared.claim.ListKind.the-variants.{Inside, Apart, Place}
+use Rattle.wire.specs.SheetFormat.{listNumber, listKindOf, ListKind, inside, apart, place, lastClaim}
+use Rattle.wire.proofs.Sorts.{list-number}
+use Rattle.reading.specs.ClaimHeld.{listAs, listRead}
 
 pub list-back : (k : ListKindRead) → listRead (listKindOf (listNumber (listAs k))) ≡ k
 unfolding listNumber listKindOf

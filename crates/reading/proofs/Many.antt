@@ -1,39 +1,40 @@
 -- Laws of reading many records of one sort: what is left from a place on, and what the tables hold after one more.
-use Prim.Native.Nat.{ℕ, zero, suc, _+_, _-_, _*_, _≤_, _<_}
-use mathlib.Core.Path.{_≡_, refl, sym, ap, _∙_}
+use Prim.Native.Nat.{ℕ, _+_, _-_, suc, _≤_, _<_, zero, _*_}
+use mathlib.Core.Path.{_≡_, sym, _∙_, ap, refl}
 use mathlib.Core.Bool.{true, false}
 use mathlib.Core.List.{List, [], _∷_, _++_}
 use mathlib.Core.Logic.{⊎-elim}
 use native.Mathlib.Omega.{arith}
 use native.Mathlib.Numerals.{add-one}
-use native.Mathlib.Nat.{eq-or-lt-of-le, add-zero}
+use native.Mathlib.Nat.{add-zero, eq-or-lt-of-le}
 use borrow.Author.Tests.{ne-eqb}
-use lib.ListN.{length, getD, drop, set, length-set}
-use lib.Seq.{drop-drop, sets, getD-set-same, getD-set-other}
-use Rattle.wire.specs.Bytes.{u16At}
-use Rattle.wire.specs.Edition.{Edition}
-use Rattle.wire.specs.Record.{after, Test, refusal, Reading, onward}
-pub use Rattle.wire.specs.Passing.{never-read}
-use Rattle.wire.specs.SheetFormat.{GroupRecord, NameRecord, Records, groupOf, groupTests, nameOf}
-use Rattle.wire.specs.SheetFormat.{nameTests, used, listNumber, claimOf, claimTests, readMany}
-use Rattle.wire.specs.Encoding.{encodeClaim}
-use Rattle.laws.specs.Tabulate.{tabulate, tabulate-same}
-use Rattle.reading.specs.Tables.{groupsIn}
-use Rattle.reading.specs.ClaimHeld.{listAs, claimRecord, ClaimHeld}
-use Rattle.reading.specs.ClaimTable.{claimNumbers, claimPlace, claimIn, claimsIn, ClaimRoom, ClaimPut}
-use Rattle.reading.specs.Answers.{group, name, claim, WholeName}
-use Rattle.reading.specs.Loaded.{goesOn, passedAs, recordsIn, AllGrouped, AllHeld, Goes}
-use Rattle.reading.specs.LabelHash.{Seen, AllSeen}
+use lib.ListN.{drop, length, getD, set, length-set}
+use lib.Seq.{drop-drop, getD-set-same, getD-set-other, sets}
 use Rattle.reading.specs.declared.load.Passed.the-variants.{To, Refused}
 use Rattle.reading.specs.declared.claim.Claim.{Claim}
-use Rattle.reading.specs.declared.claim.Claim.the-variants as claim-of
 use Rattle.reading.specs.declared.records.Group.{Group}
 use Rattle.reading.specs.declared.records.Name.{Name}
 use Rattle.reading.specs.declared.records.Record.{Record}
-use Rattle.reading.specs.declared.records.Record.the-variants as record-of
-use Rattle.reading.proofs.Fields.{length-at, group-whole, name-apart}
+use Rattle.laws.specs.Tabulate.{tabulate}
+use Rattle.laws.proofs.TabulateLaws.{tabulate-same}
+use Rattle.wire.specs.Edition.{Edition}
+use Rattle.wire.specs.Bytes.{u16At}
+use Rattle.wire.specs.Record.{Test, Reading, after, refusal, onward}
+use Rattle.wire.specs.SheetFormat.{Records, readMany, nameOf, GroupRecord, listNumber, NameRecord, nameTests, used, groupOf, groupTests, claimOf}
+use Rattle.wire.specs.SheetFormat.{claimTests}
+use Rattle.wire.specs.Encoding.{encodeClaim}
+use Rattle.wire.proofs.Passing.{never-read}
+use Rattle.reading.specs.Tables.{groupsIn}
+use Rattle.reading.specs.ClaimHeld.{listAs, claimRecord, ClaimHeld}
+use Rattle.reading.specs.ClaimTable.{claimNumbers, claimPlace, claimIn, ClaimRoom, claimsIn, ClaimPut}
+use Rattle.reading.specs.Answers.{group, name, WholeName, claim}
+use Rattle.reading.specs.Loaded.{goesOn, passedAs, Goes, recordsIn, AllGrouped, AllHeld}
+use Rattle.reading.specs.LabelHash.{Seen, AllSeen}
+use Rattle.reading.proofs.Fields.{length-at, name-apart, group-whole}
 use Rattle.reading.proofs.ListKinds.{list-back, list-not-count}
 use Rattle.reading.proofs.Carried.{Handed, group-same, name-same, claim-same, claim-bytes}
+use Rattle.reading.specs.declared.claim.Claim.the-variants as claim-of
+use Rattle.reading.specs.declared.records.Record.the-variants as record-of
 
 -- i of the records are the list xs, and reading what is left from the place `at` on is reading the whole
 pub record Left {A : Type 0} (tests : List A → List ℕ → List Test) (value : List ℕ → A) (s : List ℕ) (from count first i at : ℕ)

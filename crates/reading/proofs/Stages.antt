@@ -1,31 +1,30 @@
 -- A sheet is read in stages, groups, names, claims and the end: each goes on from where the one before stopped, or is refused.
 use Prim.Native.Nat.{ℕ, _+_, _-_, _≤_, _<_}
-use mathlib.Core.Path.{_≡_, sym, ap, _∙_}
+use mathlib.Core.Path.{_≡_, sym, _∙_, ap}
 use mathlib.Core.List.{List}
 use native.Mathlib.Omega.{arith}
 use borrow.Author.Tests.{eq-eqb, ne-eqb}
-use lib.ListN.{length, getD, drop, length-drop}
-use Rattle.wire.specs.Edition.{Edition, editionOf}
-use Rattle.wire.specs.EditionFacts.{groups-within}
-use Rattle.wire.specs.Bytes.{u16At}
-use Rattle.wire.specs.Record.{after, refusal, Reading, read, refused, onward}
-use Rattle.wire.specs.SheetFormat.{HeadRecord, GroupRecord, NameRecord, ClaimRecord, Records, groupOf, groupTests, nameOf}
-use Rattle.wire.specs.SheetFormat.{closing, readClaims, readNames, readGroups, headOf, headTests, readSheet}
-use Rattle.wire.specs.Passing.{passed}
-use Rattle.wire.specs.Sorts.{HeadRight, head-nonzero, head-right}
-use Rattle.meaning.specs.OfRecords.{nameGroup}
-use Rattle.reading.specs.ClaimTable.{claimsIn}
-use Rattle.reading.specs.Answers.{headRecord, head}
-use Rattle.reading.specs.Loaded.{recordsIn, getD-recordsIn, goesOn, passedAs, loadedAs, AllGrouped, Goes, NamesGo, ClaimsGo}
-use Rattle.reading.specs.Loaded.{HeadLimits, Loads}
+use lib.ListN.{drop, length, length-drop, getD}
 use Rattle.reading.specs.declared.load.Passed.{Passed}
 use Rattle.reading.specs.declared.load.Passed.the-variants.{To, Refused}
 use Rattle.reading.specs.declared.load.Loaded.{Loaded}
 use Rattle.reading.specs.declared.records.Head.{Head}
 use Rattle.reading.specs.declared.records.Record.{Record}
-use Rattle.reading.specs.declared.records.Record.the-variants as record-of
+use Rattle.wire.specs.Edition.{Edition, editionOf}
+use Rattle.wire.specs.Bytes.{u16At}
+use Rattle.wire.specs.Record.{refusal, read, refused, onward, Reading, after}
+use Rattle.wire.specs.SheetFormat.{HeadRecord, GroupRecord, groupOf, groupTests, readNames, readGroups, nameOf, readClaims, NameRecord, closing}
+use Rattle.wire.specs.SheetFormat.{ClaimRecord, Records, headTests, readSheet, headOf}
+use Rattle.wire.proofs.EditionFacts.{groups-within}
+use Rattle.wire.proofs.Passing.{never-read, passed}
+use Rattle.wire.proofs.Sorts.{HeadRight, head-nonzero, head-right}
+use Rattle.meaning.specs.OfRecords.{nameGroup}
+use Rattle.reading.specs.ClaimTable.{claimsIn}
+use Rattle.reading.specs.Answers.{headRecord, head}
+use Rattle.reading.specs.Loaded.{goesOn, passedAs, Goes, recordsIn, NamesGo, ClaimsGo, loadedAs, Loads, AllGrouped, HeadLimits}
+use Rattle.reading.proofs.LoadedLaws.{getD-recordsIn}
 use Rattle.reading.proofs.Carried.{Handed, head-same}
-use Rattle.reading.proofs.Many.{never-read}
+use Rattle.reading.specs.declared.records.Record.the-variants as record-of
 
 pub group-stage : (h : HeadRecord) (s : List ℕ) (from : ℕ) (p : Passed) (gs : List GroupRecord) →
     Goes groupTests groupOf s from (h .groups) 2 p gs →

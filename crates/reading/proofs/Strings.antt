@@ -1,23 +1,23 @@
 -- Laws of the runs that the tests walk: the bytes of a label, two labels side by side, the names of a claim, the labels before.
-use Prim.Native.Nat.{ℕ, zero, suc, _+_, _-_, _*_, _≤_, _<_}
+use Prim.Native.Nat.{ℕ, suc, _+_, _<_, _-_, _≤_, _*_, zero}
 use mathlib.Core.Path.{_≡_, refl, ap}
-use mathlib.Core.Bool.{Bool, true, false, _&&_, and-assoc}
-use mathlib.Core.List.{List, [], _∷_, _++_}
+use mathlib.Core.Bool.{_&&_, true, Bool, and-assoc, false}
+use mathlib.Core.List.{List, _∷_, [], _++_}
 use mathlib.Core.Logic.{⊎-elim}
 use native.Mathlib.Omega.{arith}
 use native.Mathlib.Numerals.{add-one}
 use native.Mathlib.Nat.{eq-or-lt-of-le}
-use borrow.Author.Tests.{le-leb, lt-leb, eq-eqb, ne-eqb, eqb-true, eqb-false}
+use borrow.Author.Tests.{eq-eqb, ne-eqb, eqb-true, eqb-false, le-leb, lt-leb}
 use lib.ListN.{length, getD, take, drop, length-take, length-drop}
 use lib.Seq.{drop-cons, drop-drop, take-add}
-use lib.Dec.{leb, eqb}
+use lib.Dec.{eqb, leb}
+use Rattle.laws.proofs.Cases.{split, and-true}
 use Rattle.wire.specs.Bytes.{u16At}
-use Rattle.wire.specs.Wide.{bytesAt}
+use Rattle.wire.specs.SheetFormat.{labelByte, labelBytes, sameLabel, nameOf, allWithin, u16s, used}
 use Rattle.wire.specs.Encoding.{Bytes}
-use Rattle.wire.specs.SheetFormat.{nameOf, labelByte, labelBytes, sameLabel, used, allWithin, u16s}
-use Rattle.wire.specs.Sorts.{used-snoc}
+use Rattle.wire.proofs.WideLaws.{bytesAt}
+use Rattle.wire.proofs.Sorts.{used-snoc}
 use Rattle.reading.specs.Loaded.{recordsIn}
-use Rattle.laws.specs.Cases.{split, and-true}
 use Rattle.reading.proofs.Fields.{length-at}
 
 -- one more byte of a run

@@ -1,6 +1,6 @@
 -- Laws of the claim that a record carries: it is the record's, and what holds of it where the tests passed.
 use Prim.Native.Nat.{ℕ, zero, suc, _+_, _*_, _≤_, _<_}
-use mathlib.Core.Path.{_≡_, sym, _∙_}
+use mathlib.Core.Path.{_≡_, _∙_, sym}
 use mathlib.Core.Bool.{true, _&&_}
 use mathlib.Core.List.{List, [], _∷_}
 use native.Mathlib.Omega.{arith}
@@ -8,22 +8,22 @@ use native.Mathlib.Nat.{add-assoc}
 use borrow.Author.Tests.{leb-true}
 use lib.ListN.{length, drop, length-drop}
 use lib.Dec.{leb}
-use Rattle.wire.specs.Bytes.{u16At}
-use Rattle.wire.specs.Record.{kindOf, refusal}
-use Rattle.wire.specs.SheetFormat.{listNumber, u16s, allWithin, leftOf, rightOf, claimTests}
-use Rattle.laws.specs.Cases.{and-true}
-use Rattle.wire.specs.Passing.{Pass, passed}
-use Rattle.wire.specs.Facts.{within-at}
-use Rattle.wire.specs.Sorts.{ListsFrame, list-within, claim-nonzero, claim-frame, claim-cases, claim-count, claim-lists}
-use Rattle.reading.specs.ClaimHeld.{listAs, ListsHeld}
-use Rattle.reading.specs.Answers.{recordAs, ClaimTaken, ClaimAnswer}
 use Rattle.reading.specs.declared.claim.ListKind.{ListKind}
 use Rattle.reading.specs.declared.claim.Claim.{Claim}
+use Rattle.laws.proofs.Cases.{and-true}
+use Rattle.wire.specs.Bytes.{u16At}
+use Rattle.wire.specs.Record.{refusal, kindOf}
+use Rattle.wire.specs.SheetFormat.{u16s, allWithin, claimTests, listNumber, leftOf, rightOf}
+use Rattle.wire.proofs.Passing.{passed, Pass}
+use Rattle.wire.proofs.Sorts.{claim-nonzero, claim-frame, claim-cases, list-within, claim-count, ListsFrame, claim-lists}
+use Rattle.wire.proofs.Facts.{within-at}
+use Rattle.reading.specs.ClaimHeld.{listAs, ListsHeld}
+use Rattle.reading.specs.Answers.{recordAs, ClaimTaken, ClaimAnswer}
+use Rattle.reading.proofs.Fields.{field-at, read-at, fields-at}
+use Rattle.reading.proofs.Carried.{answer-refused, answer-record}
 use Rattle.reading.specs.declared.claim.Claim.the-variants as claim-of
 use Rattle.reading.specs.declared.records.Record.the-variants as record-of
 use Rattle.reading.specs.declared.records.Answer.the-variants as answer
-use Rattle.reading.proofs.Fields.{field-at, fields-at, read-at}
-use Rattle.reading.proofs.Carried.{answer-refused, answer-record}
 
 -- numbers that are all from 1 to `names`
 all-within : (s : List ℕ) (names i n : ℕ) → allWithin names (u16s s i n) ≡ true → (j : ℕ) → j < n →

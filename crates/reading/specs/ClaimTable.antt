@@ -3,14 +3,14 @@ use Prim.Native.Nat.{ℕ, _+_, _*_, _<_}
 use mathlib.Core.Path.{_≡_}
 use mathlib.Core.Bool.{cond}
 use mathlib.Core.List.{List, [], _∷_}
-use lib.ListN.{length, getD, set}
+use lib.ListN.{getD, length, set}
 use lib.Seq.{sets}
 use lib.Dec.{eqb}
-use Rattle.wire.specs.SheetFormat.{listNumber, listKindOf, ClaimRecord}
-use Rattle.laws.specs.Tabulate.{tabulate, length-tabulate, getD-tabulate}
-use Rattle.reading.specs.ClaimHeld.{listAs, listRead, claimRecord}
 use Rattle.reading.specs.declared.claim.Lists.{Lists}
 use Rattle.reading.specs.declared.claim.Claim.{Claim}
+use Rattle.laws.specs.Tabulate.{tabulate}
+use Rattle.wire.specs.SheetFormat.{listNumber, listKindOf, ClaimRecord}
+use Rattle.reading.specs.ClaimHeld.{listAs, listRead, claimRecord}
 use Rattle.reading.specs.declared.claim.Claim.the-variants as claim
 
 -- numbers a claim
@@ -49,15 +49,6 @@ claimIn claims places k =
 -- the records of the first n claims, whose lists stand in the bytes s
 unfoldable pub claimsIn : List ℕ → List ℕ → List ℕ → ℕ → List ClaimRecord
 claimsIn s claims places n = tabulate (λ k. claimRecord s (claimIn claims places k)) n
-
-module _ (s claims places : List ℕ) (n : ℕ) where
-  pub length-claimsIn : length (claimsIn s claims places n) ≡ n
-  unfolding claimsIn
-  length-claimsIn = length-tabulate (λ k. claimRecord s (claimIn claims places k)) n
-
-  pub getD-claimsIn : (k : ℕ) (d : ClaimRecord) → k < n → getD (claimsIn s claims places n) k d ≡ claimRecord s (claimIn claims places k)
-  unfolding claimsIn
-  getD-claimsIn k d l = getD-tabulate (λ k. claimRecord s (claimIn claims places k)) n k d l
 
 -- the tables have a place k
 pub record ClaimRoom (claims places : List ℕ) (k : ℕ) : Type 0 where

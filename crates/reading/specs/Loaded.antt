@@ -1,37 +1,27 @@
 -- What loading a sheet gives: the written reading of its bytes, as the tables hold it, or the refusal.
-use Prim.Native.Nat.{ℕ, _+_, _-_, _*_, _≤_, _<_}
-use mathlib.Core.Path.{_≡_, sym}
+use Prim.Native.Nat.{ℕ, _<_, _+_, _≤_, _*_, _-_}
+use mathlib.Core.Path.{_≡_}
 use mathlib.Core.List.{List, []}
-use lib.ListN.{length, getD, drop}
+use lib.ListN.{getD, drop, length}
+use Rattle.reading.specs.declared.load.Passed.{Passed}
+use Rattle.reading.specs.declared.load.Loaded.{Loaded}
+use Rattle.laws.specs.Tabulate.{tabulate}
 use Rattle.wire.specs.Limits.{nameLimit, claimLimit}
-use Rattle.wire.specs.Capacity.{groupCapacity}
 use Rattle.wire.specs.Edition.{Edition}
-use Rattle.wire.specs.Record.{Test, Reading, read, refused}
-use Rattle.wire.specs.SheetFormat.{HeadRecord, Records, nameOf, nameTests, claimOf, claimTests, readMany}
+use Rattle.wire.specs.Capacity.{groupCapacity}
+use Rattle.wire.specs.Record.{Reading, read, refused, Test}
+use Rattle.wire.specs.SheetFormat.{HeadRecord, nameOf, Records, readMany, nameTests, claimOf, claimTests}
 use Rattle.meaning.specs.OfRecords.{nameGroup}
-use Rattle.laws.specs.Tabulate.{tabulate, length-tabulate, getD-tabulate}
 use Rattle.reading.specs.Tables.{groupFields, groupsIn}
 use Rattle.reading.specs.ClaimHeld.{ClaimHeld}
-use Rattle.reading.specs.ClaimTable.{claimSlots, claimIn, claimsIn}
+use Rattle.reading.specs.ClaimTable.{claimIn, claimsIn, claimSlots}
 use Rattle.reading.specs.Answers.{headRecord}
-use Rattle.reading.specs.declared.records.Head.{Head}
-use Rattle.reading.specs.declared.load.Passed.{Passed}
 use Rattle.reading.specs.declared.load.Passed.the-variants as passed
-use Rattle.reading.specs.declared.load.Loaded.{Loaded}
 use Rattle.reading.specs.declared.load.Loaded.the-variants as loaded
 
 -- the first n records of one sort, which stand at these places of the bytes s
 unfoldable pub recordsIn : {A : Type 0} → (List ℕ → A) → List ℕ → List ℕ → ℕ → List A
 recordsIn value s places n = tabulate (λ i. value (drop (getD places i 0) s)) n
-
-module _ {A : Type 0} (value : List ℕ → A) (s places : List ℕ) (n : ℕ) where
-  pub length-recordsIn : length (recordsIn value s places n) ≡ n
-  unfolding recordsIn
-  length-recordsIn = length-tabulate (λ i. value (drop (getD places i 0) s)) n
-
-  pub getD-recordsIn : (i : ℕ) (d : A) → i < n → getD (recordsIn value s places n) i d ≡ value (drop (getD places i 0) s)
-  unfolding recordsIn
-  getD-recordsIn i d l = getD-tabulate (λ i. value (drop (getD places i 0) s)) n i d l
 
 -- reading goes on with the value, or stops at the refusal
 unfoldable pub goesOn : {A B : Type 0} → Reading A → (A → Reading B) → Reading B
@@ -120,18 +110,3 @@ pub record LoadsTree (r : Loaded) (whole : Reading Records) (s groups : List ℕ
   pub claims : List ℕ
   pub places : List ℕ
   pub loads : Loads r whole s groups names labels claims places
-
--- what that says for each of the two answers
-module _ {r : Loaded} {whole : Reading Records} {s groups names labels claims places : List ℕ}
-    (w : Loads r whole s groups names labels claims places) where
-  pub loaded-sheet : (h : Head) → r ≡ loaded.Sheet h → whole ≡ read (recordsOf (headRecord h) s groups labels claims places)
-  unfolding goesOn loadedAs
-  loaded-sheet h e = sym (rw e at (w .reads))
-
-  pub loaded-held : (h : Head) → r ≡ loaded.Sheet h → Held (headRecord h) s names labels claims places
-  unfolding loadedAs
-  loaded-held h e = w .held _ (rw e)
-
-  pub loaded-refused : (n k : ℕ) → r ≡ loaded.Refused n k → whole ≡ refused n k
-  unfolding goesOn loadedAs
-  loaded-refused n k e = sym (rw e at (w .reads))

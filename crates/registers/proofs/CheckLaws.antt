@@ -1,32 +1,32 @@
 -- The columns of a register that was read show the sets that its rows list; what a reading gives is what the check answers, and
 -- the ones of the columns are the counts.
-use Prim.Native.Nat.{ℕ, _*_, _≤_, _<_}
-use mathlib.Core.Path.{_≡_, refl, _∙_}
+use Prim.Native.Nat.{ℕ, _≤_, _<_, _*_}
+use mathlib.Core.Path.{_≡_, _∙_, refl}
 use mathlib.Core.List.{List}
 use native.Mathlib.Omega.{arith}
-use borrow.Author.Tests.{lt-ltb, le-ltb}
+use borrow.Author.Tests.{le-ltb, lt-ltb}
 use lib.ListN.{length}
-use Rattle.laws.specs.SumLaws.{bit-eq}
-use Rattle.wire.specs.Edition.{Edition}
+use Rattle.registers.specs.declared.check.Check.{Check}
+use Rattle.laws.proofs.SumLaws.{bit-eq}
 use Rattle.wire.specs.Limits.{rowLimit}
-use Rattle.wire.specs.Record.{Reading, read, refused}
+use Rattle.wire.specs.Edition.{Edition}
+use Rattle.wire.specs.Record.{Reading, refused, read}
 use Rattle.wire.specs.RegisterFormat.{Row, readRegister}
 use Rattle.meaning.specs.Sheet.{Sheet}
 use Rattle.meaning.specs.Tree.{Tree}
 use Rattle.meaning.specs.OfRecords.{members, listedSets}
-use Rattle.meaning.specs.ReadableRows.{memberIn, distinct-of-readable}
+use Rattle.meaning.specs.MemberIn.{memberIn}
+use Rattle.meaning.proofs.ReadableRows.{distinct-of-readable}
 use Rattle.rows.specs.RowsRead.{wordBits, rowsBefore}
 use Rattle.rows.proofs.RowLaws.{rows-most}
-use Rattle.columns.specs.Columns.{columnDigit, inColumn, columnSets, columns-distinct, WordsFor, ColumnsFilled}
-use Rattle.registers.specs.Tallies.{ColumnsCounted}
-use Rattle.registers.specs.Tallies.{Counted}
-use Rattle.registers.specs.Agree.{Agree, answered-agree, count-agree}
-use Rattle.registers.specs.Checked.{AnswerTo, Checked, Tallied}
-use Rattle.registers.specs.declared.check.Check.{Check}
-use Rattle.registers.specs.declared.check.Check.the-variants as check
-use Rattle.columns.proofs.ColumnLaws.{bit-column}
+use Rattle.columns.specs.Columns.{columnDigit, ColumnsFilled, columnSets, WordsFor, inColumn}
+use Rattle.columns.proofs.ColumnLaws.{columns-distinct, bit-column}
 use Rattle.columns.proofs.FillLaws.{members-within}
+use Rattle.registers.specs.Tallies.{ColumnsCounted, Counted}
+use Rattle.registers.specs.Checked.{Checked, Tallied, AnswerTo}
+use Rattle.registers.proofs.Agree.{Agree, answered-agree, count-agree}
 use Rattle.registers.proofs.CountLaws.{column-count}
+use Rattle.registers.specs.declared.check.Check.the-variants as check
 
 -- a refused register
 pub checked-refused : (s : Sheet) (d : Reading (List Row)) (n k : ℕ) → refused n k ≡ d → Checked s d (check.Refused n k)

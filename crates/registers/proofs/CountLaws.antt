@@ -1,20 +1,21 @@
 -- The ones of columns, word by word, are the counts of the sets that the columns list.
-use Prim.Native.Nat.{ℕ, zero, suc, _+_, _-_, _*_, _^_, _≤_, _<_}
+use Prim.Native.Nat.{ℕ, _+_, _*_, _^_, _<_, zero, suc, _≤_, _-_}
 use mathlib.Core.Path.{_≡_, sym}
 use mathlib.Core.List.{List}
 use native.Mathlib.Omega.{arith}
-use lib.ListN.{length, getD, set}
+use lib.ListN.{getD, length, set}
 use lib.Seq.{getD-set-same, getD-set-other}
 use lib.Count.{ones}
 use Rattle.laws.specs.Sum.{sum}
-use Rattle.laws.specs.Cases.{compare-eq}
-use Rattle.laws.specs.SumLaws.{sum-eq, sum-zero, sum-parts}
-use Rattle.laws.specs.Digits.{digit, ones-digits}
+use Rattle.laws.specs.Digit.{digit}
+use Rattle.laws.proofs.Cases.{compare-eq}
+use Rattle.laws.proofs.SumLaws.{sum-eq, sum-parts, sum-zero}
+use Rattle.laws.proofs.Digits.{ones-digits}
 use Rattle.meaning.specs.Sets.{count}
 use Rattle.rows.specs.RowsRead.{wordBits}
 use Rattle.columns.specs.Columns.{columnWord, columnDigit, columnSets}
-use Rattle.registers.specs.Tallies.{ColumnsCounted}
 use Rattle.columns.proofs.ColumnLaws.{digit-at, column-le, bit-column}
+use Rattle.registers.specs.Tallies.{ColumnsCounted}
 
 -- one word more
 pub count-word : (t : List ℕ) (g w : ℕ) → getD t (columnWord g w) 0 < 2 ^ 64

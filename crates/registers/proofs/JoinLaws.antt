@@ -1,30 +1,30 @@
 -- The columns of a group's sons put together: word by word, son by son, and what they tell of the sons.
-use Prim.Native.Nat.{ℕ, zero, suc, _+_, _-_, _*_, _/_, _%_, _≤_, _<_, min, max}
-use mathlib.Core.Path.{_≡_, refl, ap, _∙_}
+use Prim.Native.Nat.{ℕ, _*_, _/_, _%_, _<_, min, max, _+_, _≤_, zero, suc, _-_}
+use mathlib.Core.Path.{_≡_, refl, _∙_, ap}
 use mathlib.Core.Bool.{true, false}
-use mathlib.Core.List.{List, [], _∷_, _++_, append-nil, Memᴰ·append-right}
-use mathlib.Core.List.{List·Memᴰ, List·Memᴰ·head, List·Memᴰ·tail, List·Memᴰ·not-nil, List·Memᴰ·cases-cons, List·Memᴰ·eq-of-singleton}
+use mathlib.Core.List.{List, [], _∷_, _++_, Memᴰ·append-right, List·Memᴰ, List·Memᴰ·head, append-nil, List·Memᴰ·not-nil, List·Memᴰ·cases-cons}
+use mathlib.Core.List.{List·Memᴰ·tail, List·Memᴰ·eq-of-singleton}
 use mathlib.Core.Logic.{⊎-elim}
 use native.Mathlib.Omega.{arith}
 use native.Mathlib.Nat.{zero-add}
 use native.Mathlib.Numerals.{add-one}
 use borrow.Author.Tests.{lt-ltb}
-use lib.ListN.{length, getD, take, length-take, drop-of-length-le}
+use lib.ListN.{getD, length, take, length-take, drop-of-length-le}
 use lib.Seq.{append-snoc, slice, slice-cons, length-slice}
 use lib.Bits.{bitAnd}
-use Rattle.laws.specs.Cases.{compare-le, compare-eq, not-true-false, true-not-false}
-use Rattle.laws.specs.Digits.{digit-of-zero, digit-and, digit-or}
-use Rattle.meaning.specs.Sheet.{Sheet, Group, Son}
-use Rattle.meaning.specs.SonList.{sonList, Rising}
-use Rattle.meaning.proofs.SonListLaws.{listed-son, son-listed, son-list-rises}
+use Rattle.laws.proofs.Cases.{compare-le, compare-eq, not-true-false, true-not-false}
+use Rattle.laws.proofs.Digits.{digit-of-zero, digit-and, digit-or}
 use Rattle.wire.specs.Capacity.{groupCapacity}
+use Rattle.meaning.specs.Sheet.{Sheet, Group, Son}
+use Rattle.meaning.specs.SonList.{Rising, sonList}
+use Rattle.meaning.proofs.SonListLaws.{listed-son, son-listed, son-list-rises}
 use Rattle.rows.specs.RowsRead.{wordBits}
-use Rattle.columns.specs.Columns.{columnWord, columnDigit, inColumn}
-use Rattle.registers.specs.SonLists.{SonsListed}
-use Rattle.registers.specs.SonSteps.{severalSons, SonsReadable}
+use Rattle.columns.specs.Columns.{columnDigit, columnWord, inColumn}
 use Rattle.columns.specs.ColumnSteps.{Cleared}
-use Rattle.registers.specs.Joins.{ColumnJoined, total, heldBy, Joined}
 use Rattle.columns.proofs.ColumnLaws.{column-le, column-one, one-column}
+use Rattle.registers.specs.SonLists.{SonsListed}
+use Rattle.registers.specs.SonSteps.{SonsReadable, severalSons}
+use Rattle.registers.specs.Joins.{ColumnJoined, total, Joined, heldBy}
 
 -- the digits of words that are 0, and of words to which a column is put
 cleared-digit : {words : ℕ} {t : List ℕ} → Cleared words t → (i : ℕ) → i < wordBits * words → columnDigit t 0 i ≡ 0

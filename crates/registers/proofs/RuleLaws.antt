@@ -1,26 +1,27 @@
 -- The tests of the scan say when a rule is broken at a group.
-use Prim.Native.Nat.{ℕ, zero, suc, _*_, _≤_, _<_}
+use Prim.Native.Nat.{ℕ, _*_, _<_, _≤_, zero, suc}
 use mathlib.Core.Path.{_≡_, refl, sym, _∙_}
-use mathlib.Core.Bool.{Bool, true, false, not, _&&_, false≢true}
+use mathlib.Core.Bool.{false, true, Bool, _&&_, not, false≢true}
 use mathlib.Core.List.{List}
 use native.Mathlib.Omega.{arith}
-use borrow.Author.Tests.{lt-ltb, le-ltb, ne-eqb, ltb-true, ltb-false, not-true}
+use borrow.Author.Tests.{ne-eqb, lt-ltb, ltb-true, not-true, le-ltb, ltb-false}
 use lib.Dec.{ltb, eqb}
-use Rattle.wire.specs.Limits.{noEnd, rowLimit}
-use Rattle.rows.specs.RowsRead.{wordBits}
-use Rattle.meaning.specs.Sheet.{Sheet, AtMost, Group, Son, endOf}
+use Rattle.laws.proofs.Cases.{and-true, compare-le, or-left, or-right, split}
+use Rattle.wire.specs.Limits.{rowLimit, noEnd}
+use Rattle.meaning.specs.Sheet.{Sheet, Group, Son, AtMost, endOf}
 use Rattle.meaning.specs.Tree.{Tree}
 use Rattle.meaning.specs.SonList.{sonList}
 use Rattle.meaning.specs.Sets.{Sets, count}
 use Rattle.meaning.specs.Rule.{Rule, outside, lacking, uncovered, shared, below, above, ruleNumber, Broken}
-use Rattle.reading.specs.Modes.{disjointMode, coverMode, sameMode}
-use Rattle.reading.specs.SheetIn.{sheetIn, Tabled, group-in, parent-in, lo-in, hi-in, disjoint-in, cover-in, same-in, parent-below}
 use Rattle.meaning.proofs.SonLaws.{son-parent}
-use Rattle.laws.specs.Cases.{and-true, or-left, or-right, split, compare-le}
+use Rattle.reading.specs.Modes.{disjointMode, coverMode, sameMode}
+use Rattle.reading.specs.SheetIn.{sheetIn, Tabled}
+use Rattle.reading.proofs.SheetInLaws.{group-in, parent-in, lo-in, hi-in, disjoint-in, cover-in, same-in, parent-below}
+use Rattle.rows.specs.RowsRead.{wordBits}
 use Rattle.columns.specs.Columns.{columnDigit, inColumn, columnSets, WordsFor}
-use Rattle.registers.specs.Joins.{asksSons, heldBy, Joined}
-use Rattle.registers.specs.RuleTests.{parentIn, loIn, hiIn, modeIn, mayBreak, memberBreaks, countBreaks}
 use Rattle.columns.proofs.ColumnLaws.{bit-column, column-one, one-column}
+use Rattle.registers.specs.Joins.{heldBy, Joined, asksSons}
+use Rattle.registers.specs.RuleTests.{memberBreaks, parentIn, loIn, hiIn, modeIn, mayBreak, countBreaks}
 use Rattle.registers.proofs.JoinLaws.{none-held, held-none, two-held, held-two}
 
 zero-column : (t : List ℕ) (g i : ℕ) → columnDigit t g i ≡ 0 → inColumn t g i ≡ false

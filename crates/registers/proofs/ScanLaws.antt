@@ -1,30 +1,32 @@
 -- What the scan has passed: groups, rules and members of which nothing is broken; and what its end says.
-use Prim.Native.Nat.{ℕ, _+_, _-_, _*_, _≤_, _<_}
+use Prim.Native.Nat.{ℕ, _<_, _+_, _≤_, _*_}
 use mathlib.Core.Path.{_≡_, refl, sym, _∙_}
-use mathlib.Core.Bool.{Bool, true, false}
+use mathlib.Core.Bool.{false, Bool, true}
 use mathlib.Core.List.{List}
 use native.Mathlib.Omega.{arith}
 use native.Mathlib.Numerals.{add-one}
 use lib.ListN.{getD}
-use Rattle.rows.specs.RowsRead.{wordBits}
+use Rattle.reading.specs.declared.tables.GroupNo.{GroupNo}
+use Rattle.laws.proofs.Cases.{compare-le, true-not-false, below-suc}
 use Rattle.meaning.specs.Sheet.{Sheet, Group}
 use Rattle.meaning.specs.SonList.{sonList}
 use Rattle.meaning.specs.Sets.{Sets}
-use Rattle.meaning.specs.Rule.{Rule, ruleNumber, Broken}
-use Rattle.reading.specs.SheetIn.{sheetIn, Tabled, size-in, group-in, parent-in}
-use Rattle.laws.specs.Cases.{compare-le, below-suc, true-not-false}
-use Rattle.registers.specs.Unbroken.{unbroken-fits, fits-answered, broken-answered}
-use Rattle.columns.specs.Columns.{columnSets, columns-distinct, WordsFor}
+use Rattle.meaning.specs.Rule.{Rule, Broken, ruleNumber}
+use Rattle.reading.specs.SheetIn.{sheetIn, Tabled}
+use Rattle.reading.proofs.SheetInLaws.{size-in, group-in, parent-in}
+use Rattle.rows.specs.RowsRead.{wordBits}
+use Rattle.columns.specs.Columns.{columnSets, WordsFor}
+use Rattle.columns.proofs.ColumnLaws.{columns-distinct}
 use Rattle.registers.specs.SonLists.{keptSons}
 use Rattle.registers.specs.SonSteps.{severalSons}
 use Rattle.registers.specs.Joins.{Joined, JoinedFor}
 use Rattle.registers.specs.Tallies.{Gathered}
-use Rattle.registers.specs.RuleTests.{parentIn, modeIn, mayBreak, memberBreaks, SomeMember, countBreaks}
+use Rattle.registers.specs.RuleTests.{memberBreaks, SomeMember, parentIn, modeIn, mayBreak, countBreaks}
 use Rattle.registers.specs.Checked.{AnswerTo}
-use Rattle.reading.specs.declared.tables.GroupNo.{GroupNo}
-use Rattle.registers.specs.declared.check.Check.the-variants as check
+use Rattle.registers.proofs.Unbroken.{unbroken-fits, fits-answered, broken-answered}
 use Rattle.registers.proofs.JoinLaws.{two-sons}
-use Rattle.registers.proofs.RuleLaws.{may, rule-first, rule-last, rule-numbered, by-member, member-of, may-is, may-asked, by-count, count-of}
+use Rattle.registers.proofs.RuleLaws.{rule-first, rule-last, may, rule-numbered, by-member, member-of, may-is, may-asked, by-count, count-of}
+use Rattle.registers.specs.declared.check.Check.the-variants as check
 
 -- nothing is broken at a group before g
 pub record ClearGroups {X : Type 0} (s : Sheet) (A : Sets X) (g : ℕ) : Type 0 where

@@ -1,5 +1,5 @@
 -- The members of a word that pass a test, as its digits; whether some member of several words does.
-use Prim.Native.Nat.{ℕ, _+_, _-_, _*_, _^_, _≤_, _<_}
+use Prim.Native.Nat.{ℕ, _+_, _*_, _-_, _≤_, _<_, _^_}
 use mathlib.Core.Path.{_≡_, _∙_}
 use mathlib.Core.Bool.{Bool, true, false, not, _&&_}
 use mathlib.Core.List.{List}
@@ -10,13 +10,13 @@ use lib.ListN.{getD}
 use lib.Dec.{eqb}
 use lib.Bits.{bitAnd, bitOr, and-le-l, and-le-r, or-zero-l, or-add-and}
 use Rattle.laws.specs.Sum.{bit}
-use Rattle.laws.specs.Cases.{split, compare-le, compare-eq}
-use Rattle.laws.specs.SumLaws.{bit-true}
-use Rattle.laws.specs.Digits.{digit-of-zero, digit-some, digit-less}
+use Rattle.laws.proofs.Cases.{split, compare-le, compare-eq}
+use Rattle.laws.proofs.SumLaws.{bit-true}
+use Rattle.laws.proofs.Digits.{digit-less, digit-of-zero, digit-some}
 use Rattle.rows.specs.RowsRead.{wordBits}
 use Rattle.columns.specs.Columns.{columnWord, inColumn}
-use Rattle.registers.specs.RuleTests.{MembersPassing, SomeMember}
 use Rattle.columns.proofs.ColumnLaws.{digit-at, bit-column}
+use Rattle.registers.specs.RuleTests.{MembersPassing, SomeMember}
 
 -- a word of a table that has one column
 pub first-word : (t : List ℕ) (w : ℕ) → getD t w 0 ≡ getD t (columnWord 0 w) 0

@@ -1,9 +1,6 @@
-pub mod Unbroken
 pub mod SonLists
 pub mod SonSteps
 pub mod Joins
 pub mod Tallies
 pub mod RuleTests
 pub mod Checked
-pub mod Agree
-pub mod Settled

@@ -1,13 +1,13 @@
 -- The tests that the scan makes: whether a rule of one member can be broken at a group, whether a member breaks it, whether some
 -- member of several words does, whether a count does. Rules go by document 01's numbers.
-use Prim.Native.Nat.{ℕ, _+_, _-_, _*_, _≤_, _<_}
+use Prim.Native.Nat.{ℕ, _-_, _*_, _+_, _<_, _≤_}
 use mathlib.Core.Path.{_≡_}
-use mathlib.Core.Bool.{Bool, true, false, cond, not, _&&_}
+use mathlib.Core.Bool.{Bool, cond, _&&_, not, true, false}
 use mathlib.Core.List.{List}
 use lib.ListN.{getD}
-use lib.Dec.{ltb, eqb}
+use lib.Dec.{eqb, ltb}
 use Rattle.laws.specs.Sum.{bit}
-use Rattle.laws.specs.Digits.{digit}
+use Rattle.laws.specs.Digit.{digit}
 use Rattle.wire.specs.Limits.{noEnd}
 use Rattle.reading.specs.Modes.{disjointMode, coverMode, sameMode}
 use Rattle.rows.specs.RowsRead.{wordBits}

@@ -1,1 +1,3 @@
+pub mod WroteLaws
+pub mod WrittenLaws
 pub mod ReplyLaws

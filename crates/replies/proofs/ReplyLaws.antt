@@ -1,11 +1,12 @@
 -- The frame of a call, put together: a refusal and a reply, and a reading that is the one or the other.
 use Prim.Native.Nat.{ℕ}
-use mathlib.Core.Path.{_≡_, refl, subst, _∙_}
+use mathlib.Core.Path.{_≡_, subst, refl, _∙_}
 use mathlib.Core.List.{List}
 use native.Mathlib.Omega.{arith}
 use Rattle.wire.specs.Record.{Reading, read, refused}
-use Rattle.replies.specs.Wrote.{Wrote, rest-kept}
-use Rattle.replies.specs.Reply.{Call, call, packed, Refused, Replied, OnceRead}
+use Rattle.replies.specs.Reply.{call, packed, Refused, OnceRead, Call, Replied}
+use Rattle.replies.specs.Wrote.{Wrote}
+use Rattle.replies.proofs.WroteLaws.{rest-kept}
 
 -- a reading is one of the two, and of one value
 pub read-once : {A : Type 0} {x : Reading A} {d e : A} → x ≡ read d → x ≡ read e → d ≡ e

@@ -1,20 +1,22 @@
 -- The words of membership bytes hold their bits, and whether a bit above the groups is set, word by word.
-use Prim.Native.Nat.{ℕ, zero, suc, _+_, _-_, _*_, _/_, _%_, _^_, _≤_, _<_}
+use Prim.Native.Nat.{_*_, ℕ, _+_, _/_, _%_, _<_, zero, suc, _-_, _^_, _≤_}
 use mathlib.Core.Path.{_≡_, refl, sym, _∙_}
-use mathlib.Core.Bool.{Bool, true, false, not, true≢false, false≢true}
+use mathlib.Core.Bool.{false, false≢true, not, Bool, true, true≢false}
 use mathlib.Core.List.{List}
 use native.Mathlib.Omega.{arith}
 use native.Mathlib.Numerals.{add-one}
 use borrow.Author.Tests.{eqb-true, eqb-false, not-true, not-false}
 use lib.ListN.{getD}
 use lib.Dec.{eqb}
-use Rattle.laws.specs.Cases.{compare-le}
-use Rattle.laws.specs.Digits.{digit, digit-low, digit-shift, digit-none, digit-some}
+use Rattle.laws.specs.Digit.{digit}
+use Rattle.laws.proofs.Cases.{compare-le}
+use Rattle.laws.proofs.Digits.{digit-low, digit-shift, digit-none, digit-some}
 use Rattle.wire.specs.Edition.{Edition, edition1, edition2, groupLimit, membershipBytes}
-use Rattle.wire.specs.EditionFacts.{group-bits}
-use Rattle.wire.specs.Wide.{u64At, bytesAt, u64-bytes}
+use Rattle.wire.specs.Wide.{u64At}
 use Rattle.wire.specs.Encoding.{Bytes}
-use Rattle.rows.specs.RowsRead.{wordBytes, wordBits, rowWords, bitAt, WordAt, Above}
+use Rattle.wire.proofs.EditionFacts.{group-bits}
+use Rattle.wire.proofs.WideLaws.{bytesAt, u64-bytes}
+use Rattle.rows.specs.RowsRead.{wordBits, rowWords, wordBytes, bitAt, WordAt, Above}
 
 -- the words of a row have a bit for each group, and are its membership bytes
 pub words-groups : (ed : Edition) → groupLimit ed ≡ wordBits * rowWords ed

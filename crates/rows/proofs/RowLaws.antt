@@ -1,35 +1,41 @@
 -- The row decoder's answers, and the reading of rows, row by row, in terms of them.
-use Prim.Native.Nat.{ℕ, zero, suc, _+_, _-_, _*_, _/_, _%_, _≤_, _<_}
+use Prim.Native.Nat.{ℕ, _+_, _*_, zero, suc, _<_, _-_, _/_, _%_, _≤_}
 use mathlib.Core.Path.{_≡_, refl, sym, _∙_}
-use mathlib.Core.Bool.{Bool, true, false, cond, not, _&&_}
+use mathlib.Core.Bool.{true, false, Bool, cond, not, _&&_}
 use mathlib.Core.List.{List, [], _∷_, _++_, append-nil, append-assoc}
+use lib.ListN.{length, take, drop, length-append, length-take, length-drop, List·getD-eq-default}
+use lib.Dec.{leb, ltb, eqb}
 use native.Mathlib.Omega.{arith}
 use native.Mathlib.Nat.{le-refl, add-zero}
 use native.Mathlib.Numerals.{add-one}
 use borrow.Author.Tests.{le-leb, lt-leb, eq-eqb, ne-eqb, eqb-true, eqb-false, leb-true, ltb-true, not-true, lt-ltb, le-ltb}
-use lib.ListN.{length, take, drop, length-append, length-take, length-drop, List·getD-eq-default}
 use lib.Seq.{getD-take, getD-drop, drop-drop}
-use lib.Dec.{leb, ltb, eqb}
-use Rattle.laws.specs.Cases.{split, and-true, compare-eq, below-suc}
-use Rattle.laws.specs.Digits.{digit-of-zero}
-use Rattle.wire.specs.Limits.{rowLimit}
-use Rattle.wire.specs.Edition.{Edition, groupLimit, membershipBytes, rowKind, rowLength, rowBytes, rowHead}
-use Rattle.wire.specs.EditionFacts.{group-bits, row-parts, groups-many, row-length-fits}
-use Rattle.wire.specs.Member.{sideNumber, isSide, sideOf, Member, precedes, oneMember}
-use Rattle.wire.specs.MemberKey.{keyMember, key-of-member, precedes-by-key, one-by-key}
-use Rattle.wire.specs.Bytes.{u16At, u32At}
-use Rattle.wire.specs.Fields.{u16-drop, u32-drop, u32-halves}
-use Rattle.wire.specs.Encoding.{Bytes}
-use Rattle.wire.specs.Facts.{u16-most}
-use Rattle.wire.specs.Record.{after, Test, Reading, read, refused, onward, refusal}
-use Rattle.wire.specs.Passing.{Pass, refusal-zero, passed, pass-take, refusal-take}
-use Rattle.wire.specs.RegisterFormat.{Row, sideField, memberOf, rowOf, inGroup, lastMember, clearAbove, rowTests, readRows, readRegister}
-use Rattle.wire.specs.Many.{Reads, stop, go}
-use Rattle.wire.specs.RowFacts.{last-member-behind}
-use Rattle.wire.specs.RoundTripRegister.{testsAfter, register-read}
 use Rattle.rows.specs.declared.decode.RowFound.{RowFound}
+use Rattle.laws.proofs.Cases.{split, below-suc, and-true, compare-eq}
+use Rattle.laws.proofs.Digits.{digit-of-zero}
+use Rattle.wire.specs.Limits.{rowLimit}
+use Rattle.wire.specs.Edition.{Edition, rowBytes, rowHead, groupLimit, membershipBytes, rowKind, rowLength}
+use Rattle.wire.specs.Member.{sideNumber, isSide, sideOf, Member, precedes, oneMember}
+use Rattle.wire.specs.Bytes.{u16At, u32At}
+use Rattle.wire.specs.Record.{after, Test, Reading, read, refused, onward, refusal}
+use Rattle.wire.specs.RegisterFormat.{Row, inGroup, clearAbove, sideField, memberOf, rowOf, lastMember, rowTests, readRows, readRegister}
+use Rattle.wire.specs.Encoding.{Bytes}
+use Rattle.wire.specs.MemberKey.{keyMember}
+use Rattle.wire.proofs.EditionFacts.{group-bits, row-parts, groups-many, row-length-fits}
+use Rattle.wire.proofs.Passing.{Pass, refusal-zero, passed, pass-take, refusal-take}
+use Rattle.wire.proofs.Many.{Reads, stop, go}
+use Rattle.wire.proofs.Facts.{u16-most}
+use Rattle.wire.proofs.Fields.{u16-drop, u32-drop, u32-halves}
+use Rattle.wire.proofs.RoundTripRegister.{testsAfter, register-read}
+use Rattle.wire.proofs.MemberKeyLaws.{key-of-member, precedes-by-key, one-by-key}
+use Rattle.wire.proofs.RowFacts.{last-member-behind}
+use Rattle.rows.specs.RowsRead.{rowFrame, Front, ended, held, turned, rowGives, rowHeld, frontTests, frontAt, fromRow, rowsBefore, bitAt, Above}
+use Rattle.rows.specs.RowsRead.{RowsReadable}
 use Rattle.rows.specs.declared.decode.RowAnswer.the-variants as answer
-use Rattle.rows.specs.RowsRead.{rowFrame, Front, ended, held, turned, rowGives, rowHeld, frontTests, frontAt, fromRow, rowsBefore, bitsPlace, bitAt, Above, RowsReadable}
+
+-- the place of the membership bytes of row i
+abbrev pub bitsPlace : Edition → ℕ → ℕ
+bitsPlace e i = rowBytes e * i + rowHead
 
 clear-some : (r : Row) (groups n k : ℕ) → k < n → inGroup r (groups + suc k) ≡ true → clearAbove r groups n ≡ false
 unfolding clearAbove

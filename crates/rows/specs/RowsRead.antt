@@ -1,19 +1,19 @@
 -- What the row decoder gives, and what reading all rows gives, under a sheet of either edition.
-use Prim.Native.Nat.{ℕ, zero, suc, _+_, _*_, _/_, _%_, _≤_, _<_}
+use Prim.Native.Nat.{ℕ, _/_, _+_, _*_, zero, suc, _%_, _<_, _≤_}
 use mathlib.Core.Path.{_≡_}
-use mathlib.Core.Bool.{Bool, true, false, cond}
+use mathlib.Core.Bool.{Bool, cond, true, false}
 use mathlib.Core.List.{List, [], _∷_, _++_}
-use lib.ListN.{length, take, drop, getD}
+use lib.ListN.{drop, take, length, getD}
 use lib.Dec.{eqb}
-use Rattle.laws.specs.Digits.{digit}
-use Rattle.wire.specs.Edition.{Edition, groupLimit, rowKind, rowLength, rowBytes, rowHead}
-use Rattle.wire.specs.Record.{Test, refusal, Reading, read, refused}
-use Rattle.wire.specs.Member.{Member, oneMember}
-use Rattle.wire.specs.MemberKey.{keyMember}
-use Rattle.wire.specs.RegisterFormat.{Row, memberOf, rowOf, lastMember, rowTests}
 use Rattle.rows.specs.declared.decode.RowAnswer.{RowAnswer}
-use Rattle.rows.specs.declared.decode.RowAnswer.the-variants as answer
 use Rattle.rows.specs.declared.read.Rows.{Rows}
+use Rattle.laws.specs.Digit.{digit}
+use Rattle.wire.specs.Edition.{Edition, groupLimit, rowKind, rowLength, rowBytes, rowHead}
+use Rattle.wire.specs.Member.{Member, oneMember}
+use Rattle.wire.specs.Record.{Test, refusal, Reading, read, refused}
+use Rattle.wire.specs.RegisterFormat.{Row, memberOf, rowTests, rowOf, lastMember}
+use Rattle.wire.specs.MemberKey.{keyMember}
+use Rattle.rows.specs.declared.decode.RowAnswer.the-variants as answer
 use Rattle.rows.specs.declared.read.Rows.the-variants as rows
 
 -- a word of membership bytes has eight of them, a bit for each of 64 groups, and so many words have those of a row
@@ -64,10 +64,6 @@ fromRow e b i = drop (rowBytes e * i) b
 unfoldable pub rowsBefore : Edition → List ℕ → ℕ → List Row
 rowsBefore e b zero = []
 rowsBefore e b (suc n) = rowsBefore e b n ++ (rowOf e (fromRow e b n) ∷ [])
-
--- the place of the membership bytes of row i
-abbrev pub bitsPlace : Edition → ℕ → ℕ
-bitsPlace e i = rowBytes e * i + rowHead
 
 -- bit j of the bytes from a place on, the lowest bit of each byte first
 unfoldable pub bitAt : List ℕ → ℕ → ℕ → ℕ

@@ -14,7 +14,7 @@ ghost use mathlib.Core.Bool.{true};
 ghost use mathlib.Core.Path.{_≡_};
 ghost use Prim.Native.Nat.{_+_, _*_, _^_, _≤_, _<_};
 ghost use lib.ListN.{length};
-ghost use Rattle.laws.specs.Digits.{digit};
+ghost use Rattle.laws.specs.Digit.{digit};
 ghost use Rattle.wire.specs.Edition.{editionOf, groupLimit, membershipBytes, rowBytes, rowHead};
 ghost use Rattle.wire.specs.Member.{isSide, sideOf};
 ghost use Rattle.wire.specs.MemberKey.{keyMember};

@@ -1,45 +1,22 @@
 -- Starts in document 01's words, for given sizes: what `place_runs` leaves in its table.
-use Prim.Native.Nat.{ℕ, _+_, _-_, _*_, _≤_}
-use mathlib.Core.Path.{_≡_, sym}
+use Prim.Native.Nat.{ℕ, _-_, _+_, _*_, _≤_}
+use mathlib.Core.Path.{_≡_}
 use mathlib.Core.List.{List}
-use native.Mathlib.Omega.{arith}
-use native.Mathlib.Nat.{le-of-eq}
-use lib.ListN.{length, getD, set}
-use lib.Seq.{getD-set-same, getD-set-other}
+use lib.ListN.{getD, length}
 use Rattle.wire.specs.Capacity.{groupCapacity}
-use Rattle.meaning.specs.Sheet.{Sheet, Group, Son}
-use Rattle.meaning.specs.Tree.{Tree, Rooted}
+use Rattle.meaning.specs.Sheet.{Sheet, Son}
 use Rattle.meaning.specs.Arranged.{firstOf}
-use Rattle.reading.specs.SheetIn.{sheetIn, sizeLimit, Tabled}
 use Rattle.sizes.specs.Balanced.{Balanced}
-use Rattle.laws.specs.Cases.{compare-eq}
-use Rattle.sizes.specs.Runs.{Starts}
-use Rattle.sizes.specs.RunsInWords.{told-starts}
+use Rattle.reading.specs.SheetIn.{sizeLimit, sheetIn, Tabled}
 
 -- the number of group g in a table of one number a group
 abbrev pub numberIn : List ℕ → ℕ → ℕ
 numberIn t g = getD t (g - 1) 0
 
--- a store at group g
-pub number-same : (t : List ℕ) (g x : ℕ) → 1 ≤ g → g ≤ length t → numberIn (set t (g - 1) x) g ≡ x
-number-same t g x a l = getD-set-same t (g - 1) x 0 (omega arith)
-
-pub number-other : (t : List ℕ) (g h x : ℕ) → 1 ≤ g → 1 ≤ h → (h ≡ g → ⊥) → numberIn (set t (g - 1) x) h ≡ numberIn t h
-number-other t g h x a b n = getD-set-other t (g - 1) (h - 1) x 0 (λ e. n (omega arith))
-
 -- The root starts at 1, and every son where document 01 says.
 pub record Told (s : Sheet) (size first : ℕ → ℕ) : Type 0 where
   pub root : first 1 ≡ 1
   pub son : (p g : ℕ) → Son s p g → first g ≡ firstOf s first size p g
-
--- such starts show sizes that the rules allow
-pub told-runs : {s : Sheet} {f first : ℕ → ℕ} → Tree s → Rooted s → Balanced s f → Told s f first → Starts s f first
-told-runs {s} {f} {first} t r b w =
-    told-starts t b (w .son) (λ g q e. top g q e)
-  where
-    top : (g : ℕ) → Group s g → s .parent g ≡ 0 → 1 ≤ first g
-    top g q e =
-        compare-eq g 1 (λ i. rw i (le-of-eq (sym (w .root)))) (λ n. absurd (omega (arith, r .rest g q (omega arith))))
 
 -- No run ends above this: each group moves the end on by at most `sizeLimit`.
 abbrev pub runLimit : ℕ
@@ -53,15 +30,3 @@ pub record Placeable (groups : List ℕ) (n : ℕ) (sizes firsts ends : List ℕ
   pub ends-long : n ≤ length ends
   pub balanced : Balanced (sheetIn groups n) (numberIn sizes)
   pub top : numberIn sizes 1 ≤ sizeLimit
-
--- stores to the tables leave them long enough
-pub placeable-kept : {groups : List ℕ} {n : ℕ} {sizes firsts ends firsts' ends' : List ℕ} → Placeable groups n sizes firsts ends
-    → length firsts' ≡ length firsts → length ends' ≡ length ends → Placeable groups n sizes firsts' ends'
-placeable-kept w d e = record {
-  grown = w .grown;
-  sizes-long = w .sizes-long;
-  firsts-long = omega arith;
-  ends-long = omega arith;
-  balanced = w .balanced;
-  top = w .top;
-}

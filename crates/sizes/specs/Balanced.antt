@@ -1,11 +1,10 @@
 -- The structural rules as inequalities between numbers, one for each group.
-use Prim.Native.Nat.{ℕ, _+_, _≤_}
+use Prim.Native.Nat.{ℕ, _≤_, _+_}
 use mathlib.Core.Path.{_≡_}
-use mathlib.Core.Bool.{Bool, true}
+use mathlib.Core.Bool.{true, Bool}
 use Rattle.laws.specs.Sum.{bit}
-use Rattle.meaning.specs.Sheet.{Sheet, Group, Son, AtMost}
-unfoldable pub use Rattle.meaning.specs.Sons.{isSon, sons}
-pub use Rattle.meaning.specs.Sons.{only}
+use Rattle.meaning.specs.Sheet.{Sheet, Son, Group, AtMost}
+use Rattle.meaning.specs.Sons.{sons}
 
 -- The rules at group p, for a number f g at each group g: counts of sets that meet the rules satisfy them, and so do the
 -- 0s and 1s of one member.
@@ -26,3 +25,9 @@ pub record Choice (s : Sheet) (may : ℕ → Bool → Bool) (f : ℕ → ℕ) (M
   pub least : (g : ℕ) → Group s g → s .lo g ≤ f g + bit (M g)
   pub most : (g : ℕ) → Group s g → AtMost (f g + bit (M g)) (s .hi g)
   pub allowed : (g : ℕ) → Group s g → may g (M g) ≡ true
+
+-- f gives every group a size that the rules and its bounds allow
+pub record Sizes (s : Sheet) (f : ℕ → ℕ) : Type 0 where
+  pub balanced : Balanced s f
+  pub least : (g : ℕ) → Group s g → s .lo g ≤ f g
+  pub most : (g : ℕ) → Group s g → AtMost (f g) (s .hi g)

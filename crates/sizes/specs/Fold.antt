@@ -2,12 +2,12 @@
 -- intervals, for one member out of it (false) and in it (true); the number does not count that member.
 use Prim.Native.Nat.{ℕ, zero, suc, _-_}
 use mathlib.Core.Path.{_≡_}
-use mathlib.Core.Bool.{Bool, true, false, cond}
+use mathlib.Core.Bool.{cond, Bool, false, true}
 use lib.Dec.{ltb}
+use Rattle.meaning.specs.Sheet.{Sheet, fin, inf, Top, Group}
+use Rattle.meaning.specs.Sons.{isSon}
 use Rattle.meaning.specs.SonList.{sonCount}
-use Rattle.meaning.specs.Sheet.{Sheet, Group, Top, fin, inf}
-use Rattle.sizes.specs.Balanced.{isSon}
-use Rattle.sizes.specs.Span.{Span, none, span, make, meet, hull, Kind, lap, add, eq, join}
+use Rattle.sizes.specs.Span.{Kind, lap, add, eq, Span, none, span, hull, join, make, meet}
 
 -- how the sons of p are joined
 unfoldable pub joinKind : Sheet → ℕ → Kind
@@ -49,3 +49,12 @@ own s may p c = cond (may p c) (ownTo (s .lo p) (s .hi p) c) none
 -- z gives every group its intervals
 pub record Measured (s : Sheet) (may : ℕ → Bool → Bool) (z : ℕ → Bool → Span) : Type 0 where
   pub at : (p : ℕ) → Group s p → (c : Bool) → z p c ≡ meet (later s z p (s .size) c) (own s may p c)
+
+-- existence: the fold done d times over
+unfoldable pub spansBy : Sheet → (ℕ → Bool → Bool) → ℕ → ℕ → Bool → Span
+spansBy s may zero g c = none
+spansBy s may (suc d) g c = meet (later s (spansBy s may d) g (s .size) c) (own s may g c)
+
+-- the spans of all groups
+unfoldable pub spansOf : Sheet → (ℕ → Bool → Bool) → ℕ → Bool → Span
+spansOf s may = spansBy s may (s .size)

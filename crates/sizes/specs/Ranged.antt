@@ -4,7 +4,7 @@ use Prim.Native.Nat.{ℕ, zero, suc, _-_}
 use mathlib.Core.Path.{_≡_}
 use mathlib.Core.Bool.{Bool, true, false, cond}
 use Rattle.meaning.specs.Sheet.{Sheet, Son}
-use Rattle.sizes.specs.Balanced.{isSon}
+use Rattle.meaning.specs.Sons.{isSon}
 use Rattle.sizes.specs.Span.{Span, meet, pull}
 use Rattle.sizes.specs.Fold.{joinKind, later}
 

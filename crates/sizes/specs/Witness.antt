@@ -19,10 +19,6 @@ abbrev pub WitnessAt : {X : Type 0} → Question → Sets X → ℕ → Type 0
 WitnessAt (allSay c) A i = Breaks c A
 WitnessAt (somePlace l r) A i = Fills A l r i
 
-pub witness-at : {X : Type 0} (q : Question) (A : Sets X) (i : ℕ) → WitnessAt q A i → Witness q A
-witness-at (allSay c) A i w = w
-witness-at (somePlace l r) A i w = (i, w)
-
 -- as a reply shows them: it is number 0
 abbrev pub ShownWitness : {X : Type 0} → Question → Sets X → Type 0
 ShownWitness q A = WitnessAt q A 0

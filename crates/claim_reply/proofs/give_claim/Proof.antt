@@ -6,7 +6,7 @@ use native.Mathlib.Omega.{arith}
 use borrow.Author.Tests.{not-true, not-false}
 use borrow.Author.Needs.{needs}
 use Rattle.reading.specs.SheetIn.{sheetIn}
-use Rattle.reading.specs.ClaimTable.{length-claimsIn}
+use Rattle.reading.proofs.ClaimTableLaws.{length-claimsIn}
 use Rattle.replies.proofs.ReplyLaws.{as-read}
 use Rattle.claim_reply.specs.ClaimReply.{ClaimVerdict}
 use Rattle.claim_reply.proofs.ClaimLaws.{verdict-as, claim-askable, claim-told}

@@ -6,12 +6,13 @@ use denote.Ref.{now}
 use lib.ListN.{length-replicate}
 use Rattle.wire.specs.Limits.{verdictBytes, shownBytes}
 use Rattle.reading.specs.ClaimHeld.{claimRecord}
-use Rattle.reading.specs.SheetIn.{size-in}
-use Rattle.claims.specs.Named.{claimMeant, asked-speaks}
-use Rattle.replies.specs.Wrote.{wrote-then}
+use Rattle.reading.proofs.SheetInLaws.{size-in}
+use Rattle.claims.specs.Named.{claimMeant}
+use Rattle.claims.proofs.NamedLaws.{asked-speaks}
+use Rattle.replies.proofs.WroteLaws.{wrote-then}
 use Rattle.replies.proofs.ReplyLaws.{written}
 use Rattle.claims.specs.Decided.{decisionShows}
-use Rattle.claim_reply.specs.Answering.{answering-verdict}
+use Rattle.claim_reply.proofs.Answering.{answering-verdict}
 use Rattle.claim_reply.proofs.SetsLaws.{verdict-in, verdict-kept, sets-in, shows-witness}
 use borrow.Author.Needs.{needs}
 use Rattle.claim_reply.proofs.give_verdict.Statement.{statement}

@@ -1,5 +1,5 @@
 use borrow.Author.Needs.{needs}
-use Rattle.replies.specs.Written.{range-put}
+use Rattle.replies.proofs.WrittenLaws.{range-put}
 use Rattle.replies.proofs.put_range.Statement.{statement}
 use Rattle.replies.proofs.put_range.Tie as tie
 

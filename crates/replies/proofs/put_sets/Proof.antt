@@ -2,8 +2,10 @@ use Prim.Native.Nat.{_-_, _*_, _≤_}
 use mathlib.Core.Path.{_≡_, refl}
 use native.Mathlib.Omega.{arith}
 use borrow.Author.Needs.{needs}
-use Rattle.replies.specs.Wrote.{Wrote, wrote-then}
-use Rattle.replies.specs.Written.{SetsPut, sets-more}
+use Rattle.replies.specs.Wrote.{Wrote}
+use Rattle.replies.proofs.WroteLaws.{wrote-then}
+use Rattle.replies.specs.Written.{SetsPut}
+use Rattle.replies.proofs.WrittenLaws.{sets-more}
 use Rattle.replies.proofs.put_sets.Statement.{statement}
 use Rattle.replies.proofs.put_sets.Tie as tie
 

@@ -1,5 +1,5 @@
 use borrow.Author.Needs.{needs}
-use Rattle.replies.specs.Written.{shown-put}
+use Rattle.replies.proofs.WrittenLaws.{shown-put}
 use Rattle.replies.proofs.put_shown.Statement.{statement}
 use Rattle.replies.proofs.put_shown.Tie as tie
 

@@ -4,8 +4,10 @@ use mathlib.Core.Path.{_≡_, refl}
 use native.Mathlib.Omega.{arith}
 use borrow.Author.Needs.{needs}
 use lib.ListN.{length}
-use Rattle.replies.specs.Wrote.{Wrote, wrote-then, wrote-word}
-use Rattle.replies.specs.Written.{WordsPut, words-more}
+use Rattle.replies.specs.Wrote.{Wrote}
+use Rattle.replies.proofs.WroteLaws.{wrote-then, wrote-word}
+use Rattle.replies.specs.Written.{WordsPut}
+use Rattle.replies.proofs.WrittenLaws.{words-more}
 use Rattle.replies.proofs.put_words.Statement.{statement}
 use Rattle.replies.proofs.put_words.Tie as tie
 

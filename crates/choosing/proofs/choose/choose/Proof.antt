@@ -2,10 +2,10 @@
 use mathlib.Core.Path.{_∙_, subst}
 use native.Mathlib.Omega.{arith}
 use Rattle.sizes.specs.Span.{In}
-use Rattle.sizes.specs.MeasuredLaws.{spans-measured}
-use Rattle.reading.specs.SheetIn.{size-in}
-use Rattle.measuring.specs.DoneLaws.{room-span}
-use Rattle.choosing.specs.Chosen.{folded-table, chose-none, chose-some, least-in}
+use Rattle.sizes.proofs.MeasuredLaws.{spans-measured}
+use Rattle.reading.proofs.SheetInLaws.{size-in}
+use Rattle.measuring.proofs.DoneLaws.{room-span}
+use Rattle.choosing.proofs.ChosenLaws.{folded-table, chose-none, chose-some, least-in}
 use borrow.Author.Needs.{needs}
 use Rattle.choosing.proofs.choose.choose.Statement.{statement}
 use Rattle.choosing.proofs.choose.choose.Tie as tie

@@ -5,17 +5,13 @@ use native.Mathlib.Omega.{arith}
 use borrow.Author.Needs.{needs}
 use lib.ListN.{length, replicate}
 use Rattle.wire.specs.Capacity.{groupCapacity}
-use Rattle.runs.specs.Told.{numberIn, number-same}
-use Rattle.reading.specs.SheetIn.{sheetIn, size-in}
+use Rattle.runs.specs.Told.{numberIn}
+use Rattle.runs.proofs.ToldLaws.{number-same}
+use Rattle.reading.specs.SheetIn.{sheetIn}
+use Rattle.reading.proofs.SheetInLaws.{size-in}
 use Rattle.measuring.specs.Pairs.{pairIn}
-use Rattle.choosing.specs.Divided.{
-  markedIn,
-  RoomFor,
-  DividedTo,
-  mark-same,
-  divided-root,
-  divided-all,
-}
+use Rattle.choosing.specs.Divided.{markedIn, RoomFor, DividedTo}
+use Rattle.choosing.proofs.DividedLaws.{mark-same, divided-root, divided-all}
 use Rattle.choosing.proofs.divide.divide.Statement.{statement}
 use Rattle.choosing.proofs.divide.divide.Tie as tie
 

@@ -2,18 +2,11 @@
 use mathlib.Core.Path.{ap, _∙_}
 use native.Mathlib.Omega.{arith}
 use Rattle.laws.specs.Sum.{bit}
-use Rattle.runs.specs.Told.{numberIn, number-other}
-use Rattle.reading.specs.SheetIn.{size-in}
-use Rattle.choosing.specs.Divided.{
-  markedIn,
-  divisible-alike,
-  shared-alike,
-  divided-divisible,
-  divided-more,
-  kind-table,
-  rest-table,
-  mark-other,
-}
+use Rattle.runs.specs.Told.{numberIn}
+use Rattle.runs.proofs.ToldLaws.{number-other}
+use Rattle.reading.proofs.SheetInLaws.{size-in}
+use Rattle.choosing.specs.Divided.{markedIn}
+use Rattle.choosing.proofs.DividedLaws.{divisible-alike, shared-alike, divided-divisible, divided-more, kind-table, rest-table, mark-other}
 use borrow.Author.Needs.{needs}
 use Rattle.choosing.proofs.divide.divide_son.Statement.{statement}
 use Rattle.choosing.proofs.divide.divide_son.Tie as tie

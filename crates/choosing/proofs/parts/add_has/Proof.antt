@@ -3,7 +3,7 @@ use mathlib.Core.Bool.{false≢true}
 use native.Mathlib.Omega.{arith}
 use borrow.Author.Tests.{leb-true, le-leb}
 use Rattle.sizes.specs.Span.{add}
-use Rattle.choosing.specs.Parts.{in-none, in-add}
+use Rattle.choosing.proofs.PartsLaws.{in-none, in-add}
 use borrow.Author.Needs.{needs}
 use Rattle.choosing.proofs.parts.add_has.Statement.{statement}
 use Rattle.choosing.proofs.parts.add_has.Tie as tie

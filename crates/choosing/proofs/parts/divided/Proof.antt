@@ -2,7 +2,7 @@
 use mathlib.Core.Path.{sym}
 use native.Mathlib.Omega.{arith}
 use Rattle.measuring.specs.Held.{pairOf, kindHeld}
-use Rattle.choosing.specs.Parts.{shared-right}
+use Rattle.choosing.proofs.PartsLaws.{shared-right}
 use borrow.Author.Needs.{needs}
 use Rattle.choosing.proofs.parts.divided.Statement.{statement}
 use Rattle.choosing.proofs.parts.divided.Tie as tie

@@ -2,7 +2,7 @@
 use mathlib.Core.Bool.{false≢true}
 use native.Mathlib.Omega.{arith}
 use borrow.Author.Tests.{leb-true, le-leb}
-use Rattle.choosing.specs.Parts.{in-eq}
+use Rattle.choosing.proofs.PartsLaws.{in-eq}
 use borrow.Author.Needs.{needs}
 use Rattle.choosing.proofs.parts.eq_has.Statement.{statement}
 use Rattle.choosing.proofs.parts.eq_has.Tie as tie

@@ -3,7 +3,7 @@ use Prim.Native.Nat.{_-_, max}
 use mathlib.Core.Path.{_≡_, sym, _∙_}
 use native.Mathlib.Omega.{arith}
 use Rattle.sizes.specs.Span.{lap, add, eq}
-use Rattle.choosing.specs.Parts.{in-none, in-add, son-lap, son-add, son-eq}
+use Rattle.choosing.proofs.PartsLaws.{in-none, in-add, son-lap, son-add, son-eq}
 use borrow.Author.Needs.{needs}
 use Rattle.choosing.proofs.parts.son_part.Statement.{statement}
 use Rattle.choosing.proofs.parts.son_part.Tie as tie

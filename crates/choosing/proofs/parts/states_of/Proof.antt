@@ -1,6 +1,6 @@
 -- `states_of` meets its contract.
 use Rattle.measuring.specs.Held.{pairOf, kindHeld}
-use Rattle.choosing.specs.Parts.{states-right}
+use Rattle.choosing.proofs.PartsLaws.{states-right}
 use borrow.Author.Needs.{needs}
 use Rattle.choosing.proofs.parts.states_of.Statement.{statement}
 use Rattle.choosing.proofs.parts.states_of.Tie as tie

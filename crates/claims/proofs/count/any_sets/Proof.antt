@@ -1,5 +1,5 @@
 -- `any_sets` meets its contract.
-use Rattle.claims.specs.Counts.{place-sized}
+use Rattle.claims.proofs.CountsLaws.{place-sized}
 use borrow.Author.Needs.{needs}
 use Rattle.claims.proofs.count.any_sets.Statement.{statement}
 use Rattle.claims.proofs.count.any_sets.Tie as tie

@@ -1,6 +1,6 @@
 -- `judge_empty` meets its contract.
 use native.Mathlib.Omega.{arith}
-use Rattle.claims.specs.Counts.{empty-kept, empty-count}
+use Rattle.claims.proofs.CountsLaws.{empty-kept, empty-count}
 use borrow.Author.Needs.{needs}
 use Rattle.claims.proofs.count.judge_empty.Statement.{statement}
 use Rattle.claims.proofs.count.judge_empty.Tie as tie

@@ -1,8 +1,8 @@
 -- `judge_group` meets its contract.
 use mathlib.Core.Path.{_∙_}
 use native.Mathlib.Omega.{arith}
-use Rattle.reading.specs.SheetIn.{group-in}
-use Rattle.claims.specs.Counts.{under-judged, over-judged}
+use Rattle.reading.proofs.SheetInLaws.{group-in}
+use Rattle.claims.proofs.CountsLaws.{under-judged, over-judged}
 use borrow.Author.Needs.{needs}
 use Rattle.claims.proofs.count.judge_group.Statement.{statement}
 use Rattle.claims.proofs.count.judge_group.Tie as tie

@@ -1,6 +1,6 @@
 -- `over` meets its contract.
 use mathlib.Core.Path.{refl}
-use Rattle.claims.specs.Counts.{sized-over, over-never}
+use Rattle.claims.proofs.CountsLaws.{sized-over, over-never}
 use borrow.Author.Needs.{needs}
 use Rattle.claims.proofs.count.over.Statement.{statement}
 use Rattle.claims.proofs.count.over.Tie as tie

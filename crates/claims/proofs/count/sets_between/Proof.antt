@@ -1,7 +1,7 @@
 -- `sets_between` meets its contract.
 use Prim.Native.Nat.{_+_, _-_, _*_}
 use native.Mathlib.Omega.{arith}
-use Rattle.claims.specs.Counts.{tabled-stored, between-sized, stored-back}
+use Rattle.claims.proofs.CountsLaws.{tabled-stored, between-sized, stored-back}
 use borrow.Author.Needs.{needs}
 use Rattle.claims.proofs.count.sets_between.Statement.{statement}
 use Rattle.claims.proofs.count.sets_between.Tie as tie

@@ -2,7 +2,7 @@
 use Prim.Native.Nat.{_-_}
 use mathlib.Core.Path.{refl}
 use native.Mathlib.Omega.{arith}
-use Rattle.claims.specs.Counts.{sized-under, sized-never}
+use Rattle.claims.proofs.CountsLaws.{sized-under, sized-never}
 use borrow.Author.Needs.{needs}
 use Rattle.claims.proofs.count.under.Statement.{statement}
 use Rattle.claims.proofs.count.under.Tie as tie

@@ -1,6 +1,6 @@
 -- `decide` meets its contract.
 use native.Mathlib.Omega.{arith}
-use Rattle.claims.specs.Decided.{showing-shows, decided-shown, decided-alone}
+use Rattle.claims.proofs.DecidedLaws.{showing-shows, decided-shown, decided-alone}
 use borrow.Author.Needs.{needs}
 use Rattle.claims.proofs.decide.decide.Statement.{statement}
 use Rattle.claims.proofs.decide.decide.Tie as tie

@@ -1,6 +1,6 @@
 -- `ask_both` meets its contract.
 use native.Mathlib.Omega.{arith}
-use Rattle.claims.specs.Ways.{both-tried}
+use Rattle.claims.proofs.WaysLaws.{both-tried}
 use borrow.Author.Needs.{needs}
 use Rattle.claims.proofs.lists.ask_both.Statement.{statement}
 use Rattle.claims.proofs.lists.ask_both.Tie as tie

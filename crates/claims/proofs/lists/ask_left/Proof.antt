@@ -6,9 +6,10 @@ use native.Mathlib.Omega.{arith}
 use lib.ListN.{length, take}
 use Rattle.wire.specs.SheetFormat.{apart}
 use Rattle.reading.specs.SheetIn.{sheetIn}
-use Rattle.claims.specs.Witnessed.{witnessed-no}
-use Rattle.claims.specs.Groups.{listed-group}
-use Rattle.claims.specs.Ways.{brokenKind, WayHad, right-way-none, right-way-more, right-way-found, inside-tried}
+use Rattle.claims.proofs.WitnessedLaws.{witnessed-no}
+use Rattle.claims.proofs.GroupsLaws.{listed-group}
+use Rattle.claims.specs.Ways.{brokenKind, WayHad}
+use Rattle.claims.proofs.WaysLaws.{right-way-none, right-way-more, right-way-found, inside-tried}
 use borrow.Author.Needs.{needs}
 use Rattle.claims.proofs.lists.ask_left.Statement.{statement}
 use Rattle.claims.proofs.lists.ask_left.Tie as tie

@@ -4,9 +4,10 @@ use mathlib.Core.Path.{_≡_, refl, _∙_}
 use native.Mathlib.Omega.{arith}
 use lib.ListN.{length, take}
 use Rattle.reading.specs.SheetIn.{sheetIn}
-use Rattle.claims.specs.Witnessed.{witnessed-no}
-use Rattle.claims.specs.Groups.{listed-group}
-use Rattle.claims.specs.Ways.{brokenKind, WayHad, left-way-none, left-way-more, left-way-found}
+use Rattle.claims.proofs.WitnessedLaws.{witnessed-no}
+use Rattle.claims.proofs.GroupsLaws.{listed-group}
+use Rattle.claims.specs.Ways.{brokenKind, WayHad}
+use Rattle.claims.proofs.WaysLaws.{left-way-none, left-way-more, left-way-found}
 use borrow.Author.Needs.{needs}
 use Rattle.claims.proofs.lists.ask_lefts.Statement.{statement}
 use Rattle.claims.proofs.lists.ask_lefts.Tie as tie

@@ -1,6 +1,7 @@
 -- `ask_lists` meets its contract, by the three kinds.
-use Rattle.claims.specs.Groups.{all-groups}
-use Rattle.claims.specs.Ways.{brokenKind, place-tried}
+use Rattle.claims.proofs.GroupsLaws.{all-groups}
+use Rattle.claims.specs.Ways.{brokenKind}
+use Rattle.claims.proofs.WaysLaws.{place-tried}
 use borrow.Author.Needs.{needs}
 use Rattle.claims.proofs.lists.ask_lists.Statement.{statement}
 use Rattle.claims.proofs.lists.ask_lists.Tie as tie

@@ -7,8 +7,10 @@ use borrow.Author.Needs.{needs}
 use lib.ListN.{length, take}
 use Rattle.wire.specs.SheetFormat.{u16s}
 use Rattle.runs.specs.Told.{numberIn}
-use Rattle.claims.specs.Groups.{groupsAmong, listed-length}
-use Rattle.claims.specs.Named.{meanings, meant-first, meant-next, meant-last}
+use Rattle.claims.specs.Groups.{groupsAmong}
+use Rattle.claims.proofs.GroupsLaws.{listed-length}
+use Rattle.claims.specs.Named.{meanings}
+use Rattle.claims.proofs.NamedLaws.{meant-first, meant-next, meant-last}
 use Rattle.claims.proofs.names.groups_meant.Statement.{statement}
 use Rattle.claims.proofs.names.groups_meant.Tie as tie
 

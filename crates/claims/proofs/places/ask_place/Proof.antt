@@ -1,10 +1,10 @@
 -- `ask_place` meets its contract.
 use native.Mathlib.Omega.{arith}
 use lib.ListN.{take}
-use Rattle.reading.specs.SheetIn.{size-in}
-use Rattle.claims.specs.Groups.{listed-in}
-use Rattle.claims.specs.Flags.{place-flags}
-use Rattle.claims.specs.Places.{place-judged}
+use Rattle.reading.proofs.SheetInLaws.{size-in}
+use Rattle.claims.proofs.GroupsLaws.{listed-in}
+use Rattle.claims.proofs.FlagsLaws.{place-flags}
+use Rattle.claims.proofs.PlacesLaws.{place-judged}
 use borrow.Author.Needs.{needs}
 use Rattle.claims.proofs.places.ask_place.Statement.{statement}
 use Rattle.claims.proofs.places.ask_place.Tie as tie

@@ -1,5 +1,5 @@
 -- `bar` meets its contract.
-use Rattle.claims.specs.Flags.{barred-one}
+use Rattle.claims.proofs.FlagsLaws.{barred-one}
 use borrow.Author.Needs.{needs}
 use Rattle.claims.proofs.places.bar.Statement.{statement}
 use Rattle.claims.proofs.places.bar.Tie as tie

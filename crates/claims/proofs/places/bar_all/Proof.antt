@@ -4,8 +4,9 @@ use mathlib.Core.Path.{_≡_}
 use native.Mathlib.Omega.{arith}
 use borrow.Author.Needs.{needs}
 use lib.ListN.{take}
-use Rattle.claims.specs.Groups.{listed-group}
-use Rattle.claims.specs.Flags.{Barred, barred-none, barred-next}
+use Rattle.claims.proofs.GroupsLaws.{listed-group}
+use Rattle.claims.specs.Flags.{Barred}
+use Rattle.claims.proofs.FlagsLaws.{barred-none, barred-next}
 use Rattle.claims.proofs.places.bar_all.Statement.{statement}
 use Rattle.claims.proofs.places.bar_all.Tie as tie
 

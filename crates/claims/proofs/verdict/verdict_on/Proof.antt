@@ -1,6 +1,6 @@
 -- `verdict_on` meets its contract, by the kind and whether sets answer the claim.
 use mathlib.Core.Path.{sym, _∙_}
-use Rattle.claims.specs.Decided.{verdict-read}
+use Rattle.claims.proofs.DecidedLaws.{verdict-read}
 use borrow.Author.Needs.{needs}
 use Rattle.claims.proofs.verdict.verdict_on.Statement.{statement}
 use Rattle.claims.proofs.verdict.verdict_on.Tie as tie

@@ -1,5 +1,5 @@
 -- `columns::bits::lowest_of` meets its contract.
-use Rattle.laws.specs.Digits.{lowest}
+use Rattle.laws.proofs.Digits.{lowest}
 use Rattle.columns.proofs.bits.lowest_of.Statement.{statement}
 use Rattle.columns.proofs.bits.lowest_of.Tie as tie
 

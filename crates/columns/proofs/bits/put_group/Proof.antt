@@ -1,6 +1,6 @@
 -- `columns::bits::put_group` meets its contract.
 use borrow.Author.Needs.{needs}
-use Rattle.laws.specs.Digits.{one-shifted}
+use Rattle.laws.proofs.Digits.{one-shifted}
 use Rattle.columns.proofs.BitLaws.{group-put}
 use Rattle.columns.proofs.bits.put_group.Statement.{statement}
 use Rattle.columns.proofs.bits.put_group.Tie as tie

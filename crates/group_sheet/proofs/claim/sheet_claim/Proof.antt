@@ -1,6 +1,6 @@
 -- `sheet_claim` meets its contract: the sheet's refusal, or the answer under it.
 use borrow.Author.Needs.{needs}
-use Rattle.reading.specs.Loaded.{loaded-sheet, loaded-held, loaded-refused}
+use Rattle.reading.proofs.LoadedLaws.{loaded-sheet, loaded-held, loaded-refused}
 use Rattle.replies.proofs.ReplyLaws.{read-not-refused, once-turned}
 use Rattle.group_sheet.proofs.TabledLaws.{loaded-tabled}
 use Rattle.group_sheet.proofs.claim.sheet_claim.Statement.{statement}

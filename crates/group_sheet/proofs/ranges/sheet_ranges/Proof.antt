@@ -2,7 +2,7 @@
 use borrow.Author.Needs.{needs}
 use Rattle.meaning.specs.OfRecords.{sheetOf}
 use Rattle.reading.specs.SheetIn.{sheetIn}
-use Rattle.reading.specs.Loaded.{loaded-sheet, loaded-refused}
+use Rattle.reading.proofs.LoadedLaws.{loaded-sheet, loaded-refused}
 use Rattle.range_reply.specs.RangesReply.{Ranges}
 use Rattle.replies.proofs.ReplyLaws.{once-turned, once-passed}
 use Rattle.group_sheet.proofs.TabledLaws.{loaded-tabled}

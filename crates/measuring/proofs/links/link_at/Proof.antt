@@ -1,7 +1,7 @@
 -- `link_at` meets its contract.
 use native.Mathlib.Omega.{arith}
 use mathlib.Core.Path.{sym}
-use Rattle.measuring.specs.LinksLaws.{link-at}
+use Rattle.measuring.proofs.LinksLaws.{link-at}
 use borrow.Author.Needs.{needs}
 use Rattle.measuring.proofs.links.link_at.Statement.{statement}
 use Rattle.measuring.proofs.links.link_at.Tie as tie

@@ -1,7 +1,7 @@
 -- `link_one` meets its contract.
 use native.Mathlib.Omega.{arith}
 use lib.ListN.{length-set}
-use Rattle.measuring.specs.LinksLaws.{linked-zero, linked-some}
+use Rattle.measuring.proofs.LinksLaws.{linked-zero, linked-some}
 use borrow.Author.Needs.{needs}
 use Rattle.measuring.proofs.links.link_one.Statement.{statement}
 use Rattle.measuring.proofs.links.link_one.Tie as tie

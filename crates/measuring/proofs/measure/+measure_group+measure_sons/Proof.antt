@@ -4,13 +4,14 @@
 use Prim.Native.Nat.{ℕ, _+_, _-_, _*_, _≤_, _<_}
 use lib.ListN.{length, getD}
 use Rattle.wire.specs.Limits.{noEnd}
-use Rattle.measuring.specs.LinksLaws.{next-less}
+use Rattle.measuring.proofs.LinksLaws.{next-less}
 use native.Mathlib.Omega.{arith}
 use mathlib.Core.Path.{_≡_, refl, _∙_}
 use Rattle.measuring.specs.Held.{pairOf}
-use Rattle.reading.specs.SheetIn.{sheetIn, size-in}
+use Rattle.reading.specs.SheetIn.{sheetIn}
+use Rattle.reading.proofs.SheetInLaws.{size-in}
 use Rattle.measuring.specs.Tables.{spansIn}
-use Rattle.measuring.specs.DoneLaws.{AtSon, put-alike, done-put, finished, at-last, at-next, all-joined, room-sum, room-son}
+use Rattle.measuring.proofs.DoneLaws.{AtSon, put-alike, done-put, finished, at-last, at-next, all-joined, room-sum, room-son}
 use borrow.Fn.Kinds.{In}
 use borrow.Fn.PlainCycle.{Measures, is, falls, and}
 use Rattle.measuring.proofs.measure.measure_group.Reads as measure-group

@@ -3,8 +3,8 @@ use Rattle.measuring.specs.Held.{pairOf, modeKind}
 use native.Mathlib.Omega.{arith}
 use mathlib.Core.Path.{sym, ap, _∙_}
 use Rattle.sizes.specs.Fold as fold
-use Rattle.reading.specs.SheetIn.{size-in}
-use Rattle.measuring.specs.Tables.{kind-in}
+use Rattle.reading.proofs.SheetInLaws.{size-in}
+use Rattle.measuring.proofs.TablesLaws.{kind-in}
 use borrow.Author.Needs.{needs}
 use Rattle.measuring.proofs.measure.join_son.Statement.{statement}
 use Rattle.measuring.proofs.measure.join_son.Tie as tie

@@ -1,6 +1,6 @@
 -- `measure_sheet` meets its contract: every group is the first one or below it.
 use native.Mathlib.Omega.{arith}
-use Rattle.measuring.specs.DoneLaws.{all-done}
+use Rattle.measuring.proofs.DoneLaws.{all-done}
 use borrow.Author.Needs.{needs}
 use Rattle.measuring.proofs.measure.measure_sheet.Statement.{statement}
 use Rattle.measuring.proofs.measure.measure_sheet.Tie as tie

@@ -2,9 +2,9 @@
 use native.Mathlib.Omega.{arith}
 use mathlib.Core.Path.{sym, ap, _∙_}
 use Rattle.sizes.specs.Fold as fold
-use Rattle.reading.specs.SheetIn.{size-in}
-use Rattle.measuring.specs.LinksLaws.{last-most}
-use Rattle.measuring.specs.DoneLaws.{shut-linked}
+use Rattle.reading.proofs.SheetInLaws.{size-in}
+use Rattle.measuring.proofs.LinksLaws.{last-most}
+use Rattle.measuring.proofs.DoneLaws.{shut-linked}
 use borrow.Author.Needs.{needs}
 use Rattle.measuring.proofs.measure.start_of.Statement.{statement}
 use Rattle.measuring.proofs.measure.start_of.Tie as tie

@@ -3,7 +3,7 @@ use native.Mathlib.Omega.{arith}
 use lib.ListN.{length-set}
 use mathlib.Core.Path.{refl}
 use Rattle.measuring.specs.Held.{pairOf}
-use Rattle.measuring.specs.Pairs.{pair-put}
+use Rattle.measuring.proofs.PairsLaws.{pair-put}
 use borrow.Author.Needs.{needs}
 use Rattle.measuring.proofs.pairs.put_pair.Statement.{statement}
 use Rattle.measuring.proofs.pairs.put_pair.Tie as tie

@@ -2,7 +2,7 @@
 use native.Mathlib.Omega.{arith}
 use mathlib.Core.Path.{sym, _∙_}
 use Rattle.sizes.specs.Span as sizes
-use Rattle.measuring.specs.HeldLaws.{none-of, room-least, room-most, join-none-left, join-none-right, add-of}
+use Rattle.measuring.proofs.HeldLaws.{none-of, room-least, room-most, join-none-left, join-none-right, add-of}
 use borrow.Author.Needs.{needs}
 use Rattle.measuring.proofs.spans.add.Statement.{statement}
 use Rattle.measuring.proofs.spans.add.Tie as tie

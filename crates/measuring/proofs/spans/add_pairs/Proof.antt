@@ -2,7 +2,7 @@
 use mathlib.Core.Bool.{true, false}
 use mathlib.Core.Path.{_∙_}
 use Rattle.sizes.specs.Fold as fold
-use Rattle.measuring.specs.HeldLaws.{both}
+use Rattle.measuring.proofs.HeldLaws.{both}
 use borrow.Author.Needs.{needs}
 use Rattle.measuring.proofs.spans.add_pairs.Statement.{statement}
 use Rattle.measuring.proofs.spans.add_pairs.Tie as tie

@@ -1,7 +1,7 @@
 -- `hull` meets its contract.
 use native.Mathlib.Omega.{arith}
 use Rattle.sizes.specs.Span as sizes
-use Rattle.measuring.specs.HeldLaws.{none-of, some-of, hull-ends}
+use Rattle.measuring.proofs.HeldLaws.{none-of, some-of, hull-ends}
 use borrow.Author.Needs.{needs}
 use Rattle.measuring.proofs.spans.hull.Statement.{statement}
 use Rattle.measuring.proofs.spans.hull.Tie as tie

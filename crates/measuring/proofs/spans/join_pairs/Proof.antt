@@ -2,8 +2,8 @@
 use mathlib.Core.Bool.{true, false}
 use mathlib.Core.Path.{_∙_}
 use Rattle.sizes.specs.Fold as fold
-use Rattle.sizes.specs.SpanLaws.{meet-join}
-use Rattle.measuring.specs.HeldLaws.{both}
+use Rattle.sizes.proofs.SpanLaws.{meet-join}
+use Rattle.measuring.proofs.HeldLaws.{both}
 use borrow.Author.Needs.{needs}
 use Rattle.measuring.proofs.spans.join_pairs.Statement.{statement}
 use Rattle.measuring.proofs.spans.join_pairs.Tie as tie

@@ -1,6 +1,6 @@
 -- `meet` meets its contract.
 use native.Mathlib.Omega.{arith}
-use Rattle.measuring.specs.HeldLaws.{meet-of}
+use Rattle.measuring.proofs.HeldLaws.{meet-of}
 use borrow.Author.Needs.{needs}
 use Rattle.measuring.proofs.spans.meet.Statement.{statement}
 use Rattle.measuring.proofs.spans.meet.Tie as tie

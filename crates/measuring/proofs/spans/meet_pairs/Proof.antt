@@ -1,5 +1,5 @@
 -- `meet_pairs` meets its contract.
-use Rattle.measuring.specs.HeldLaws.{both}
+use Rattle.measuring.proofs.HeldLaws.{both}
 use borrow.Author.Needs.{needs}
 use Rattle.measuring.proofs.spans.meet_pairs.Statement.{statement}
 use Rattle.measuring.proofs.spans.meet_pairs.Tie as tie

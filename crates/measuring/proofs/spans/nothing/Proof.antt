@@ -1,6 +1,6 @@
 -- `nothing` meets its contract.
 use native.Mathlib.Omega.{arith}
-use Rattle.measuring.specs.HeldLaws.{none-of}
+use Rattle.measuring.proofs.HeldLaws.{none-of}
 use Rattle.measuring.proofs.spans.nothing.Statement.{statement}
 use Rattle.measuring.proofs.spans.nothing.Tie as tie
 

@@ -1,7 +1,7 @@
 -- `own_in` meets its contract.
 use native.Mathlib.Omega.{arith}
 use mathlib.Core.Path.{_∙_}
-use Rattle.measuring.specs.HeldLaws.{own-in-endless, own-in-zero, own-in-finite}
+use Rattle.measuring.proofs.HeldLaws.{own-in-endless, own-in-zero, own-in-finite}
 use borrow.Author.Needs.{needs}
 use Rattle.measuring.proofs.spans.own_in.Statement.{statement}
 use Rattle.measuring.proofs.spans.own_in.Tie as tie

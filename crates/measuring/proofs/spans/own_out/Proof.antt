@@ -1,6 +1,6 @@
 -- `own_out` meets its contract.
 use native.Mathlib.Omega.{arith}
-use Rattle.measuring.specs.HeldLaws.{own-out-endless, own-out-finite}
+use Rattle.measuring.proofs.HeldLaws.{own-out-endless, own-out-finite}
 use Rattle.measuring.proofs.spans.own_out.Statement.{statement}
 use Rattle.measuring.proofs.spans.own_out.Tie as tie
 

@@ -1,6 +1,6 @@
 -- `own_pair` meets its contract.
 use borrow.Author.Tests.{eq-eqb, ne-eqb}
-use Rattle.measuring.specs.HeldLaws.{both}
+use Rattle.measuring.proofs.HeldLaws.{both}
 use borrow.Author.Needs.{needs}
 use Rattle.measuring.proofs.spans.own_pair.Statement.{statement}
 use Rattle.measuring.proofs.spans.own_pair.Tie as tie

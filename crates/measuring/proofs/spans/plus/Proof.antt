@@ -1,6 +1,6 @@
 -- `plus` meets its contract: an endless end, or a sum that has room.
 use native.Mathlib.Omega.{arith}
-use Rattle.measuring.specs.HeldLaws.{plus-left, plus-right, plus-both}
+use Rattle.measuring.proofs.HeldLaws.{plus-left, plus-right, plus-both}
 use Rattle.measuring.proofs.spans.plus.Statement.{statement}
 use Rattle.measuring.proofs.spans.plus.Tie as tie
 

@@ -3,7 +3,7 @@ use mathlib.Core.Path.{refl}
 use Rattle.meaning.specs.Sheet.{endOf}
 use Rattle.sizes.specs.Fold as fold
 use Rattle.measuring.specs.Held.{spanOf}
-use Rattle.measuring.specs.HeldLaws.{both}
+use Rattle.measuring.proofs.HeldLaws.{both}
 use borrow.Author.Needs.{needs}
 use Rattle.measuring.proofs.spans.start.Statement.{statement}
 use Rattle.measuring.proofs.spans.start.Tie as tie

@@ -1,6 +1,6 @@
 -- `arrange` meets its contract: sizes, then starts.
 use native.Mathlib.Omega.{arith}
-use Rattle.ranging.specs.Sized.{table-placeable, table-arranged}
+use Rattle.ranging.proofs.SizedLaws.{table-placeable, table-arranged}
 use borrow.Author.Needs.{needs}
 use Rattle.ranging.proofs.arrange.arrange.Statement.{statement}
 use Rattle.ranging.proofs.arrange.arrange.Tie as tie

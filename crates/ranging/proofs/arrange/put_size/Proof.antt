@@ -1,7 +1,7 @@
 -- `put_size` meets its contract: three stores.
 use native.Mathlib.Omega.{arith}
 use lib.ListN.{length-set}
-use Rattle.ranging.specs.Sized.{sizing}
+use Rattle.ranging.proofs.SizedLaws.{sizing}
 use borrow.Author.Needs.{needs}
 use Rattle.ranging.proofs.arrange.put_size.Statement.{statement}
 use Rattle.ranging.proofs.arrange.put_size.Tie as tie

@@ -1,6 +1,6 @@
 -- `measure` meets its contract: no flag forbids anything, so the root's interval says whether some sets fit.
 use lib.ListN.{length-replicate}
-use Rattle.ranging.specs.Fitting.{root-told, arrangeable}
+use Rattle.ranging.proofs.FittingLaws.{root-told, arrangeable}
 use borrow.Author.Needs.{needs}
 use Rattle.ranging.proofs.fitting.measure.Statement.{statement}
 use Rattle.ranging.proofs.fitting.measure.Tie as tie

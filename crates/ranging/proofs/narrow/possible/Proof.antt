@@ -1,8 +1,8 @@
 -- `possible` meets its contract: the root's span, not empty, tells that some sets fit.
 use mathlib.Core.Path.{_∙_}
 use borrow.Author.Tests.{leb-true, le-leb}
-use Rattle.ranging.specs.Tables.{out-held}
-use Rattle.ranging.specs.Narrowed.{some-iff, possible-told}
+use Rattle.ranging.proofs.TablesLaws.{out-held}
+use Rattle.ranging.proofs.NarrowedLaws.{some-iff, possible-told}
 use borrow.Author.Needs.{needs}
 use Rattle.ranging.proofs.narrow.possible.Statement.{statement}
 use Rattle.ranging.proofs.narrow.possible.Tie as tie

@@ -1,5 +1,5 @@
 -- `put_turn` meets its contract: three stores.
-use Rattle.ranging.specs.Narrowed.{turned}
+use Rattle.ranging.proofs.NarrowedLaws.{turned}
 use borrow.Author.Needs.{needs}
 use Rattle.ranging.proofs.narrow.put_turn.Statement.{statement}
 use Rattle.ranging.proofs.narrow.put_turn.Tie as tie

@@ -1,7 +1,7 @@
 -- `pull_ends` meets its contract: none where b has more than t, else the two ends.
 use native.Mathlib.Omega.{arith}
 use mathlib.Core.Path.{sym, _∙_}
-use Rattle.ranging.specs.PullLaws.{by-none, by-some}
+use Rattle.ranging.proofs.PullLaws.{by-none, by-some}
 use borrow.Author.Needs.{needs}
 use Rattle.ranging.proofs.pull.pull_ends.Statement.{statement}
 use Rattle.ranging.proofs.pull.pull_ends.Tie as tie

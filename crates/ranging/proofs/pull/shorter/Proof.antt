@@ -1,6 +1,6 @@
 -- `shorter` meets its contract: an endless end stays endless, another loses a.
 use native.Mathlib.Omega.{arith}
-use Rattle.ranging.specs.PullLaws.{shorter-end, shorter-fin}
+use Rattle.ranging.proofs.PullLaws.{shorter-end, shorter-fin}
 use borrow.Author.Needs.{needs}
 use Rattle.ranging.proofs.pull.shorter.Statement.{statement}
 use Rattle.ranging.proofs.pull.shorter.Tie as tie

@@ -1,7 +1,7 @@
 -- `put_span` meets its contract: two stores.
 use native.Mathlib.Omega.{arith}
 use lib.ListN.{length-set}
-use Rattle.ranging.specs.Tables.{span-put}
+use Rattle.ranging.proofs.TablesLaws.{span-put}
 use borrow.Author.Needs.{needs}
 use Rattle.ranging.proofs.tables.put_span.Statement.{statement}
 use Rattle.ranging.proofs.tables.put_span.Tie as tie

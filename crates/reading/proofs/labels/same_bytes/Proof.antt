@@ -8,7 +8,7 @@ use native.Mathlib.Omega.{arith}
 use denote.Ref.{now}
 use lib.ListN.{getD}
 use lib.Dec.{eqb}
-use Rattle.wire.specs.Wide.{u8-bytes}
+use Rattle.wire.proofs.WideLaws.{u8-bytes}
 use Rattle.reading.proofs.Strings.{alike, same-none, unlike-longer, alike-last}
 use Rattle.reading.proofs.labels.same_bytes.Statement.{statement}
 use Rattle.reading.proofs.labels.same_bytes.Tie as tie

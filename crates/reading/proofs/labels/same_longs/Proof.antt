@@ -6,7 +6,7 @@ use borrow.Author.Tests.{eq-eqb, ne-eqb}
 use native.Mathlib.Omega.{arith}
 use denote.Ref.{now}
 use lib.Dec.{eqb}
-use Rattle.wire.specs.Wide.{u32-bytes}
+use Rattle.wire.proofs.WideLaws.{u32-bytes}
 use Rattle.reading.proofs.Strings.{alike, alike-number, alike-shorter, unlike-longer, alike-last}
 use Rattle.reading.proofs.labels.same_longs.Statement.{statement}
 use Rattle.reading.proofs.labels.same_longs.Tie as tie

@@ -7,7 +7,7 @@ use borrow.Author.Tests.{eq-eqb, ne-eqb}
 use native.Mathlib.Omega.{arith}
 use denote.Ref.{now}
 use lib.Dec.{eqb}
-use Rattle.wire.specs.Wide.{u64-bytes}
+use Rattle.wire.proofs.WideLaws.{u64-bytes}
 use Rattle.reading.proofs.Strings.{alike, same-none, alike-shorter, unlike-longer, alike-last}
 use Rattle.reading.proofs.labels.same_wides.Statement.{statement}
 use Rattle.reading.proofs.labels.same_wides.Tie as tie

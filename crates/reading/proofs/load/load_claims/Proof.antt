@@ -15,7 +15,8 @@ use Rattle.reading.specs.Loaded.{passedAs, AllHeld}
 use Rattle.reading.specs.declared.records.Answer.the-variants as answer
 use Rattle.reading.proofs.Fields.{claim-whole, claim-alone}
 use Rattle.reading.proofs.Carried.{Handed, answered-record, answered-refusal, tag-of, claim-bytes}
-use Rattle.reading.proofs.Many.{never-read, Left, left-start, left-stop, left-done, held-more, claim-again}
+use Rattle.wire.proofs.Passing.{never-read}
+use Rattle.reading.proofs.Many.{Left, left-start, left-stop, left-done, held-more, claim-again}
 use Rattle.reading.proofs.load.load_claims.Statement.{statement}
 use Rattle.reading.proofs.load.load_claims.Tie as tie
 

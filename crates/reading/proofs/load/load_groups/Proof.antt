@@ -9,7 +9,8 @@ use native.Mathlib.Omega.{arith}
 use denote.Ref.{now}
 use lib.ListN.{length}
 use Rattle.wire.specs.SheetFormat.{groupTests, groupOf}
-use Rattle.reading.specs.Tables.{groupsIn, length-groupsIn}
+use Rattle.reading.specs.Tables.{groupsIn}
+use Rattle.reading.proofs.TablesLaws.{length-groupsIn}
 use Rattle.reading.specs.Answers.{group, AnswerOf}
 use Rattle.reading.proofs.Fields.{group-whole}
 use Rattle.reading.proofs.Carried.{Handed, answered-record, answered-refusal, tag-of}

@@ -17,7 +17,8 @@ use Rattle.reading.specs.Loaded.{recordsIn, passedAs, AllGrouped}
 use Rattle.reading.specs.LabelHash.{labelHashes, AllSeen}
 use Rattle.reading.proofs.Fields.{name-whole}
 use Rattle.reading.proofs.Carried.{Handed, answered-record, answered-refusal, tag-of, name-same}
-use Rattle.reading.proofs.Many.{never-read, Left, left-start, left-stop, left-done, AllPass, pass-more, grouped-more, seen-more}
+use Rattle.wire.proofs.Passing.{never-read}
+use Rattle.reading.proofs.Many.{Left, left-start, left-stop, left-done, AllPass, pass-more, grouped-more, seen-more}
 use Rattle.reading.proofs.Many.{name-alone, name-used, name-again}
 use Rattle.reading.proofs.load.load_names.Statement.{statement}
 use Rattle.reading.proofs.load.load_names.Tie as tie

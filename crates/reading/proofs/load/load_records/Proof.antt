@@ -11,7 +11,7 @@ use Rattle.reading.specs.Tables.{groupsIn}
 use Rattle.reading.specs.ClaimTable.{claimsIn}
 use Rattle.reading.specs.Answers.{headRecord}
 use Rattle.reading.specs.Loaded.{recordsIn, goesOn, loadedAs}
-use Rattle.reading.proofs.Many.{never-read}
+use Rattle.wire.proofs.Passing.{never-read}
 use Rattle.reading.proofs.Stages.{group-stage, name-stage, claim-stage, bytes-follow, at-end, went-on, went, turned-loads}
 use Rattle.reading.proofs.Stages.{names-grouped}
 use borrow.Author.Needs.{needs}

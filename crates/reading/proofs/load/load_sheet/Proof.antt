@@ -7,7 +7,7 @@ use Rattle.wire.specs.SheetFormat.{headTests, headOf}
 use Rattle.reading.specs.Answers.{head}
 use Rattle.reading.specs.Loaded.{goesOn, loadedAs}
 use Rattle.reading.proofs.Carried.{Handed, answered-record, answered-refusal, tag-of}
-use Rattle.reading.proofs.Many.{never-read}
+use Rattle.wire.proofs.Passing.{never-read}
 use Rattle.reading.proofs.Stages.{head-refused, head-limits, head-goes}
 use borrow.Author.Needs.{needs}
 use Rattle.reading.proofs.load.load_sheet.Statement.{statement}

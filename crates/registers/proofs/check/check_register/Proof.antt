@@ -7,7 +7,8 @@ use Prim.Native.Nat.{_≤_}
 use Rattle.wire.specs.Edition.{editionOf}
 use Rattle.wire.specs.Record.{read}
 use Rattle.wire.specs.RegisterFormat.{readRegister}
-use Rattle.reading.specs.SheetIn.{sheetIn, size-in}
+use Rattle.reading.specs.SheetIn.{sheetIn}
+use Rattle.reading.proofs.SheetInLaws.{size-in}
 use Rattle.wire.specs.Capacity.{groupCapacity}
 use Rattle.rows.specs.RowsRead.{rowsBefore}
 use Rattle.rows.proofs.RowLaws.{rows-most, rows-readable}

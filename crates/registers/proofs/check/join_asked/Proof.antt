@@ -1,7 +1,7 @@
 -- `registers::check::join_asked` meets its contract.
 use borrow.Author.Needs.{needs}
 use mathlib.Core.Path.{sym, _∙_}
-use Rattle.laws.specs.Cases.{true-not-false}
+use Rattle.laws.proofs.Cases.{true-not-false}
 use Rattle.registers.proofs.check.join_asked.Statement.{statement}
 use Rattle.registers.proofs.check.join_asked.Tie as tie
 

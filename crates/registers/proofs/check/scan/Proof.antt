@@ -6,7 +6,8 @@ use mathlib.Core.Path.{_≡_, refl, sym, _∙_}
 use mathlib.Core.Logic.{⊎-elim}
 use native.Mathlib.Omega.{arith}
 use lib.ListN.{length}
-use Rattle.reading.specs.SheetIn.{sheetIn, size-in, group-in, parent-below}
+use Rattle.reading.specs.SheetIn.{sheetIn}
+use Rattle.reading.proofs.SheetInLaws.{size-in, group-in, parent-below}
 use Rattle.columns.specs.Columns.{blockMembers, columnSets}
 use Rattle.registers.specs.RuleTests.{parentIn}
 use Rattle.registers.specs.declared.check.Check.the-variants as check

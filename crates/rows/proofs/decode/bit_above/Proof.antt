@@ -5,7 +5,7 @@ use mathlib.Core.Path.{_≡_}
 use mathlib.Core.Bool.{false}
 use native.Mathlib.Omega.{arith}
 use Rattle.wire.specs.Edition.{editionOf}
-use Rattle.wire.specs.EditionFacts.{groups-within}
+use Rattle.wire.proofs.EditionFacts.{groups-within}
 use Rattle.rows.specs.RowsRead.{wordBits, rowWords, bitAt, Above}
 use Rattle.rows.proofs.RowBits.{words-groups, words-bytes, above-nothing, above-on, above-fewer, above-more}
 use Rattle.rows.proofs.decode.bit_above.Statement.{statement}

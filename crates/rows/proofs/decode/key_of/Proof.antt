@@ -1,8 +1,8 @@
 -- `rows::decode::key_of` meets its contract.
 use borrow.Author.Needs.{needs}
 use native.Mathlib.Omega.{arith}
-use Rattle.wire.specs.MemberFacts.{side-some}
-use Rattle.wire.specs.MemberKey.{key-made}
+use Rattle.wire.proofs.MemberFacts.{side-some}
+use Rattle.wire.proofs.MemberKeyLaws.{key-made}
 use Rattle.rows.proofs.decode.key_of.Statement.{statement}
 use Rattle.rows.proofs.decode.key_of.Tie as tie
 

@@ -3,7 +3,7 @@ use borrow.Author.Needs.{needs}
 use mathlib.Core.Path.{sym}
 use native.Mathlib.Omega.{arith}
 use Rattle.wire.specs.Edition.{editionOf}
-use Rattle.wire.specs.EditionFacts.{row-parts}
+use Rattle.wire.proofs.EditionFacts.{row-parts}
 use Rattle.rows.proofs.RowLaws.{front-frame}
 use Rattle.rows.proofs.decode.row_at.Statement.{statement}
 use Rattle.rows.proofs.decode.row_at.Tie as tie

@@ -2,7 +2,7 @@
 use borrow.Author.Needs.{needs}
 use native.Mathlib.Omega.{arith}
 use Rattle.wire.specs.Edition.{editionOf}
-use Rattle.wire.specs.EditionFacts.{row-parts}
+use Rattle.wire.proofs.EditionFacts.{row-parts}
 use Rattle.rows.proofs.decode.row_found.Statement.{statement}
 use Rattle.rows.proofs.decode.row_found.Tie as tie
 

@@ -6,7 +6,7 @@ use mathlib.Core.Bool.{true}
 use native.Mathlib.Omega.{arith}
 use borrow.Author.Tests.{not-true, not-false}
 use Rattle.wire.specs.Edition.{editionOf}
-use Rattle.wire.specs.EditionFacts.{row-parts}
+use Rattle.wire.proofs.EditionFacts.{row-parts}
 use Rattle.wire.specs.Member.{isSide}
 use Rattle.rows.proofs.RowLaws.{RowFields, front-no-side, front-nobody, front-rises, front-joined, front-falls}
 use Rattle.rows.proofs.decode.row_framed.Statement.{statement}

@@ -1,5 +1,5 @@
 -- `parent_group` meets its contract.
-use Rattle.reading.specs.SheetIn.{son-in, parent-below}
+use Rattle.reading.proofs.SheetInLaws.{son-in, parent-below}
 use borrow.Author.Needs.{needs}
 use Rattle.runs.proofs.place.parent_group.Statement.{statement}
 use Rattle.runs.proofs.place.parent_group.Tie as tie

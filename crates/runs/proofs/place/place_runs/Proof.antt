@@ -5,9 +5,12 @@ use native.Mathlib.Omega.{arith}
 use borrow.Author.Needs.{needs}
 use lib.ListN.{length, length-set}
 use lib.Seq.{getD-set-same}
-use Rattle.reading.specs.SheetIn.{sheetIn, size-in}
-use Rattle.runs.specs.Told.{numberIn, placeable-kept}
-use Rattle.runs.specs.Placed.{Placed, placed-root, placed-all}
+use Rattle.reading.specs.SheetIn.{sheetIn}
+use Rattle.reading.proofs.SheetInLaws.{size-in}
+use Rattle.runs.specs.Told.{numberIn}
+use Rattle.runs.proofs.ToldLaws.{placeable-kept}
+use Rattle.runs.specs.Placed.{Placed}
+use Rattle.runs.proofs.PlacedLaws.{placed-root, placed-all}
 use Rattle.runs.proofs.place.place_runs.Statement.{statement}
 use Rattle.runs.proofs.place.place_runs.Tie as tie
 

@@ -1,8 +1,8 @@
 -- `place_son` meets its contract.
 use native.Mathlib.Omega.{arith}
 use lib.ListN.{length-set}
-use Rattle.reading.specs.SheetIn.{size-in}
-use Rattle.runs.specs.Placed.{placed-by}
+use Rattle.reading.proofs.SheetInLaws.{size-in}
+use Rattle.runs.proofs.PlacedLaws.{placed-by}
 use borrow.Author.Needs.{needs}
 use Rattle.runs.proofs.place.place_son.Statement.{statement}
 use Rattle.runs.proofs.place.place_son.Tie as tie

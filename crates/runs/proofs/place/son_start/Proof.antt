@@ -1,5 +1,5 @@
 -- `son_start` meets its contract.
-use Rattle.runs.specs.Placed.{start-room, start-is}
+use Rattle.runs.proofs.PlacedLaws.{start-room, start-is}
 use borrow.Author.Needs.{needs}
 use Rattle.runs.proofs.place.son_start.Statement.{statement}
 use Rattle.runs.proofs.place.son_start.Tie as tie

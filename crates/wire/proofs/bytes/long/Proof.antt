@@ -1,7 +1,7 @@
 -- `long` meets its contract: four bytes are two fields of two.
 use denote.Ref.{now}
 use native.Mathlib.Omega.{arith}
-use Rattle.wire.specs.Fields.{u32-halves}
+use Rattle.wire.proofs.Fields.{u32-halves}
 use borrow.Author.Needs.{needs}
 use Rattle.wire.proofs.bytes.long.Statement.{statement}
 use Rattle.wire.proofs.bytes.long.Tie as tie

@@ -1,7 +1,7 @@
 -- `is_edition` meets its contract.
 use borrow.Author.Tests.{eq-eqb}
 use Rattle.wire.specs.Edition.{editionNumber}
-use Rattle.wire.specs.EditionFacts.{second-of, first-of}
+use Rattle.wire.proofs.EditionFacts.{second-of, first-of}
 use Rattle.wire.proofs.edition.is_edition.Statement.{statement}
 use Rattle.wire.proofs.edition.is_edition.Tie as tie
 

@@ -1,6 +1,6 @@
 -- `label_limit` meets its contract, in the second edition and in the first.
 use Rattle.wire.specs.Edition.{editionNumber, labelLimit}
-use Rattle.wire.specs.EditionFacts.{second-of, first-of}
+use Rattle.wire.proofs.EditionFacts.{second-of, first-of}
 use Rattle.wire.proofs.edition.label_limit.Statement.{statement}
 use Rattle.wire.proofs.edition.label_limit.Tie as tie
 

@@ -1,0 +1,4 @@
+pub mod PartedLaws
+pub mod PartsLaws
+pub mod DividedLaws
+pub mod ChosenLaws

@@ -1,0 +1,4 @@
+pub mod Cases
+pub mod SumLaws
+pub mod Digits
+pub mod TabulateLaws

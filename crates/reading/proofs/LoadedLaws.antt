@@ -1,0 +1,37 @@
+-- Laws of what loading gives: records at their places, and each of the two answers.
+use Prim.Native.Nat.{ℕ, _<_}
+use mathlib.Core.Path.{_≡_, sym}
+use mathlib.Core.List.{List}
+use lib.ListN.{length, getD, drop}
+use Rattle.reading.specs.declared.records.Head.{Head}
+use Rattle.reading.specs.declared.load.Loaded.{Loaded}
+use Rattle.laws.proofs.TabulateLaws.{length-tabulate, getD-tabulate}
+use Rattle.wire.specs.Record.{Reading, read, refused}
+use Rattle.wire.specs.SheetFormat.{Records}
+use Rattle.reading.specs.Answers.{headRecord}
+use Rattle.reading.specs.Loaded.{recordsIn, goesOn, loadedAs, recordsOf, Held, Loads}
+use Rattle.reading.specs.declared.load.Loaded.the-variants as loaded
+
+module _ {A : Type 0} (value : List ℕ → A) (s places : List ℕ) (n : ℕ) where
+  pub length-recordsIn : length (recordsIn value s places n) ≡ n
+  unfolding recordsIn
+  length-recordsIn = length-tabulate (λ i. value (drop (getD places i 0) s)) n
+
+  pub getD-recordsIn : (i : ℕ) (d : A) → i < n → getD (recordsIn value s places n) i d ≡ value (drop (getD places i 0) s)
+  unfolding recordsIn
+  getD-recordsIn i d l = getD-tabulate (λ i. value (drop (getD places i 0) s)) n i d l
+
+-- what that says for each of the two answers
+module _ {r : Loaded} {whole : Reading Records} {s groups names labels claims places : List ℕ}
+    (w : Loads r whole s groups names labels claims places) where
+  pub loaded-sheet : (h : Head) → r ≡ loaded.Sheet h → whole ≡ read (recordsOf (headRecord h) s groups labels claims places)
+  unfolding goesOn loadedAs
+  loaded-sheet h e = sym (rw e at (w .reads))
+
+  pub loaded-held : (h : Head) → r ≡ loaded.Sheet h → Held (headRecord h) s names labels claims places
+  unfolding loadedAs
+  loaded-held h e = w .held _ (rw e)
+
+  pub loaded-refused : (n k : ℕ) → r ≡ loaded.Refused n k → whole ≡ refused n k
+  unfolding goesOn loadedAs
+  loaded-refused n k e = sym (rw e at (w .reads))

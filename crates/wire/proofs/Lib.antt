@@ -1,0 +1,16 @@
+pub mod EditionFacts
+pub mod WideLaws
+pub mod Ears
+pub mod Editions
+pub mod Passing
+pub mod Many
+pub mod Sorts
+pub mod Facts
+pub mod Fields
+pub mod MemberFacts
+pub mod RoundTripRegister
+pub mod RoundTripRecords
+pub mod RoundTripSheet
+pub mod MemberKeyLaws
+pub mod RowFacts
+pub mod Longest
