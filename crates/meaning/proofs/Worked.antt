@@ -11,7 +11,7 @@ use native.Mathlib.Nat.{le-of-eq}
 use Rattle.laws.specs.Sum.{bit, sum}
 use Rattle.laws.specs.Digit.{digit}
 use Rattle.laws.proofs.Cases.{compare-eq, split, not-true-false, true-not-false, and-true, or-true, or-left, or-false}
-use Rattle.laws.proofs.SumLaws.{sum-le, sum-eq, sum-add, sum-zero, sum-gap-term, bit-le, bit-le-true, sum-tight, bit-most, true-bit, bit-true}
+use Rattle.laws.proofs.SumLaws.{sum-le, sum-add, sum-zero, sum-gap-term, bit-le, bit-le-true, sum-tight, bit-most, true-bit, bit-true}
 use Rattle.laws.proofs.SumLaws.{sum-term}
 use Rattle.wire.specs.Member.{Side, left, right, sideNumber, oneMember}
 use Rattle.wire.specs.SheetFormat.{GroupRecord, NameRecord, lists, place, count, inside, apart}
@@ -20,7 +20,7 @@ use Rattle.wire.proofs.Ears.{ear}
 use Rattle.meaning.specs.Sheet.{Sheet, Group, Son, endOf, AtMost}
 use Rattle.meaning.specs.Sons.{sons, isSon}
 use Rattle.meaning.specs.SonList.{sonList, passing}
-use Rattle.meaning.specs.Sets.{Sets, numbered}
+use Rattle.meaning.specs.Sets.{Sets, Distinct, numbered}
 use Rattle.meaning.specs.Fits.{Possible, Fits, Attains, Meets, groupsOf}
 use Rattle.meaning.specs.Claim.{Breakable, countNamed}
 use Rattle.meaning.specs.Place.{Fillable, Question, allSay, somePlace, every}
@@ -127,8 +127,9 @@ pub record Worked : Type 0 where
   pub leaf-zero : (k : ℕ) → Attains (leaf 0) 1 k ↔ (k ≡ 0)
   pub leaf-one : Possible (leaf 1) → ⊥
   pub twins-empty : (g : ℕ) → Group twins g → (k : ℕ) → Attains twins g k ↔ (k ≡ 0)
+  -- merely equal: any sets fit in which root and son have the same members, and no others; so any count is possible
+  pub single-equal : (A : Sets ℕ) → Distinct A → Fits single A ↔ ((i : ℕ) → i < A .bound → groupsOf A i 2 ≡ groupsOf A i 1)
   pub single-any : (g : ℕ) → Group single g → (k : ℕ) → Attains single g k
-  pub single-equal : (A : Sets ℕ) → Fits single A → sets.count A 2 ≡ sets.count A 1
   pub forced-inside : Holds forced (claimed names (lists inside (2 ∷ []) (3 ∷ [])))
   pub shared-five : Holds (shared 5) (claimed names (lists apart (2 ∷ []) (3 ∷ [])))
   pub shared-four : Denied (shared 4) (claimed names (lists apart (2 ∷ []) (3 ∷ [])))
@@ -186,10 +187,6 @@ module _ {s : Sheet} {A : Sets ℕ} (w : Fits s A) where
   under-two p g h q =
       rw (← (sum-add (λ i. bit (groupsOf A i g)) (λ i. bit (groupsOf A i h)) (A .bound)))
       (sum-le _ _ (A .bound) (λ i l. q (groupsOf A i) (w .rules i l)))
-
-  as-one : (p g : ℕ) → ((M : ℕ → Bool) → Meets s M → M g ≡ M p) → sets.count A g ≡ sets.count A p
-  unfolding sets.count
-  as-one p g q = sum-eq _ _ (A .bound) (λ i l. ap bit (q (groupsOf A i) (w .rules i l)))
 
   nobody : (g : ℕ) → ((M : ℕ → Bool) → Meets s M → M g ≡ false) → sets.count A g ≡ 0
   unfolding sets.count
@@ -266,30 +263,20 @@ twins-nobody A w =
     λ g k M m. not-true-false (M g) (λ x. true-not-false (M 1) (m .inside 1 g k x) (root M m)) in
     each (λ g. sets.count A g ≡ 0) twins (nobody w 1 root, (nobody w 2 (son 2 (omega arith)), (nobody w 3 (son 3 (omega arith)), tt)))
 
--- everybody in every group fits where no group is 'cover' and a 'disjoint' group has one son at most
-everybody-fits : (s : Sheet) (n : ℕ) → ((p : ℕ) → Group s p → s .cover p ≡ true → ⊥)
-    → ((p g h : ℕ) → Son s p g → Son s p h → s .disjoint p ≡ true → g ≡ h)
-    → ((g : ℕ) → Group s g → (s .lo g ≤ n) × AtMost n (s .hi g)) → Fits s (everybody n)
-unfolding everybody
-everybody-fits s n no-cover one-son bounds = record {
-  distinct = record { once = λ i j a b e. e };
-  rules = λ i l. record {
-    inside = λ p g a e. refl;
-    equal = λ p g a e x. refl;
-    covered = λ p q e. absurd (no-cover p q e);
-    apart = λ p g h a b e x y. one-son p g h a b e;
-  };
-  least = λ g q. rw (count-everybody n g) (bounds g q .0);
-  most = λ g q. rw (count-everybody n g) (bounds g q .1);
-}
-
--- everybody in both groups
-single-sets : (k : ℕ) → Fits single (everybody k)
+-- 'same' with 'disjoint' over one son asks no more than that the two have the same members
+single-fits : (A : Sets ℕ) → Distinct A → ((i : ℕ) → i < A .bound → groupsOf A i 2 ≡ groupsOf A i 1) → Fits single A
 unfolding endOf digit
-single-sets k =
-    everybody-fits single k (each (λ p. single .cover p ≡ true → ⊥) single (false≢true, (false≢true, tt)))
-    (λ p g h a b e. only-son p g a ∙ sym (only-son p h b))
-    (each (λ g. (single .lo g ≤ k) × AtMost k (single .hi g)) single ((zero-le, tt), ((zero-le, tt), tt)))
+single-fits A d e = record {
+  distinct = d;
+  rules = λ i l. record {
+    inside = each-son (λ p g. groupsOf A i g ≡ true → groupsOf A i p ≡ true) single refl ((λ x. sym (e i l) ∙ x), tt);
+    equal = each-son (λ p g. single .same p ≡ true → groupsOf A i p ≡ true → groupsOf A i g ≡ true) single refl ((λ s x. e i l ∙ x), tt);
+    covered = λ p q c x. absurd (each (λ p. single .cover p ≡ true → ⊥) single (false≢true, (false≢true, tt)) p q c);
+    apart = λ p g h a b s x y. only-son p g a ∙ sym (only-son p h b);
+  };
+  least = each (λ g. single .lo g ≤ sets.count A g) single (zero-le, (zero-le, tt));
+  most = each (λ g. AtMost (sets.count A g) (single .hi g)) single (tt, (tt, tt));
+}
   where
     only-son : (p g : ℕ) → Son single p g → g ≡ 2
     only-son = each-son (λ p g. g ≡ 2) single refl (refl, tt)
@@ -341,11 +328,18 @@ trio-nobody A w i l e =
     )
 
 endless-sets : (n : ℕ) → Fits endless (everybody n)
-unfolding endOf digit
-endless-sets n =
-    everybody-fits endless n (each (λ p. endless .cover p ≡ true → ⊥) endless (false≢true, tt))
-    (λ p g h a b e. omega (arith, a .group, b .group))
-    (λ g q. let one : g ≡ 1 = omega (arith, q) in rw one (zero-le, tt))
+unfolding everybody endOf digit
+endless-sets n = record {
+  distinct = record { once = λ i j a b e. e };
+  rules = λ i l. record {
+    inside = λ p g a x. refl;
+    equal = λ p g a e x. refl;
+    covered = λ p q e x. absurd (each (λ p. endless .cover p ≡ true → ⊥) endless (false≢true, tt) p q e);
+    apart = λ p g h a b e x y. omega (arith, a .group, b .group);
+  };
+  least = each (λ g. endless .lo g ≤ sets.count (everybody n) g) endless (zero-le, tt);
+  most = each (λ g. AtMost (sets.count (everybody n) g) (endless .hi g)) endless (tt, tt);
+}
 
 -- a count of a named group is the group's count
 count-named : {X : Type 0} (A : Sets X) (g : ℕ) → countNamed A (suc g) ≡ sets.count A (suc g)
@@ -482,8 +476,15 @@ worked = record {
     λ w. sym (w .2) ∙ twins-nobody (w .0) (w .1) g q,
     λ e. (everybody 0, fits-by (omega arith), sym e),
   );
-  single-any = λ g q k. (everybody k, single-sets k, count-everybody k g);
-  single-equal = λ A w. as-one w 1 2 (λ M m. both-ways _ _ (m .inside 1 2 (omega arith)) (m .equal 1 2 (omega arith) refl));
+  single-equal = λ A d. (
+    λ w i l. both-ways _ _ (w .rules i l .inside 1 2 (omega arith)) (w .rules i l .equal 1 2 (omega arith) refl),
+    single-fits A d,
+  );
+  single-any = λ g q k. (
+    everybody k,
+    single-fits (everybody k) (record { once = λ i j a b e. e }) (λ i l. refl),
+    count-everybody k g,
+  );
   forced-inside = (
     (everybody 5, fits-by (omega arith)),
     λ w. w .2 (λ i l x. or-left _ false (inside-forced (w .0) (w .1) i l (alone _ x))),
