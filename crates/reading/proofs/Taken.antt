@@ -1,6 +1,6 @@
 -- Laws of the claim that a record carries: it is the record's, and what holds of it where the tests passed.
 use Prim.Native.Nat.{ℕ, zero, suc, _+_, _*_, _≤_, _<_}
-use mathlib.Core.Path.{_≡_, _∙_, sym}
+use mathlib.Core.Path.{ap, _≡_, _∙_, sym}
 use mathlib.Core.Bool.{true, _&&_}
 use mathlib.Core.List.{List, [], _∷_}
 use native.Mathlib.Omega.{arith}
@@ -17,8 +17,8 @@ use Rattle.wire.specs.SheetFormat.{u16s, allWithin, claimTests, listNumber, lef
 use Rattle.wire.proofs.Passing.{passed, Pass}
 use Rattle.wire.proofs.Sorts.{claim-nonzero, claim-frame, claim-cases, list-within, claim-count, ListsFrame, claim-lists}
 use Rattle.wire.proofs.Facts.{within-at}
-use Rattle.reading.specs.ClaimHeld.{listAs, ListsHeld}
-use Rattle.reading.specs.Answers.{recordAs, ClaimTaken, ClaimAnswer}
+use Rattle.reading.specs.ClaimHeld.{listAs, claimRecord, ListsHeld}
+use Rattle.reading.specs.Answers.{recordAs, claim, ClaimTaken, ClaimAnswer}
 use Rattle.reading.proofs.Fields.{field-at, read-at, fields-at}
 use Rattle.reading.proofs.Carried.{answer-refused, answer-record}
 use Rattle.reading.specs.declared.claim.Claim.the-variants as claim-of
@@ -50,11 +50,11 @@ claim-room s at names e =
 -- a count
 pub count-taken : (s : List ℕ) (at name lo hi : ℕ) → u16At s (at + 2) ≡ 4 → name ≡ u16At s (at + 4) → lo ≡ u16At s (at + 6) →
     hi ≡ u16At s (at + 8) → ClaimTaken s at (claim-of.Count (record { name = record { 0 = name }; lo = lo; hi = hi }))
-unfolding recordAs
 count-taken s at name lo hi k a b c =
     let kind : kindOf (drop at s) ≡ 4 = field-at s at 2 ∙ k in
     record {
-      says = rw (claim-count (drop at s) kind, kind, read-at s at 4 name a, read-at s at 6 lo b, read-at s at 8 hi c);
+      kind = sym kind;
+      carries = rw (claim-count (drop at s) kind, read-at s at 4 name a, read-at s at 6 lo b, read-at s at 8 hi c);
       held = λ names p. claim-cases names [] (drop at s) (passed _ (claim-nonzero names [] (drop at s)) p)
           (λ four f. rw (read-at s at 4 name a) at (within-at names (u16At (drop at s) 4 ∷ []) (f .name) 0 0 (omega arith)))
           (λ k e f. absurd (omega (arith, list-within k)));
@@ -95,11 +95,11 @@ module _ (s : List ℕ) (at : ℕ) (k : ListKind) (m n : ℕ) (a : m ≡ u16At s
 
   pub lists-taken : u16At s (at + 2) ≡ listNumber (listAs k)
       → ClaimTaken s at (claim-of.Lists (record { kind = k; m = m; n = n; at = at + 8 }))
-  unfolding recordAs
   lists-taken e =
       let kind : kindOf (drop at s) ≡ listNumber (listAs k) = field-at s at 2 ∙ e in
       record {
-        says = rw (claim-lists (drop at s) (listAs k) kind, kind, left-at, right-at);
+        kind = sym kind;
+        carries = rw (claim-lists (drop at s) (listAs k) kind, left-at, right-at);
         held = lists-held (λ z. omega (arith, list-within (listAs k)));
       }
 
@@ -113,7 +113,8 @@ module _ {names : ℕ} {s : List ℕ} {at : ℕ} where
 
   pub claim-answered : {c : Claim} → refusal (claimTests names [] (drop at s)) ≡ 0 → ClaimTaken s at c →
       ClaimAnswer names s at (answer.Record (record-of.Claim c))
+  unfolding recordAs
   claim-answered {c} e w = record {
-    answers = answer-record e (w .says);
+    answers = answer-record e (ap (λ n. (n, claim (claimRecord s c))) (w .kind) ∙ ap (λ r. (kindOf (drop at s), claim r)) (w .carries));
     held = λ d f. let z : c ≡ d = cc in rw z at (w .held names e);
   }

@@ -82,7 +82,8 @@ claimBody names b = test 3 (claimLength b) ∷ test 4 (claimFields b) ∷ test 5
 
 -- c is the claim of the record at a place
 pub record ClaimTaken (s : List ℕ) (at : ℕ) (c : Claim) : Type 0 where
-  pub says : recordAs s at (record-of.Claim c) ≡ (kindOf (drop at s), claim (claimOf (drop at s)))
+  pub kind : claimKind c ≡ kindOf (drop at s)
+  pub carries : claimRecord s c ≡ claimOf (drop at s)
   pub held : (names : ℕ) → refusal (claimTests names [] (drop at s)) ≡ 0 → ClaimHeld s names c
 
 -- r answers on the claim at a place, in a sheet of `names` names
