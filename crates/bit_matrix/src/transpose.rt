@@ -2,8 +2,8 @@
 // `s` digits that lie across: after six of them, with s = 32, 16, 8, 4, 2, 1, every digit stands at its place.
 ghost use Prim.Native.Nat.{_+_, _≤_, _<_};
 ghost use lib.ListN.{length};
-ghost use Rattle.bit_matrix.specs.Matrix.{side, Transposed};
 ghost use Rattle.bit_matrix.specs.Exchange.{Mask, Exchanged};
+ghost use Rattle.bit_matrix.specs.Matrix.{side, Transposed};
 
 // the lower one of every two blocks of 32, 16, 8, 4, 2 digits and of one digit
 const LOWER_32: u64 = 0x00000000ffffffff;

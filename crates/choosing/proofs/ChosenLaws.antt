@@ -17,11 +17,11 @@ use Rattle.sizes.specs.Bounds.{weight}
 use Rattle.sizes.proofs.LaterLaws.{later-none, later-son, later-skip}
 use Rattle.sizes.proofs.Exact.{sound}
 use Rattle.sizes.proofs.BoundsLaws.{weight-least}
-use Rattle.reading.specs.SheetIn.{sizeLimit}
-use Rattle.measuring.specs.Held.{AlikeBoth, topOf, spanOf}
+use Rattle.tables.specs.SheetIn.{sizeLimit}
+use Rattle.spans.specs.Held.{AlikeBoth, topOf, spanOf}
+use Rattle.spans.proofs.HeldLaws.{none-of, some-of}
 use Rattle.measuring.specs.Pairs.{pairIn}
 use Rattle.measuring.specs.Done.{Lent, AllDone}
-use Rattle.measuring.proofs.HeldLaws.{none-of, some-of}
 use Rattle.measuring.proofs.DoneLaws.{joined-alike}
 use Rattle.choosing.specs.Divided.{Folded, Dividend}
 use Rattle.choosing.specs.Chosen.{Chose}

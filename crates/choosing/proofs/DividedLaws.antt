@@ -15,13 +15,13 @@ use Rattle.meaning.specs.Tree.{Tree}
 use Rattle.meaning.proofs.SonLaws.{son-parent}
 use Rattle.sizes.specs.Span.{Span, In, Kind}
 use Rattle.sizes.specs.Fold.{joinKind, later, Measured}
-use Rattle.reading.specs.Tables.{groupIn}
-use Rattle.reading.specs.SheetIn.{sheetIn, Tabled}
-use Rattle.measuring.specs.Held.{AlikeBoth, modeKind}
+use Rattle.tables.specs.Groups.{groupIn}
+use Rattle.tables.specs.SheetIn.{sheetIn, Tabled}
+use Rattle.tables.specs.Numbers.{numberIn}
+use Rattle.tables.proofs.NumbersLaws.{number-same, number-other}
+use Rattle.spans.specs.Held.{AlikeBoth, modeKind}
 use Rattle.measuring.specs.Pairs.{pairIn}
 use Rattle.measuring.proofs.TablesLaws.{kind-in}
-use Rattle.runs.specs.Told.{numberIn}
-use Rattle.runs.proofs.ToldLaws.{number-same, number-other}
 use Rattle.choosing.specs.Parted.{Parted, Divisible, Shared}
 use Rattle.choosing.specs.Divided.{markedIn, RoomFor, DividedTo, Dividend, Folded}
 use Rattle.choosing.proofs.PartedLaws.{parted-root, parted-more, parted-divisible, parted-choice}

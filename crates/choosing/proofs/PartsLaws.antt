@@ -12,8 +12,8 @@ use Rattle.meaning.specs.Sheet.{AtMost, Top, fin, inf}
 use Rattle.sizes.specs.Span.{Span, In, Kind, lap, add, eq, Makes, join, plus, sonOf}
 use Rattle.sizes.proofs.SpanLaws.{Proper, in-meet, meet-join, restOf, join-in}
 use Rattle.sizes.proofs.JoinedLaws.{makes-first, makes-second, makes-zero}
-use Rattle.measuring.specs.Held.{topOf, spanOf}
-use Rattle.measuring.proofs.HeldLaws.{top-end, top-fin, none-of, some-of, join-none-left, join-none-right, cap-top, less-top}
+use Rattle.spans.specs.Held.{topOf, spanOf}
+use Rattle.spans.proofs.HeldLaws.{top-end, top-fin, none-of, some-of, join-none-left, join-none-right, cap-top, less-top}
 use Rattle.choosing.specs.Parted.{Divisible, Shared}
 use Rattle.choosing.specs.Parts.{restState, sonState, restBy}
 

@@ -6,8 +6,8 @@ use mathlib.Core.List.{List}
 use lib.ListN.{length}
 use Rattle.meaning.specs.Sheet.{Sheet, Group}
 use Rattle.sizes.specs.Balanced.{Choice}
-use Rattle.reading.specs.SheetIn.{Tabled, sizeLimit}
-use Rattle.runs.specs.Told.{numberIn}
+use Rattle.tables.specs.SheetIn.{Tabled, sizeLimit}
+use Rattle.tables.specs.Numbers.{numberIn}
 use Rattle.choosing.specs.Divided.{markedIn}
 
 -- the tables of a question: the groups of a sheet, and room for the answer

@@ -9,10 +9,10 @@ use Rattle.meaning.specs.Sheet.{Sheet, Son, Group}
 use Rattle.sizes.specs.Balanced.{Choice}
 use Rattle.sizes.specs.Span.{Span}
 use Rattle.sizes.specs.Fold.{later, Measured}
-use Rattle.measuring.specs.Held.{AlikeBoth}
+use Rattle.tables.specs.Numbers.{numberIn}
+use Rattle.spans.specs.Held.{AlikeBoth}
 use Rattle.measuring.specs.Pairs.{pairIn}
 use Rattle.measuring.specs.Done.{Lent}
-use Rattle.runs.specs.Told.{numberIn}
 use Rattle.choosing.specs.Parted.{Parted}
 
 -- whether group g is marked in a table of marks

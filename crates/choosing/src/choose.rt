@@ -5,11 +5,11 @@ use crate::parts::at_state;
 use measuring::measure::measure_sheet;
 use measuring::pairs::PAIR_TABLE;
 use measuring::pairs::pair_at;
-use reading::tables::GROUP_CAPACITY;
-use reading::tables::GroupNo;
+use tables::groups::GroupNo;
+use tables::limits::GROUP_CAPACITY;
 ghost use Prim.Native.Nat.{_≤_};
 ghost use lib.ListN.{length};
-ghost use Rattle.reading.specs.SheetIn.{sheetIn};
+ghost use Rattle.tables.specs.SheetIn.{sheetIn};
 ghost use Rattle.measuring.specs.Tables.{mayIn};
 ghost use Rattle.choosing.specs.Chosen.{Chose, Asking};
 

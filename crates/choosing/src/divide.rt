@@ -2,20 +2,20 @@
 // the later sons is kept with the group.
 use crate::parts::divided;
 use measuring::pairs::pair_at;
-use measuring::spans::kind_of;
-use reading::tables::GROUP_CAPACITY;
-use reading::tables::GroupNo;
-use reading::tables::mode_of;
-use runs::place::parent_group;
+use spans::kind::kind_of;
+use tables::groups::GroupNo;
+use tables::groups::mode_of;
+use tables::groups::parent_group;
+use tables::limits::GROUP_CAPACITY;
 ghost use mathlib.Core.Path.{_≡_};
 ghost use Prim.Native.Nat.{_-_, _≤_};
-ghost use lib.ListN.{length, set};
+ghost use lib.ListN.{set, length};
 ghost use Rattle.laws.specs.Sum.{bit};
 ghost use Rattle.sizes.specs.Span.{In};
-ghost use Rattle.reading.specs.SheetIn.{sheetIn, Tabled};
-ghost use Rattle.runs.specs.Told.{numberIn};
+ghost use Rattle.tables.specs.Numbers.{numberIn};
+ghost use Rattle.tables.specs.SheetIn.{sheetIn, Tabled};
 ghost use Rattle.measuring.specs.Pairs.{pairIn};
-ghost use Rattle.choosing.specs.Divided.{markedIn, Folded, RoomFor, DividedTo, Dividend};
+ghost use Rattle.choosing.specs.Divided.{RoomFor, markedIn, Folded, DividedTo, Dividend};
 
 fn mark_of(c: bool) -> u8
     ensures { λ r. ⌜ r ≡ bit c ⌝ }

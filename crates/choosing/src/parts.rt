@@ -1,18 +1,17 @@
 // How a number and a state of a group's sons are divided between one son and the later ones.
-use measuring::spans::Kind;
-use measuring::spans::Pair;
-use measuring::spans::Span;
-use measuring::spans::larger;
-use measuring::spans::minus;
-use measuring::spans::smaller;
+use spans::kind::Kind;
+use spans::pair::Pair;
+use spans::span::Span;
+use spans::span::larger;
+use spans::span::minus;
+use spans::span::smaller;
 ghost use mathlib.Core.Path.{_≡_};
 ghost use mathlib.Core.Bool.{true, false, cond};
 ghost use mathlib.Core.Logic.{_↔_};
 ghost use Prim.Native.Nat.{_≤_};
-ghost use Rattle.sizes.specs.Span.{In, Makes, join, lap, add, eq};
-ghost use Rattle.sizes.specs.Span.{sonOf};
 ghost use Rattle.laws.specs.Sum.{bit};
-ghost use Rattle.measuring.specs.Held.{spanHeld, pairOf, kindHeld};
+ghost use Rattle.sizes.specs.Span.{In, join, lap, add, eq, Makes, sonOf};
+ghost use Rattle.spans.specs.Held.{spanHeld, kindHeld, pairOf};
 ghost use Rattle.choosing.specs.Parted.{Divisible, Shared};
 ghost use Rattle.choosing.specs.Parts.{restState, sonState, restBy};
 

@@ -5,9 +5,10 @@ use Rattle.wire.specs.Limits.{verdictBytes, shownBytes}
 use Rattle.meaning.specs.Sheet.{Sheet}
 use Rattle.meaning.specs.Place.{Question, allSay, somePlace}
 use Rattle.sizes.specs.Witness.{HasWitness, ShownWitness}
-use Rattle.claims.specs.Decided.{verdictOn}
 use Rattle.replies.specs.Reply.{Call, OnceRoom}
-use Rattle.claim_reply.specs.ClaimReply.{SetsIn, VerdictIn, VerdictFor}
+use Rattle.replies.specs.Shown.{SetsIn, VerdictIn}
+use Rattle.claims.specs.Decided.{verdictOn}
+use Rattle.claim_reply.specs.ClaimReply.{VerdictFor}
 
 pub record Answering (s : Sheet) (q : Question) (c : Call) : Type 0 where
   pub shown : HasWitness s q → OnceRoom (verdictBytes + shownBytes * s .size) c (SetsIn s (verdictOn q true) (λ A. ShownWitness q A))

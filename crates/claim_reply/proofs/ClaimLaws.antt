@@ -4,8 +4,8 @@ use mathlib.Core.Path.{_≡_, subst, sym, ap, _∙_}
 use mathlib.Core.List.{List}
 use native.Mathlib.Omega.{arith}
 use lib.ListN.{length}
-use Rattle.reading.specs.declared.records.Head.{Head}
-use Rattle.reading.specs.declared.claim.Claim.{Claim as ClaimRead}
+use Rattle.records.specs.declared.record.Head.{Head}
+use Rattle.claim_records.specs.declared.claim.Claim.{Claim as ClaimRead}
 use Rattle.wire.specs.Record.{read}
 use Rattle.wire.specs.SheetFormat.{nameOf, readSheet}
 use Rattle.wire.proofs.Facts.{read-right}
@@ -13,16 +13,16 @@ use Rattle.meaning.specs.Sheet.{Sheet}
 use Rattle.meaning.specs.Place.{Question}
 use Rattle.meaning.specs.OfRecords.{claimed, claimAt}
 use Rattle.meaning.proofs.Readable.{name-group-most}
-use Rattle.reading.specs.ClaimHeld.{claimRecord}
-use Rattle.reading.specs.ClaimTable.{claimIn}
-use Rattle.reading.specs.Answers.{headRecord}
+use Rattle.tables.proofs.GroupsLaws.{length-groupsIn}
+use Rattle.tables.proofs.RecordsInLaws.{length-recordsIn}
+use Rattle.claim_records.specs.ClaimHeld.{claimRecord}
+use Rattle.claim_records.specs.ClaimTable.{claimIn}
+use Rattle.claim_records.proofs.ClaimTableLaws.{getD-claimsIn}
+use Rattle.records.specs.Answers.{headRecord}
 use Rattle.reading.specs.Loaded.{recordsOf, Held}
-use Rattle.reading.proofs.TablesLaws.{length-groupsIn}
-use Rattle.reading.proofs.ClaimTableLaws.{getD-claimsIn}
-use Rattle.reading.proofs.LoadedLaws.{length-recordsIn}
+use Rattle.replies.specs.Reply.{Call}
 use Rattle.claims.specs.Named.{Askable, claimMeant}
 use Rattle.claims.proofs.NamedLaws.{claim-named}
-use Rattle.replies.specs.Reply.{Call}
 use Rattle.claim_reply.specs.ClaimReply.{VerdictFor}
 
 pub verdict-as : (s : Sheet) (y : Call) {j k : Question} → j ≡ k → VerdictFor s j y → VerdictFor s k y

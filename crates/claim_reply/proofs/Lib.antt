@@ -1,4 +1,2 @@
 pub mod Answering
-pub mod ShownAlike
-pub mod SetsLaws
 pub mod ClaimLaws

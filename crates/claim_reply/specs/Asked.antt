@@ -4,7 +4,7 @@ use mathlib.Core.Path.{_≡_}
 use mathlib.Core.List.{List}
 use Rattle.wire.specs.Record.{read}
 use Rattle.wire.specs.SheetFormat.{HeadRecord, readSheet}
-use Rattle.reading.specs.SheetIn.{Tabled}
+use Rattle.tables.specs.SheetIn.{Tabled}
 use Rattle.reading.specs.Loaded.{recordsOf, Held, Capacity}
 
 pub record Asked (h : HeadRecord) (s groups names claims places : List ℕ) : Type 0 where

@@ -1,29 +1,29 @@
 // The reply to `sheet_claim` under a sheet that was read: the verdict, with sets where some answer the claim, or a refusal.
 // `specs/ClaimReply` writes the operation down.
 // Document 01, "Meaning", "The arrangement" (denials), "Replies", refusals 8, 9 and 14; document 02, card 1.
+use claim_records::claim::Claim;
+use claim_records::claim::claim_in;
 use claims::decide::decide;
-use claims::verdict::Decision;
-use claims::verdict::verdict_number;
-use ranging::fitting::some_fit;
-use reading::claim::Claim;
-use reading::claim::claim_in;
-use reading::records::Head;
-use reading::tables::GROUP_CAPACITY;
+use claims::decision::Decision;
+use measuring::fitting::some_fit;
+use records::record::Head;
 use replies::SHOWN_BYTES;
 use replies::VERDICT_BYTES;
 use replies::pairs::pack;
 use replies::put_sets;
 use replies::put_verdict;
+use replies::verdict::verdict_number;
+use tables::limits::GROUP_CAPACITY;
 ghost use mathlib.Core.Path.{_≡_};
 ghost use Rattle.wire.specs.Record.{read};
 ghost use Rattle.wire.specs.SheetFormat.{Records, readSheet};
-ghost use Rattle.reading.specs.Answers.{headRecord};
-ghost use Rattle.reading.specs.ClaimHeld.{claimRecord};
-ghost use Rattle.reading.specs.SheetIn.{sheetIn, Tabled};
-ghost use Rattle.claims.specs.Named.{Askable, claimMeant};
+ghost use Rattle.tables.specs.SheetIn.{sheetIn, Tabled};
+ghost use Rattle.claim_records.specs.ClaimHeld.{claimRecord};
+ghost use Rattle.records.specs.Answers.{headRecord};
 ghost use Rattle.replies.specs.Reply.{call};
-ghost use Rattle.claim_reply.specs.ClaimReply.{VerdictFor, ClaimVerdict};
+ghost use Rattle.claims.specs.Named.{Askable, claimMeant};
 ghost use Rattle.claim_reply.specs.Asked.{Asked};
+ghost use Rattle.claim_reply.specs.ClaimReply.{VerdictFor, ClaimVerdict};
 
 // The verdict on a claim, with sets where some answer it, into a buffer with room for this verdict.
 fn give_verdict(

@@ -3,10 +3,10 @@ use Prim.Native.Nat.{ℕ}
 use mathlib.Core.Path.{_≡_, refl}
 use mathlib.Core.Bool.{Bool, cond, true, true≢false, false, false≢true}
 use mathlib.Core.List.{List}
-use Rattle.reading.specs.declared.claim.Claim.{Claim as ClaimRead}
-use Rattle.claims.specs.declared.verdict.Verdict.{Verdict}
-use Rattle.claims.specs.declared.verdict.Verdict.the-variants.{Holds, Denied}
-use Rattle.claims.specs.declared.verdict.Decision.the-variants.{Shown, Alone}
+use Rattle.claim_records.specs.declared.claim.Claim.{Claim as ClaimRead}
+use Rattle.replies.specs.declared.verdict.Verdict.the-variants.{Holds, Denied}
+use Rattle.replies.specs.declared.verdict.Verdict.{Verdict}
+use Rattle.claims.specs.declared.decision.Decision.the-variants.{Shown, Alone}
 use Rattle.wire.specs.SheetFormat.{ListKind, inside, apart, place}
 use Rattle.meaning.specs.Sheet.{Sheet}
 use Rattle.meaning.specs.Tree.{Tree, Rooted}
@@ -14,14 +14,15 @@ use Rattle.meaning.specs.Place.{listsAsk, Question}
 use Rattle.meaning.specs.Shown.{shown}
 use Rattle.sizes.specs.Witness.{HasWitness}
 use Rattle.sizes.proofs.RunsLaws.{runs-first, shown-fits-above}
-use Rattle.reading.specs.ClaimHeld.{listAs, claimRecord}
-use Rattle.runs.specs.Told.{numberIn, Told}
+use Rattle.tables.specs.Numbers.{numberIn}
+use Rattle.claim_records.specs.ClaimHeld.{listAs, claimRecord}
+use Rattle.runs.specs.Told.{Told}
 use Rattle.runs.proofs.ToldLaws.{told-runs}
+use Rattle.questions.specs.Judged.{Showing}
+use Rattle.questions.specs.Ways.{isPlace}
 use Rattle.claims.specs.Named.{claimMeant}
-use Rattle.claims.specs.Judged.{Showing}
-use Rattle.claims.specs.Ways.{isPlace}
 use Rattle.claims.specs.Decided.{verdictOn, asksPlace, Shows, Decided}
-use Rattle.reading.specs.declared.claim.Claim.the-variants as claim
+use Rattle.claim_records.specs.declared.claim.Claim.the-variants as claim
 
 -- the verdict on a claim that is read, by that
 pub verdict-read : (c : ClaimRead) (sheet names : List ℕ) (answered : Bool)

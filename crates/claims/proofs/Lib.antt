@@ -1,9 +1,4 @@
-pub mod WitnessedLaws
-pub mod GroupsLaws
 pub mod NamedLaws
-pub mod FlagsLaws
-pub mod JudgedLaws
-pub mod PlacesLaws
-pub mod WaysLaws
-pub mod CountsLaws
 pub mod DecidedLaws
+pub mod ShownAlike
+pub mod SetsLaws

@@ -6,20 +6,20 @@ use mathlib.Core.List.{append-assoc, append-nil}
 use mathlib.Core.Logic.{⊎-elim}
 use native.Mathlib.Omega.{arith}
 use lib.ListN.{length, take, length-map}
-use Rattle.reading.specs.declared.claim.Lists.{Lists}
-use Rattle.reading.specs.declared.claim.Claim.{Claim as ClaimRead}
+use Rattle.claim_records.specs.declared.claim.Lists.{Lists}
+use Rattle.claim_records.specs.declared.claim.Claim.{Claim as ClaimRead}
 use Rattle.wire.specs.Bytes.{u16At}
 use Rattle.wire.specs.SheetFormat.{ListKind, inside, apart, place, u16s, count, NameRecord}
 use Rattle.wire.proofs.Sorts.{length-u16s}
 use Rattle.meaning.specs.Claim.{counted, within, separate}
 use Rattle.meaning.specs.Place.{Question, allSay, somePlace, listsAsk}
 use Rattle.meaning.specs.OfRecords.{nameGroup, claimed}
-use Rattle.reading.specs.ClaimHeld.{leftNames, rightNames, listAs, claimRecord}
-use Rattle.runs.specs.Told.{numberIn}
-use Rattle.claims.specs.Groups.{groupsAmong, Listed}
+use Rattle.tables.specs.Numbers.{numberIn}
+use Rattle.claim_records.specs.ClaimHeld.{leftNames, rightNames, listAs, claimRecord}
+use Rattle.questions.specs.Groups.{groupsAmong, Listed}
+use Rattle.questions.proofs.GroupsLaws.{AllUpTo, among-all, among-more, among-none}
 use Rattle.claims.specs.Named.{meanings, AskableBy, AskableLists, NamesAt, claimMeant, Askable}
-use Rattle.claims.proofs.GroupsLaws.{AllUpTo, among-all, among-more, among-none}
-use Rattle.reading.specs.declared.claim.Claim.the-variants as claim
+use Rattle.claim_records.specs.declared.claim.Claim.the-variants as claim
 
 -- the question speaks of groups of a sheet of n groups, or of none
 abbrev pub SpeaksUpTo : ℕ → Question → Type 0

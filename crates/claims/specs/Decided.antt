@@ -4,23 +4,23 @@ use Prim.Native.Nat.{ℕ, _≤_}
 use mathlib.Core.Path.{_≡_}
 use mathlib.Core.Bool.{Bool, cond, false, true}
 use mathlib.Core.List.{List}
-use Rattle.reading.specs.declared.claim.Claim.{Claim as ClaimRead}
-use Rattle.claims.specs.declared.verdict.Verdict.{Verdict}
-use Rattle.claims.specs.declared.verdict.Verdict.the-variants.{Holds, Denied}
-use Rattle.claims.specs.declared.verdict.Decision.{Decision}
-use Rattle.claims.specs.declared.verdict.Decision.the-variants.{Shown, Alone}
+use Rattle.replies.specs.declared.verdict.Verdict.{Verdict}
+use Rattle.replies.specs.declared.verdict.Verdict.the-variants.{Holds, Denied}
+use Rattle.claim_records.specs.declared.claim.Claim.{Claim as ClaimRead}
+use Rattle.claims.specs.declared.decision.Decision.{Decision}
+use Rattle.claims.specs.declared.decision.Decision.the-variants.{Shown, Alone}
 use Rattle.meaning.specs.Sheet.{Sheet, Group}
 use Rattle.meaning.specs.Sets.{Sets}
 use Rattle.meaning.specs.Fits.{Fits}
 use Rattle.meaning.specs.Place.{Question, allSay, somePlace}
 use Rattle.meaning.specs.Shown.{shown, above}
 use Rattle.sizes.specs.Witness.{ShownWitness, HasWitness}
-use Rattle.reading.specs.ClaimHeld.{listAs}
-use Rattle.runs.specs.Told.{numberIn}
+use Rattle.tables.specs.Numbers.{numberIn}
+use Rattle.claim_records.specs.ClaimHeld.{listAs}
 use Rattle.choosing.specs.Divided.{markedIn}
-use Rattle.claims.specs.Verdict.{verdictNumber}
-use Rattle.claims.specs.Ways.{isPlace}
-use Rattle.reading.specs.declared.claim.Claim.the-variants as claim
+use Rattle.questions.specs.Ways.{isPlace}
+use Rattle.replies.specs.Verdict.{verdictNumber}
+use Rattle.claim_records.specs.declared.claim.Claim.the-variants as claim
 
 -- Sets that answer a claim deny one of kinds 4 to 6 and grant one of kind 7; where there are none, it is the other way round.
 abbrev pub verdictOn : Question → Bool → Verdict

@@ -1,10 +1,2 @@
-pub mod Verdict
-pub mod Witnessed
-pub mod Groups
 pub mod Named
-pub mod Flags
-pub mod Judged
-pub mod Places
-pub mod Ways
-pub mod Counts
 pub mod Decided

@@ -2,16 +2,16 @@
 use Prim.Native.Nat.{ℕ, _≤_, _+_, _*_, _<_}
 use mathlib.Core.List.{List, map}
 use lib.ListN.{length}
-use Rattle.reading.specs.declared.claim.Lists.{Lists}
-use Rattle.reading.specs.declared.claim.Claim.{Claim as ClaimRead}
+use Rattle.claim_records.specs.declared.claim.Claim.{Claim as ClaimRead}
+use Rattle.claim_records.specs.declared.claim.Lists.{Lists}
 use Rattle.wire.specs.Limits.{noEnd}
 use Rattle.wire.specs.Bytes.{u16At}
 use Rattle.wire.specs.SheetFormat.{ClaimRecord, count, lists}
 use Rattle.meaning.specs.Sheet.{endOf}
 use Rattle.meaning.specs.Claim.{counted}
 use Rattle.meaning.specs.Place.{Question, allSay, listsAsk}
-use Rattle.reading.specs.ClaimHeld.{ClaimHeld, ListsHeld}
-use Rattle.runs.specs.Told.{numberIn}
+use Rattle.tables.specs.Numbers.{numberIn}
+use Rattle.claim_records.specs.ClaimHeld.{ClaimHeld, ListsHeld}
 
 -- what the names on a list mean, by the table of names
 abbrev pub meanings : List ℕ → List ℕ → List ℕ

@@ -1,29 +1,29 @@
 // The verdict on one claim, and the sets that are shown with it.
-use crate::count::judge_count;
-use crate::lists::ask_lists;
-use crate::lists::is_place;
+use crate::decision::Decision;
+use crate::decision::verdict_on;
 use crate::names::groups_meant;
-use crate::verdict::Decision;
-use crate::verdict::verdict_on;
-use reading::claim::Claim;
-use reading::claim::ListKind;
-use reading::claim::Lists;
-use reading::tables::GROUP_CAPACITY;
-use reading::tables::meant_by;
-use runs::place::place_runs;
+use claim_records::claim::Claim;
+use claim_records::claim::ListKind;
+use claim_records::claim::Lists;
+use questions::count::judge_count;
+use questions::lists::ask_lists;
+use questions::lists::is_place;
+use runs::starts::place_runs;
+use tables::limits::GROUP_CAPACITY;
+use tables::names::meant_by;
 ghost use mathlib.Core.Path.{_≡_};
 ghost use mathlib.Core.Bool.{_&&_};
+ghost use lib.Dec.{ltb};
 ghost use Prim.Native.Nat.{_≤_};
 ghost use lib.ListN.{length};
-ghost use lib.Dec.{ltb};
 ghost use Rattle.meaning.specs.Place.{listsAsk};
-ghost use Rattle.reading.specs.ClaimHeld.{listAs, leftNames, rightNames, claimRecord};
-ghost use Rattle.reading.specs.SheetIn.{sheetIn};
+ghost use Rattle.tables.specs.SheetIn.{sheetIn};
+ghost use Rattle.claim_records.specs.ClaimHeld.{listAs, leftNames, rightNames, claimRecord};
 ghost use Rattle.choosing.specs.Chosen.{Asking};
-ghost use Rattle.claims.specs.Named.{meanings, claimMeant, Askable, AskableLists};
-ghost use Rattle.claims.specs.Judged.{Judged};
-ghost use Rattle.claims.specs.Ways.{isPlace};
+ghost use Rattle.questions.specs.Judged.{Judged};
+ghost use Rattle.questions.specs.Ways.{isPlace};
 ghost use Rattle.claims.specs.Decided.{Decided};
+ghost use Rattle.claims.specs.Named.{meanings, AskableLists, claimMeant, Askable};
 
 // whether the claim asks for a member of every left set and has the empty set among these: k of its n left names mean a group
 fn lacks_member(kind: ListKind, k: usize, n: u16) -> bool

@@ -1,16 +1,16 @@
 // From names to groups. The numbers of a claim's names stand in the sheet's bytes; the table of names has what each means.
-use reading::tables::Meant;
-use reading::tables::NameNo;
-use reading::tables::meant_by;
+use tables::names::Meant;
+use tables::names::NameNo;
+use tables::names::meant_by;
 use wire::bytes::word;
 ghost use mathlib.Core.Path.{_≡_};
-ghost use mathlib.Core.List.{[], _∷_, _++_};
-ghost use Prim.Native.Nat.{_+_, _≤_, _<_};
+ghost use Prim.Native.Nat.{_+_, _<_, _≤_};
 ghost use lib.ListN.{length, take};
+ghost use mathlib.Core.List.{[], _∷_, _++_};
 ghost use Rattle.wire.specs.Bytes.{u16At};
 ghost use Rattle.wire.specs.SheetFormat.{u16s};
-ghost use Rattle.reading.specs.Meant.{meantNumber, Numbered};
-ghost use Rattle.claims.specs.Groups.{groupsAmong};
+ghost use Rattle.tables.specs.Names.{meantNumber, Numbered};
+ghost use Rattle.questions.specs.Groups.{groupsAmong};
 ghost use Rattle.claims.specs.Named.{meanings, NamesAt};
 
 // the name whose number stands at a place of the sheet

@@ -1,5 +1,3 @@
 pub mod ColumnLaws
 pub mod PutLaws
-pub mod BitLaws
-pub mod TileLaws
-pub mod FillLaws
+pub mod CountLaws

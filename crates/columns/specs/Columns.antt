@@ -9,11 +9,11 @@ use lib.Dec.{eqb}
 use Rattle.laws.specs.Sum.{bit}
 use Rattle.laws.specs.Digit.{digit}
 use Rattle.wire.specs.Limits.{rowLimit}
-use Rattle.wire.specs.Capacity.{groupCapacity}
 use Rattle.wire.specs.RegisterFormat.{Row}
 use Rattle.meaning.specs.Sets.{Sets, numbered}
 use Rattle.meaning.specs.OfRecords.{members}
 use Rattle.meaning.specs.MemberIn.{memberIn}
+use Rattle.tables.specs.Groups.{groupPlaces}
 use Rattle.rows.specs.RowsRead.{wordBits}
 
 -- the words of a column: a digit for each member, who are no more than the rows
@@ -26,10 +26,6 @@ blockWords = 8
 
 abbrev pub blockMembers : ℕ
 blockMembers = wordBits * blockWords
-
--- places of a table by group: group numbers start at 1, and place 0 is for none
-abbrev pub groupPlaces : ℕ
-groupPlaces = groupCapacity + 1
 
 -- columns stand so many words apart, more than they have
 abbrev pub columnStride : ℕ

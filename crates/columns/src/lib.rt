@@ -1,8 +1,6 @@
-// The members of a register that was read, as columns of bits: a column for each group, a bit for each member.
-// `fill` puts the rows into tiles of 64 members, `tiles` puts a tile into the columns, transposed or by `bits`, `table` reads a column.
+// Columns of bits: one for each group, with a bit for each member of a register, 64 members a word.
+// `table` reads and sets a word of a column, `counts` counts the members of each group (`specs/Counts`); `specs/ColumnSteps` says what a store sets.
 // Document 01, "Registers"; document 02, cards 2, 5 and 14.
-pub mod bits;
-pub mod fill;
+pub mod counts;
 pub mod limits;
 pub mod table;
-pub mod tiles;

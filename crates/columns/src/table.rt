@@ -1,14 +1,14 @@
 // A column of bits for each group: bit i is set where member i is in the group, 64 members a word.
 use crate::limits::BLOCK_MEMBERS;
 use crate::limits::COLUMN_STRIDE;
-use reading::tables::GroupNo;
+use tables::groups::GroupNo;
 ghost use mathlib.Core.Path.{_≡_};
-ghost use Prim.Native.Nat.{_≤_, _<_};
+ghost use Prim.Native.Nat.{_<_, _≤_};
 ghost use lib.ListN.{length, getD};
-ghost use Rattle.wire.specs.Limits.{rowLimit};
 ghost use Rattle.wire.specs.Capacity.{groupCapacity};
-ghost use Rattle.columns.specs.Columns.{columnWords, columnsLength, columnWord, BlocksFor};
+ghost use Rattle.wire.specs.Limits.{rowLimit};
 ghost use Rattle.columns.specs.ColumnSteps.{ColumnPut};
+ghost use Rattle.columns.specs.Columns.{columnWord, columnWords, columnsLength, BlocksFor};
 
 // one word of a group's column
 pub fn column_word(columns: &[u64], g: GroupNo, w: usize) -> u64

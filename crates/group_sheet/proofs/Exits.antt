@@ -11,8 +11,8 @@ use Rattle.wire.specs.Record.{Reading, read, refused}
 use Rattle.meaning.specs.Sheet.{Sheet}
 use Rattle.meaning.specs.Fits.{Possible}
 use Rattle.replies.specs.Reply.{call, Refused, Replied, OnceRead, OncePossible, OnceRoom}
+use Rattle.replies.proofs.Alike.{Alike, alike-all}
 use Rattle.claim_reply.specs.ClaimReply.{OnceNumbered}
-use Rattle.group_sheet.proofs.Alike.{Alike, alike-all}
 
 -- E is what is claimed of the two exits, and holds where they are the same.
 module _ {before after after' : List ℕ} {r r' : ℕ} {E : Type 0} (same : (r ≡ r') × (after ≡ after') → E) where

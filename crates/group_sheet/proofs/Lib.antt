@@ -1,4 +1,2 @@
-pub mod TabledLaws
-pub mod Alike
 pub mod Exits
 pub mod Settled

@@ -7,7 +7,7 @@ use mathlib.Core.List.{List}
 use mathlib.Core.Logic.{_⊎_, inl, inr, ⊎-elim}
 use native.Mathlib.Omega.{arith}
 use lib.ListN.{length, drop}
-use Rattle.claims.specs.declared.verdict.Verdict.{Verdict}
+use Rattle.replies.specs.declared.verdict.Verdict.{Verdict}
 use Rattle.wire.specs.Limits.{rangeBytes, answerBytes, verdictBytes, shownBytes}
 use Rattle.wire.specs.Record.{read}
 use Rattle.wire.specs.SheetFormat.{readSheet, Records}
@@ -21,12 +21,13 @@ use Rattle.sizes.specs.Witness.{HasWitness}
 use Rattle.sizes.proofs.Readable.{readable-possible-or-not, readable-arrangement-once, readable-witness-or-not}
 use Rattle.registers.proofs.Settled.{answered-once}
 use Rattle.replies.specs.Reply.{call, OnceSheet, packed, Replied}
+use Rattle.replies.specs.Shown.{VerdictIn, shownAt, SetsIn}
+use Rattle.replies.proofs.Alike.{Alike, alike-then, alike-many, u16-alike, u32-alike}
 use Rattle.range_reply.specs.RangesReply.{rangeAt, rangeLeast, rangeGreatest, runFirst, runCount, RangesIn, RangesCall}
 use Rattle.range_reply.proofs.RangesOnce.{range-once}
 use Rattle.register_reply.specs.RegisterReply.{AnswerIn, Register}
-use Rattle.claim_reply.specs.ClaimReply.{VerdictIn, shownAt, SetsIn, ClaimVerdict}
+use Rattle.claim_reply.specs.ClaimReply.{ClaimVerdict}
 use Rattle.claim_reply.proofs.Answering.{verdict-answering}
-use Rattle.group_sheet.proofs.Alike.{Alike, alike-then, alike-many, u16-alike, u32-alike}
 use Rattle.group_sheet.proofs.Exits.{once-read, once-possible, once-room, replied-alike, once-numbered}
 
 -- Ranges.

@@ -2,12 +2,12 @@
 use claim_reply::give_claim;
 use reading::load::Loaded;
 use reading::load::load_sheet;
-use reading::tables::CLAIM_TABLE;
-use reading::tables::GROUP_TABLE;
-use reading::tables::LABEL_TABLE;
-use reading::tables::NAME_TABLE;
-use reading::tables::PLACE_TABLE;
 use replies::pairs::pack;
+use tables::limits::CLAIM_TABLE;
+use tables::limits::GROUP_TABLE;
+use tables::limits::LABEL_TABLE;
+use tables::limits::NAME_TABLE;
+use tables::limits::PLACE_TABLE;
 ghost use Rattle.replies.specs.Reply.{call, OnceSheet};
 ghost use Rattle.claim_reply.specs.ClaimReply.{ClaimVerdict};
 

@@ -2,8 +2,8 @@
 use range_reply::give_ranges;
 use reading::load::Loaded;
 use reading::load::load_tree;
-use reading::tables::GROUP_TABLE;
 use replies::pairs::pack;
+use tables::limits::GROUP_TABLE;
 ghost use Rattle.replies.specs.Reply.{call};
 ghost use Rattle.range_reply.specs.RangesReply.{RangesCall};
 

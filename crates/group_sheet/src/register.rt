@@ -1,9 +1,9 @@
 // The check of a register.
 use reading::load::Loaded;
 use reading::load::load_tree;
-use reading::tables::GROUP_TABLE;
 use register_reply::give_check;
 use replies::pairs::pack;
+use tables::limits::GROUP_TABLE;
 ghost use Rattle.meaning.specs.OfRecords.{sheetOf};
 ghost use Rattle.replies.specs.Reply.{call, OnceSheet};
 ghost use Rattle.register_reply.specs.RegisterReply.{Register};

@@ -18,12 +18,12 @@ use Rattle.sizes.specs.Fold.{joined, later, shut, Measured, joinKind, start, ow
 use Rattle.sizes.specs.Bounds.{topWeight}
 use Rattle.sizes.proofs.MeasuredLaws.{spans-measured}
 use Rattle.sizes.proofs.BoundsLaws.{Small, span-small, later-small}
-use Rattle.reading.specs.Tables.{groupIn, groupFields}
-use Rattle.reading.specs.Modes.{disjointMode, coverMode, sameMode}
-use Rattle.reading.specs.SheetIn.{sheetIn, Tabled}
-use Rattle.reading.proofs.SheetInLaws.{size-in, disjoint-in, cover-in, same-in, lo-in, hi-in, few-groups}
-use Rattle.measuring.specs.Held.{AlikeBoth, shutBy, Room, RoomBoth}
-use Rattle.measuring.specs.Tables.{mayIn, spansIn}
+use Rattle.tables.specs.Groups.{groupIn, groupFields}
+use Rattle.tables.specs.Modes.{disjointMode, coverMode, sameMode}
+use Rattle.tables.specs.SheetIn.{sheetIn, Tabled}
+use Rattle.tables.proofs.SheetInLaws.{size-in, disjoint-in, cover-in, same-in, lo-in, hi-in, few-groups}
+use Rattle.spans.specs.Held.{AlikeBoth, Room, RoomBoth}
+use Rattle.measuring.specs.Tables.{shutBy, mayIn, spansIn}
 use Rattle.measuring.specs.Links.{sonBelow, linkIn, Links}
 use Rattle.measuring.specs.Pairs.{PairPut, pairIn}
 use Rattle.measuring.specs.Done.{Within, here, below, Spanned, Followed, UnderLater, Done, AllDone, Readable}

@@ -1,5 +1,5 @@
-pub mod HeldLaws
 pub mod TablesLaws
 pub mod LinksLaws
 pub mod PairsLaws
 pub mod DoneLaws
+pub mod FittingLaws

@@ -18,9 +18,9 @@ use Rattle.meaning.proofs.SonLaws.{son-of, son-is, no-son-before, no-son}
 use Rattle.sizes.specs.Span.{Span}
 use Rattle.sizes.specs.Fold.{joinKind, shut, start, joined, later}
 use Rattle.sizes.proofs.LaterLaws.{later-none, later-son, later-skip}
-use Rattle.reading.specs.Tables.{groupIn}
-use Rattle.reading.specs.SheetIn.{sheetIn}
-use Rattle.reading.proofs.SheetInLaws.{size-in, group-in, parent-in}
+use Rattle.tables.specs.Groups.{groupIn}
+use Rattle.tables.specs.SheetIn.{sheetIn}
+use Rattle.tables.proofs.SheetInLaws.{size-in, group-in, parent-in}
 use Rattle.measuring.specs.Links.{linkIn, Linked, sonBelow, Links}
 
 -- a link at its place

@@ -7,9 +7,9 @@ use native.Mathlib.Omega.{arith}
 use lib.ListN.{set, length, getD, length-set}
 use lib.Seq.{getD-set-same, getD-set-other}
 use Rattle.sizes.specs.Span.{Span}
-use Rattle.measuring.specs.Held.{spanOf}
-use Rattle.measuring.specs.Pairs.{pairFields, pairIn, PairPut}
-use Rattle.measuring.proofs.HeldLaws.{span-eq}
+use Rattle.spans.specs.Held.{spanOf}
+use Rattle.spans.proofs.HeldLaws.{span-eq}
+use Rattle.measuring.specs.Pairs.{pairFields, pairIn, PairPut, OutAt}
 
 -- the four stores
 abbrev pub stored : List ℕ → ℕ → ℕ → ℕ → ℕ → ℕ → List ℕ
@@ -84,3 +84,7 @@ pair-put t g a b c d p l r e f = record { put = at; others = other }
         span-eq
         (out h i n (pairFields * (h - 1) + 2) (omega arith) (omega arith))
         (out h i n (pairFields * (h - 1) + 3) (omega arith) (omega arith))
+
+pub out-held : (t : List ℕ) (g l m : ℕ) → OutAt t g l m → spanOf l m ≡ pairIn t g false
+unfolding pairIn
+out-held t g l m h = rw (h .least, h .most)

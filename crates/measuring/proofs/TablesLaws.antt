@@ -10,10 +10,10 @@ use Rattle.wire.specs.Capacity.{groupCapacity}
 use Rattle.meaning.specs.Sheet.{Group, endOf}
 use Rattle.sizes.specs.Span.{none}
 use Rattle.sizes.specs.Fold.{joinKind, ownTo, own}
-use Rattle.reading.specs.Tables.{groupIn}
-use Rattle.reading.specs.SheetIn.{sheetIn}
-use Rattle.reading.proofs.SheetInLaws.{lo-in, hi-in, disjoint-in, same-in}
-use Rattle.measuring.specs.Held.{mayFlag, modeKind}
+use Rattle.tables.specs.Groups.{groupIn}
+use Rattle.tables.specs.SheetIn.{sheetIn}
+use Rattle.tables.proofs.SheetInLaws.{lo-in, hi-in, disjoint-in, same-in}
+use Rattle.spans.specs.Held.{mayFlag, modeKind}
 use Rattle.measuring.specs.Tables.{mayIn}
 
 -- the table of flags that forbids nothing

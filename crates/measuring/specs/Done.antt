@@ -1,15 +1,15 @@
 -- What measuring leaves in the tables.
-use Prim.Native.Nat.{ℕ, _-_, _*_, _≤_, _<_}
+use Prim.Native.Nat.{ℕ, _<_, _-_, _≤_, _*_}
 use mathlib.Core.Bool.{Bool}
 use mathlib.Core.List.{List}
 use lib.ListN.{length}
-use Rattle.meaning.specs.Sheet.{Sheet, Group, Son}
-use Rattle.reading.specs.SheetIn.{sheetIn, Tabled}
+use Rattle.meaning.specs.Sheet.{Sheet, Son, Group}
 use Rattle.sizes.specs.Span.{Span}
 use Rattle.sizes.specs.Fold.{later}
-use Rattle.measuring.specs.Held.{AlikeBoth}
+use Rattle.tables.specs.SheetIn.{Tabled, sheetIn}
+use Rattle.spans.specs.Held.{AlikeBoth}
 use Rattle.measuring.specs.Links.{Links}
-use Rattle.measuring.specs.Pairs.{pairFields, pairIn}
+use Rattle.measuring.specs.Pairs.{pairIn, pairFields}
 
 -- h is g or a group below it
 pub data Within (s : Sheet) : ℕ → ℕ → Type 0 where

@@ -1,5 +1,5 @@
-pub mod Held
 pub mod Tables
 pub mod Links
 pub mod Pairs
 pub mod Done
+pub mod Fitting

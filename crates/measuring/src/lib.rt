@@ -1,7 +1,7 @@
-// Measuring: the intervals of every group from the leaves up, with the intervals of its later brothers joined.
-// `spans` has the arithmetic of intervals, `pairs` their table, `links` the sons of a group as a chain, `measure` the
-// recursion over the tree.
+// Measuring: the intervals of every group from the leaves up, with those of its later brothers joined, and whether some sets fit.
+// `links` has the sons of a group as a chain, `pairs` the table of intervals, `measure` the recursion over the tree, `fitting` the question
+// (`specs/Fitting`). Document 01, "Ranges" and refusal 8.
+pub mod fitting;
 pub mod links;
 pub mod measure;
 pub mod pairs;
-pub mod spans;

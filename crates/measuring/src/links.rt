@@ -1,10 +1,10 @@
 // The sons of a group as a chain: `last` has the last son of each group, `prev` the brother before each group; 0 for none.
-use reading::tables::GroupNo;
-use reading::tables::parent_of;
+use tables::groups::GroupNo;
+use tables::groups::parent_of;
 ghost use mathlib.Core.Path.{_≡_};
 ghost use Prim.Native.Nat.{_≤_, _<_};
 ghost use lib.ListN.{length};
-ghost use Rattle.reading.specs.SheetIn.{sheetIn, Tabled};
+ghost use Rattle.tables.specs.SheetIn.{sheetIn, Tabled};
 ghost use Rattle.measuring.specs.Links.{linkIn, Linked, Links};
 
 // the group's link in the table; none for the group numbered 0

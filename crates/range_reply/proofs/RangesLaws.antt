@@ -11,11 +11,12 @@ use Rattle.meaning.specs.Arranged.{Arranged}
 use Rattle.sizes.specs.Span.{Span}
 use Rattle.sizes.specs.Ranged.{Ranged}
 use Rattle.sizes.proofs.ArrangedAlike.{arranged-eq}
-use Rattle.reading.specs.SheetIn.{sheetIn}
-use Rattle.reading.proofs.SheetInLaws.{size-in}
-use Rattle.runs.specs.Told.{numberIn}
-use Rattle.ranging.specs.Tables.{leastIn, greatestIn, spanIn}
-use Rattle.ranging.specs.Narrowed.{Measures}
+use Rattle.tables.specs.SheetIn.{sheetIn}
+use Rattle.tables.specs.Numbers.{numberIn}
+use Rattle.tables.proofs.SheetInLaws.{size-in}
+use Rattle.measuring.specs.Pairs.{leastIn, greatestIn}
+use Rattle.measuring.specs.Fitting.{Measures}
+use Rattle.ranging.specs.Table.{spanIn}
 use Rattle.ranging.proofs.Said.{range-said, bounds-said, arrangement-fits}
 use Rattle.replies.specs.Wrote.{Wrote}
 use Rattle.replies.specs.Written.{RangeAt, RangesPut}

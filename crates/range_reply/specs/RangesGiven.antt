@@ -3,8 +3,8 @@ use Prim.Native.Nat.{ℕ, _*_, _≤_}
 use mathlib.Core.List.{List}
 use lib.ListN.{length}
 use Rattle.wire.specs.Limits.{rangeBytes}
-use Rattle.reading.specs.SheetIn.{sheetIn}
-use Rattle.ranging.specs.Sized.{Arrangeable}
+use Rattle.tables.specs.SheetIn.{sheetIn}
+use Rattle.measuring.specs.Fitting.{Arrangeable}
 use Rattle.replies.specs.Wrote.{Wrote}
 use Rattle.range_reply.specs.RangesReply.{RangesIn}
 

@@ -1,19 +1,19 @@
 // The reply to `sheet_ranges` under a sheet that was read: ranges with an arrangement, or a refusal.
 // `specs/RangesReply` writes the operation down, `specs/Planning` what planners read off its reply (document 02, card 13).
 // Document 01, "Ranges", "The arrangement", "Replies", refusals 8 and 14.
+use measuring::fitting::measure;
 use measuring::pairs::PAIR_TABLE;
 use ranging::arrange::arrange;
-use ranging::fitting::measure;
 use ranging::narrow::narrow;
-use ranging::tables::SPAN_TABLE;
-use reading::tables::GROUP_CAPACITY;
+use ranging::table::SPAN_TABLE;
 use replies::RANGE_BYTES;
 use replies::pairs::pack;
 use replies::put_ranges;
-ghost use Rattle.reading.specs.SheetIn.{sheetIn, Tabled};
+use tables::limits::GROUP_CAPACITY;
+ghost use Rattle.tables.specs.SheetIn.{sheetIn, Tabled};
 ghost use Rattle.replies.specs.Reply.{call};
-ghost use Rattle.range_reply.specs.RangesReply.{Ranges};
 ghost use Rattle.range_reply.specs.RangesGiven.{RangesReady, RangesWritten};
+ghost use Rattle.range_reply.specs.RangesReply.{Ranges};
 
 // The ranges and the arrangement of a possible sheet, into a buffer with room for them.
 fn put(groups: &[u16], size: u16, spans: &[u32], after: &[u32], reply: &mut [u8])

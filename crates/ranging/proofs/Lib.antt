@@ -1,6 +1,5 @@
 pub mod PullLaws
-pub mod TablesLaws
+pub mod TableLaws
 pub mod NarrowedLaws
 pub mod SizedLaws
 pub mod Said
-pub mod FittingLaws

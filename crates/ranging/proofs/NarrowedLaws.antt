@@ -3,27 +3,25 @@ use Prim.Native.Nat.{ℕ, suc, _≤_, _-_, zero, _<_}
 use mathlib.Core.Path.{_≡_, refl, sym, ap, _∙_}
 use mathlib.Core.Bool.{Bool, false}
 use mathlib.Core.List.{List}
-use mathlib.Core.Logic.{_↔_}
 use native.Mathlib.Omega.{arith}
 use native.Mathlib.Nat.{le-refl}
-use Rattle.laws.proofs.Cases.{compare-eq, compare-le}
+use Rattle.laws.proofs.Cases.{compare-eq}
 use Rattle.meaning.specs.Sheet.{Sheet, Group, Son}
 use Rattle.meaning.specs.Tree.{Tree, Rooted}
-use Rattle.meaning.specs.Fits.{Possible}
 use Rattle.meaning.proofs.SonLaws.{no-son-before, son-is, son-parent, one-parent}
-use Rattle.sizes.specs.Span.{Span, meet, pull, Kind, none}
-use Rattle.sizes.specs.Fold.{joinKind, later, Measured}
-use Rattle.sizes.specs.Ranged.{held, sonRange, Ranged, free}
+use Rattle.sizes.specs.Span.{Span, meet, pull, Kind}
+use Rattle.sizes.specs.Fold.{joinKind, later}
+use Rattle.sizes.specs.Ranged.{held, sonRange, Ranged}
 use Rattle.sizes.proofs.RangedExists.{held-eq}
-use Rattle.sizes.proofs.RangeExact.{held-son, held-skip, possible-sets}
-use Rattle.reading.specs.Tables.{groupIn}
-use Rattle.reading.specs.SheetIn.{sheetIn, Tabled}
-use Rattle.measuring.specs.Held.{modeKind, spanOf}
+use Rattle.sizes.proofs.RangeExact.{held-son, held-skip}
+use Rattle.tables.specs.Groups.{groupIn}
+use Rattle.tables.specs.SheetIn.{sheetIn, Tabled}
+use Rattle.spans.specs.Held.{modeKind}
 use Rattle.measuring.specs.Pairs.{pairIn}
-use Rattle.measuring.proofs.HeldLaws.{none-of, some-of}
+use Rattle.measuring.specs.Fitting.{Measures}
 use Rattle.measuring.proofs.TablesLaws.{kind-in}
-use Rattle.ranging.specs.Tables.{SpanPut, spanIn}
-use Rattle.ranging.specs.Narrowed.{Turned, Measures}
+use Rattle.ranging.specs.Table.{SpanPut, spanIn}
+use Rattle.ranging.specs.Narrowed.{Turned}
 
 -- the groups up to i have their ranges R, and T is what the sons after i must make up
 pub record Narrowed (s : Sheet) (z : ℕ → Bool → Span) (R T : ℕ → Span) (i : ℕ) : Type 0 where
@@ -118,19 +116,3 @@ narrow-step {groups} {n = n} k (suc i) p j f own others whole x range y left tur
       last = turn .last ∙ left ∙ rw (y, mine, late, whole, kind, f);
       rest = turn .kept;
     })
-
--- a span of two numbers is not empty where the first does not pass the second
-pub some-iff : (l m : ℕ) → (l ≤ m) ↔ (spanOf l m ≡ none → ⊥)
-some-iff l m = (
-  λ h e. let s = some-of h in
-      let z : _≡_ {A = ℕ} 0 1 = cc in
-      omega arith,
-  λ n. compare-le l m (λ h. h) (λ h. absurd (n (none-of h))),
-)
-
--- the root's span tells whether some sets fit
-pub possible-told : {s : Sheet} {z : ℕ → Bool → Span} → Tree s → Rooted s → Measured s free z → (a : Span) → a ≡ z 1 false
-    → (a ≡ none → ⊥) ↔ Possible s
-possible-told t r m a e =
-    let w = possible-sets t r m in
-    (λ n. w .1 (λ o. n (e ∙ o)), λ k o. w .0 k (sym e ∙ o))

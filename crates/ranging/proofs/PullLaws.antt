@@ -8,8 +8,8 @@ use Rattle.laws.proofs.Cases.{compare-eq}
 use Rattle.wire.specs.Limits.{noGreatest}
 use Rattle.meaning.specs.Sheet.{Top, fin, inf}
 use Rattle.sizes.specs.Span.{shorter, reaches, Span, none, Kind, pull, span, lap, add, eq, meet}
-use Rattle.measuring.specs.Held.{topOf, spanOf}
-use Rattle.measuring.proofs.HeldLaws.{top-end, top-fin, less-top, make-of, some-of}
+use Rattle.spans.specs.Held.{topOf, spanOf}
+use Rattle.spans.proofs.HeldLaws.{top-end, top-fin, less-top, make-of, some-of}
 use Rattle.ranging.specs.Pull.{pullBy}
 
 -- an upper end less a number, and whether a number reaches it

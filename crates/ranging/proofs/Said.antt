@@ -1,7 +1,6 @@
 -- What the tables say in the words of the meaning: which counts a group can have, the bottom-up bounds, sets that fit.
 use Prim.Native.Nat.{ℕ, _+_, _-_, _*_, _≤_}
-use mathlib.Core.Path.{_≡_, _∙_}
-use mathlib.Core.Bool.{Bool, false, true}
+use mathlib.Core.Bool.{Bool}
 use mathlib.Core.List.{List}
 use mathlib.Core.Logic.{_↔_}
 use lib.ListN.{getD}
@@ -12,33 +11,19 @@ use Rattle.meaning.specs.Shown.{shown, above}
 use Rattle.meaning.specs.Part.{BottomUp}
 use Rattle.meaning.specs.Arranged.{Arranged}
 use Rattle.sizes.specs.Span.{Span}
-use Rattle.sizes.specs.Fold.{own, Measured}
+use Rattle.sizes.specs.Fold.{Measured}
 use Rattle.sizes.specs.Ranged.{free, Ranged}
 use Rattle.sizes.proofs.Possible.{possible, nowhere}
 use Rattle.sizes.proofs.RangeExact.{range-attains, range-ends}
 use Rattle.sizes.proofs.ArrangedFits.{arranged-fits}
 use Rattle.sizes.proofs.Part.{bottom-up}
-use Rattle.reading.specs.SheetIn.{sheetIn}
-use Rattle.reading.proofs.SheetInLaws.{none-above}
-use Rattle.measuring.specs.Held.{topOf}
-use Rattle.measuring.specs.Done.{AllDone}
-use Rattle.ranging.specs.Tables.{spanFields, spanIn, leastIn, greatestIn}
-use Rattle.ranging.specs.Narrowed.{Measures}
-use Rattle.ranging.specs.Sized.{Arrangeable}
+use Rattle.tables.specs.SheetIn.{sheetIn}
+use Rattle.tables.proofs.SheetInLaws.{none-above}
+use Rattle.spans.specs.Held.{topOf}
+use Rattle.measuring.specs.Pairs.{leastIn, greatestIn}
+use Rattle.measuring.specs.Fitting.{Arrangeable}
+use Rattle.ranging.specs.Table.{spanFields, spanIn}
 use Rattle.ranging.proofs.SizedLaws.{span-of-ends, span-told}
-
--- what measuring leaves
-pub measures-done : {s : Sheet} {z : ℕ → Bool → Span} {spans after : List ℕ} → AllDone s z spans after → Measures s z spans after
-measures-done w = record {
-  spanned = λ g q. w .spanned g q false;
-  followed = λ p g k. rw (k .under) at (w .followed p g k false);
-}
-
--- flags that forbid nothing
-pub measured-free : {s : Sheet} {may : ℕ → Bool → Bool} {z : ℕ → Bool → Span}
-    → ((g : ℕ) → Group s g → (c : Bool) → may g c ≡ true) → Measured s may z → Measured s free z
-unfolding own
-measured-free f m = record { at = λ p q c. m .at p q c ∙ rw (f p q c) }
 
 -- the two numbers of group g in the table of ranges: k is from the first to the second exactly when some sets fit and give
 -- group g k members

@@ -25,18 +25,19 @@ use Rattle.sizes.proofs.BoundsLaws.{weight-least}
 use Rattle.sizes.proofs.RangeExact.{span-has-ends}
 use Rattle.sizes.proofs.ArrangedFits.{arranged-sizes, arranged-exists}
 use Rattle.sizes.proofs.ArrangedAlike.{arranged-eq}
-use Rattle.reading.specs.Tables.{groupIn}
-use Rattle.reading.specs.Modes.{disjointMode, coverMode, sameMode}
-use Rattle.reading.specs.SheetIn.{sheetIn, sizeLimit}
-use Rattle.reading.proofs.SheetInLaws.{disjoint-in, cover-in, same-in}
-use Rattle.measuring.specs.Held.{topOf, spanOf}
-use Rattle.measuring.specs.Pairs.{pairIn}
-use Rattle.measuring.proofs.HeldLaws.{none-of, some-of}
+use Rattle.tables.specs.Groups.{groupIn}
+use Rattle.tables.specs.Modes.{disjointMode, coverMode, sameMode}
+use Rattle.tables.specs.SheetIn.{sheetIn, sizeLimit}
+use Rattle.tables.specs.Numbers.{numberIn}
+use Rattle.tables.proofs.SheetInLaws.{disjoint-in, cover-in, same-in}
+use Rattle.tables.proofs.NumbersLaws.{number-same, number-other}
+use Rattle.spans.specs.Held.{topOf, spanOf}
+use Rattle.spans.proofs.HeldLaws.{none-of, some-of}
+use Rattle.measuring.specs.Pairs.{pairIn, leastIn, greatestIn}
+use Rattle.measuring.specs.Fitting.{Arrangeable}
 use Rattle.measuring.proofs.DoneLaws.{room-span}
-use Rattle.runs.specs.Told.{numberIn, Told, Placeable}
-use Rattle.runs.proofs.ToldLaws.{number-same, number-other}
-use Rattle.ranging.specs.Tables.{leastIn, greatestIn}
-use Rattle.ranging.specs.Sized.{Arrangeable, sizeBy, Sizing}
+use Rattle.runs.specs.Told.{Told, Placeable}
+use Rattle.ranging.specs.Sized.{sizeBy, Sizing}
 
 -- the lower end of a span of two numbers
 pub span-of-ends : (a b l : ℕ) (u : Top) → spanOf a b ≡ span l u → spanOf a b ≡ span a (topOf b)

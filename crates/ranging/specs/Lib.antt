@@ -1,5 +1,4 @@
 pub mod Pull
-pub mod Tables
+pub mod Table
 pub mod Narrowed
 pub mod Sized
-pub mod Fitting

@@ -5,24 +5,8 @@ use mathlib.Core.Path.{_≡_}
 use mathlib.Core.Bool.{Bool, cond}
 use mathlib.Core.List.{List}
 use Rattle.meaning.specs.Sheet.{Top}
-use Rattle.meaning.specs.Fits.{Possible}
 use Rattle.meaning.specs.Arranged.{cap}
-use Rattle.sizes.specs.Span.{Span}
-use Rattle.sizes.specs.Fold.{Measured}
-use Rattle.sizes.specs.Ranged.{free}
-use Rattle.reading.specs.SheetIn.{sheetIn, Tabled}
-use Rattle.measuring.specs.Done.{Lent}
-use Rattle.runs.specs.Told.{numberIn}
-use Rattle.ranging.specs.Narrowed.{Measures}
-
--- The tables from which the arrangement is taken: measured with every flag free, and some sets fit.
-pub record Arrangeable (groups : List ℕ) (n : ℕ) (spans after : List ℕ) : Type 0 where
-  pub tabled : Tabled groups n
-  pub lent : Lent n spans after
-  pub z : ℕ → Bool → Span
-  pub measured : Measured (sheetIn groups n) free z
-  pub measures : Measures (sheetIn groups n) z spans after
-  pub fit : Possible (sheetIn groups n)
+use Rattle.tables.specs.Numbers.{numberIn}
 
 -- The size of a son with the bounds l and u, by its parent's modes ('same', 'disjoint', 'cover') and count w; r is what the
 -- parent has left.

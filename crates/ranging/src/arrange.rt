@@ -1,26 +1,26 @@
 // The arrangement: sizes from the root down, group after group, then the starts of the runs. `left` has with each group
 // what its sons so far have left of it.
-use crate::tables::out_at;
-use measuring::spans::Span;
-use measuring::spans::minus;
-use measuring::spans::smaller;
-use reading::tables::GroupNo;
-use reading::tables::mode_of;
-use runs::place::parent_group;
-use runs::place::place_runs;
+use measuring::pairs::out_at;
+use runs::starts::place_runs;
+use spans::span::Span;
+use spans::span::minus;
+use spans::span::smaller;
+use tables::groups::GroupNo;
+use tables::groups::mode_of;
+use tables::groups::parent_group;
 ghost use mathlib.Core.Path.{_≡_};
-ghost use Prim.Native.Nat.{ℕ, _+_, _-_, _*_, _≤_, _<_};
+ghost use Prim.Native.Nat.{_-_, _*_, _≤_, _<_, ℕ};
 ghost use lib.ListN.{length};
-ghost use Rattle.meaning.specs.Sheet.{Group};
-ghost use Rattle.reading.specs.Modes.{disjointMode, coverMode, sameMode};
 ghost use Rattle.meaning.specs.Arranged.{Arranged};
-ghost use Rattle.reading.specs.Tables.{groupFields, groupIn};
-ghost use Rattle.reading.specs.SheetIn.{sheetIn};
-ghost use Rattle.measuring.specs.Held.{topOf};
-ghost use Rattle.measuring.specs.Pairs.{pairFields};
-ghost use Rattle.runs.specs.Told.{numberIn};
-ghost use Rattle.ranging.specs.Tables.{leastIn, greatestIn};
-ghost use Rattle.ranging.specs.Sized.{sizeBy, Arrangeable, Sizing};
+ghost use Rattle.meaning.specs.Sheet.{Group};
+ghost use Rattle.tables.specs.Groups.{groupFields, groupIn};
+ghost use Rattle.tables.specs.Modes.{disjointMode, coverMode, sameMode};
+ghost use Rattle.tables.specs.Numbers.{numberIn};
+ghost use Rattle.tables.specs.SheetIn.{sheetIn};
+ghost use Rattle.spans.specs.Held.{topOf};
+ghost use Rattle.measuring.specs.Fitting.{Arrangeable};
+ghost use Rattle.measuring.specs.Pairs.{pairFields, leastIn, greatestIn};
+ghost use Rattle.ranging.specs.Sized.{sizeBy, Sizing};
 
 // The size of a son under a group of this mode with `whole` members, of which `rest` are left for it. Where 'same' with
 // 'disjoint' has two or more sons the group itself is empty, so no case of its own is needed.

@@ -1,9 +1,7 @@
-// Ranges and the arrangement: document 01, "Ranges" and "The arrangement".
-// Ranges and sizes of the groups, from the intervals that measuring leaves: `pull` takes one son's part out of a total,
-// `tables` reaches the tables of intervals, `narrow` goes from the root down for the ranges, `arrange` for the arrangement;
-// `fitting` says whether some sets fit.
+// Ranges and the arrangement, from the intervals that measuring leaves: document 01, "Ranges" and "The arrangement".
+// `pull` takes one son's part out of a total, `table` reaches the table of ranges, `narrow` (`specs/Narrowed`) goes from the root down for
+// the ranges, `arrange` (`specs/Sized`) for the arrangement.
 pub mod arrange;
-pub mod fitting;
 pub mod narrow;
 pub mod pull;
-pub mod tables;
+pub mod table;

@@ -1,42 +1,26 @@
 // The ranges, from the root down, group after group. `ranges` gets two numbers for each group, its least and its greatest
 // count; `rest` has two for each group, what its sons not yet taken must make up.
 use crate::pull::pull;
-use crate::tables::out_at;
-use crate::tables::put_span;
-use crate::tables::span_at;
-use measuring::spans::Span;
-use measuring::spans::kind_of;
-use measuring::spans::meet;
-use reading::tables::GroupNo;
-use reading::tables::mode_of;
-use runs::place::parent_group;
-ghost use mathlib.Core.Path.{_≡_};
-ghost use mathlib.Core.Bool.{Bool, true, false};
-ghost use mathlib.Core.Logic.{_↔_};
-ghost use Prim.Native.Nat.{ℕ, _-_, _*_, _≤_, _<_};
+use crate::table::put_span;
+use crate::table::span_at;
+use measuring::pairs::out_at;
+use spans::kind::kind_of;
+use spans::span::Span;
+use spans::span::meet;
+use tables::groups::GroupNo;
+use tables::groups::mode_of;
+use tables::groups::parent_group;
+ghost use Prim.Native.Nat.{_*_, _≤_, _<_, ℕ};
 ghost use lib.ListN.{length};
-ghost use Rattle.meaning.specs.Sheet.{Sheet};
-ghost use Rattle.meaning.specs.Tree.{Tree, Rooted};
-ghost use Rattle.meaning.specs.Fits.{Possible};
-ghost use Rattle.reading.specs.SheetIn.{sheetIn, Tabled};
-ghost use Rattle.sizes.specs.Span as sizes;
-ghost use Rattle.sizes.specs.Fold.{Measured};
-ghost use Rattle.sizes.specs.Ranged.{free, Ranged};
-ghost use Rattle.measuring.specs.Held.{spanHeld};
-ghost use Rattle.measuring.specs.Pairs.{pairFields, pairIn};
+ghost use mathlib.Core.Bool.{Bool};
+ghost use Rattle.sizes.specs.Ranged.{Ranged};
+ghost use Rattle.tables.specs.SheetIn.{sheetIn, Tabled};
+ghost use Rattle.spans.specs.Held.{spanHeld};
 ghost use Rattle.measuring.specs.Done.{Lent};
-ghost use Rattle.ranging.specs.Tables.{spanFields, spanIn};
-ghost use Rattle.ranging.specs.Narrowed.{Measures, Turned};
-
-// whether the root's interval, as measured, has a number: whether some sets fit
-pub fn possible(spans: &[u32]) -> bool
-    requires { ⌜ pairFields ≤ length (now spans) ⌝ }
-    ensures { λ r. ⌜ ((s : Sheet) (z : ℕ → Bool → sizes.Span) → Tree s → Rooted s → Measured s free z
-        → pairIn (now (spans .entry)) 1 false ≡ z 1 false → (r ≡ true) ↔ Possible s) ⌝ }
-{
-    let root = out_at(spans, GroupNo(1));
-    root.least <= root.most
-}
+ghost use Rattle.measuring.specs.Fitting.{Measures};
+ghost use Rattle.ranging.specs.Narrowed.{Turned};
+ghost use Rattle.ranging.specs.Table.{spanFields, spanIn};
+ghost use Rattle.sizes.specs.Span as sizes;
 
 // The range of g, a son of p, and what the sons of p after g must make up.
 fn put_turn(ranges: &mut [u32], rest: &mut [u32], g: GroupNo, p: GroupNo, range: Span, left: Span)

@@ -1,15 +1,15 @@
 // What a son may have where its parent's total and the other sons are known.
-use measuring::spans::Kind;
-use measuring::spans::NO_GREATEST;
-use measuring::spans::Span;
-use measuring::spans::meet;
-use measuring::spans::minus;
-use measuring::spans::nothing;
+use spans::kind::Kind;
+use spans::span::NO_GREATEST;
+use spans::span::Span;
+use spans::span::meet;
+use spans::span::minus;
+use spans::span::nothing;
 ghost use mathlib.Core.Path.{_≡_};
 ghost use Prim.Native.Nat.{_≤_};
-ghost use Rattle.sizes.specs.Span as sizes;
-ghost use Rattle.measuring.specs.Held.{topOf, spanHeld, kindHeld};
+ghost use Rattle.spans.specs.Held.{topOf, spanHeld, kindHeld};
 ghost use Rattle.ranging.specs.Pull.{pullBy};
+ghost use Rattle.sizes.specs.Span as sizes;
 
 // the upper end u less a
 fn shorter(u: u32, a: u32) -> u32

@@ -1,12 +1,4 @@
-pub mod TablesLaws
-pub mod SheetInLaws
-pub mod ClaimTableLaws
 pub mod LoadedLaws
-pub mod Fields
-pub mod ListKinds
-pub mod Strings
-pub mod Hashes
-pub mod Carried
-pub mod Taken
 pub mod Many
 pub mod Stages
+pub mod TabledLaws

@@ -1,25 +1,14 @@
 -- Laws of what loading gives: records at their places, and each of the two answers.
-use Prim.Native.Nat.{ℕ, _<_}
+use Prim.Native.Nat.{ℕ}
 use mathlib.Core.Path.{_≡_, sym}
 use mathlib.Core.List.{List}
-use lib.ListN.{length, getD, drop}
-use Rattle.reading.specs.declared.records.Head.{Head}
 use Rattle.reading.specs.declared.load.Loaded.{Loaded}
-use Rattle.laws.proofs.TabulateLaws.{length-tabulate, getD-tabulate}
+use Rattle.records.specs.declared.record.Head.{Head}
 use Rattle.wire.specs.Record.{Reading, read, refused}
 use Rattle.wire.specs.SheetFormat.{Records}
-use Rattle.reading.specs.Answers.{headRecord}
-use Rattle.reading.specs.Loaded.{recordsIn, goesOn, loadedAs, recordsOf, Held, Loads}
+use Rattle.records.specs.Answers.{headRecord}
+use Rattle.reading.specs.Loaded.{goesOn, loadedAs, recordsOf, Held, Loads}
 use Rattle.reading.specs.declared.load.Loaded.the-variants as loaded
-
-module _ {A : Type 0} (value : List ℕ → A) (s places : List ℕ) (n : ℕ) where
-  pub length-recordsIn : length (recordsIn value s places n) ≡ n
-  unfolding recordsIn
-  length-recordsIn = length-tabulate (λ i. value (drop (getD places i 0) s)) n
-
-  pub getD-recordsIn : (i : ℕ) (d : A) → i < n → getD (recordsIn value s places n) i d ≡ value (drop (getD places i 0) s)
-  unfolding recordsIn
-  getD-recordsIn i d l = getD-tabulate (λ i. value (drop (getD places i 0) s)) n i d l
 
 -- what that says for each of the two answers
 module _ {r : Loaded} {whole : Reading Records} {s groups names labels claims places : List ℕ}

@@ -11,10 +11,10 @@ use borrow.Author.Tests.{ne-eqb}
 use lib.ListN.{drop, length, getD, set, length-set}
 use lib.Seq.{drop-drop, getD-set-same, getD-set-other, sets}
 use Rattle.reading.specs.declared.load.Passed.the-variants.{To, Refused}
-use Rattle.reading.specs.declared.claim.Claim.{Claim}
-use Rattle.reading.specs.declared.records.Group.{Group}
-use Rattle.reading.specs.declared.records.Name.{Name}
-use Rattle.reading.specs.declared.records.Record.{Record}
+use Rattle.claim_records.specs.declared.claim.Claim.{Claim}
+use Rattle.records.specs.declared.record.Group.{Group}
+use Rattle.records.specs.declared.record.Record.{Record}
+use Rattle.records.specs.declared.record.Name.{Name}
 use Rattle.laws.specs.Tabulate.{tabulate}
 use Rattle.laws.proofs.TabulateLaws.{tabulate-same}
 use Rattle.wire.specs.Edition.{Edition}
@@ -24,17 +24,20 @@ use Rattle.wire.specs.SheetFormat.{Records, readMany, nameOf, GroupRecord, list
 use Rattle.wire.specs.SheetFormat.{claimTests}
 use Rattle.wire.specs.Encoding.{encodeClaim}
 use Rattle.wire.proofs.Passing.{never-read}
-use Rattle.reading.specs.Tables.{groupsIn}
-use Rattle.reading.specs.ClaimHeld.{listAs, claimRecord, ClaimHeld}
-use Rattle.reading.specs.ClaimTable.{claimNumbers, claimPlace, claimIn, ClaimRoom, claimsIn, ClaimPut}
-use Rattle.reading.specs.Answers.{group, name, WholeName, claim}
-use Rattle.reading.specs.Loaded.{goesOn, passedAs, Goes, recordsIn, AllGrouped, AllHeld}
-use Rattle.reading.specs.LabelHash.{Seen, AllSeen}
-use Rattle.reading.proofs.Fields.{length-at, name-apart, group-whole}
-use Rattle.reading.proofs.ListKinds.{list-back, list-not-count}
-use Rattle.reading.proofs.Carried.{Handed, group-same, name-same, claim-same, claim-bytes}
-use Rattle.reading.specs.declared.claim.Claim.the-variants as claim-of
-use Rattle.reading.specs.declared.records.Record.the-variants as record-of
+use Rattle.wire.proofs.Fields.{length-at}
+use Rattle.tables.specs.Groups.{groupsIn}
+use Rattle.tables.specs.RecordsIn.{recordsIn}
+use Rattle.labels.specs.WholeName.{WholeName}
+use Rattle.labels.specs.LabelHash.{Seen, AllSeen}
+use Rattle.claim_records.specs.ClaimHeld.{listAs, claimRecord, ClaimHeld}
+use Rattle.claim_records.specs.ClaimTable.{claimNumbers, claimPlace, claimIn, ClaimRoom, claimsIn, ClaimPut}
+use Rattle.claim_records.proofs.ListKinds.{list-back, list-not-count}
+use Rattle.records.specs.Answers.{group, name, claim}
+use Rattle.records.proofs.Fields.{name-apart, group-whole}
+use Rattle.records.proofs.Carried.{Handed, group-same, name-same, claim-same, claim-bytes}
+use Rattle.reading.specs.Loaded.{goesOn, passedAs, Goes, AllGrouped, AllHeld}
+use Rattle.claim_records.specs.declared.claim.Claim.the-variants as claim-of
+use Rattle.records.specs.declared.record.Record.the-variants as record-of
 
 -- i of the records are the list xs, and reading what is left from the place `at` on is reading the whole
 pub record Left {A : Type 0} (tests : List A → List ℕ → List Test) (value : List ℕ → A) (s : List ℕ) (from count first i at : ℕ)

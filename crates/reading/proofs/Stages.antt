@@ -8,8 +8,8 @@ use lib.ListN.{drop, length, length-drop, getD}
 use Rattle.reading.specs.declared.load.Passed.{Passed}
 use Rattle.reading.specs.declared.load.Passed.the-variants.{To, Refused}
 use Rattle.reading.specs.declared.load.Loaded.{Loaded}
-use Rattle.reading.specs.declared.records.Head.{Head}
-use Rattle.reading.specs.declared.records.Record.{Record}
+use Rattle.records.specs.declared.record.Head.{Head}
+use Rattle.records.specs.declared.record.Record.{Record}
 use Rattle.wire.specs.Edition.{Edition, editionOf}
 use Rattle.wire.specs.Bytes.{u16At}
 use Rattle.wire.specs.Record.{refusal, read, refused, onward, Reading, after}
@@ -19,12 +19,13 @@ use Rattle.wire.proofs.EditionFacts.{groups-within}
 use Rattle.wire.proofs.Passing.{never-read, passed}
 use Rattle.wire.proofs.Sorts.{HeadRight, head-nonzero, head-right}
 use Rattle.meaning.specs.OfRecords.{nameGroup}
-use Rattle.reading.specs.ClaimTable.{claimsIn}
-use Rattle.reading.specs.Answers.{headRecord, head}
-use Rattle.reading.specs.Loaded.{goesOn, passedAs, Goes, recordsIn, NamesGo, ClaimsGo, loadedAs, Loads, AllGrouped, HeadLimits}
-use Rattle.reading.proofs.LoadedLaws.{getD-recordsIn}
-use Rattle.reading.proofs.Carried.{Handed, head-same}
-use Rattle.reading.specs.declared.records.Record.the-variants as record-of
+use Rattle.tables.specs.RecordsIn.{recordsIn}
+use Rattle.tables.proofs.RecordsInLaws.{getD-recordsIn}
+use Rattle.claim_records.specs.ClaimTable.{claimsIn}
+use Rattle.records.specs.Answers.{headRecord, head}
+use Rattle.records.proofs.Carried.{Handed, head-same}
+use Rattle.reading.specs.Loaded.{goesOn, passedAs, Goes, NamesGo, ClaimsGo, loadedAs, Loads, AllGrouped, HeadLimits}
+use Rattle.records.specs.declared.record.Record.the-variants as record-of
 
 pub group-stage : (h : HeadRecord) (s : List ℕ) (from : ℕ) (p : Passed) (gs : List GroupRecord) →
     Goes groupTests groupOf s from (h .groups) 2 p gs →

@@ -5,23 +5,19 @@ use mathlib.Core.List.{List, []}
 use lib.ListN.{getD, drop, length}
 use Rattle.reading.specs.declared.load.Passed.{Passed}
 use Rattle.reading.specs.declared.load.Loaded.{Loaded}
-use Rattle.laws.specs.Tabulate.{tabulate}
 use Rattle.wire.specs.Limits.{nameLimit, claimLimit}
 use Rattle.wire.specs.Edition.{Edition}
 use Rattle.wire.specs.Capacity.{groupCapacity}
 use Rattle.wire.specs.Record.{Reading, read, refused, Test}
 use Rattle.wire.specs.SheetFormat.{HeadRecord, nameOf, Records, readMany, nameTests, claimOf, claimTests}
 use Rattle.meaning.specs.OfRecords.{nameGroup}
-use Rattle.reading.specs.Tables.{groupFields, groupsIn}
-use Rattle.reading.specs.ClaimHeld.{ClaimHeld}
-use Rattle.reading.specs.ClaimTable.{claimIn, claimsIn, claimSlots}
-use Rattle.reading.specs.Answers.{headRecord}
+use Rattle.tables.specs.Groups.{groupFields, groupsIn}
+use Rattle.tables.specs.RecordsIn.{recordsIn}
+use Rattle.claim_records.specs.ClaimHeld.{ClaimHeld}
+use Rattle.claim_records.specs.ClaimTable.{claimIn, claimsIn, claimSlots}
+use Rattle.records.specs.Answers.{headRecord}
 use Rattle.reading.specs.declared.load.Passed.the-variants as passed
 use Rattle.reading.specs.declared.load.Loaded.the-variants as loaded
-
--- the first n records of one sort, which stand at these places of the bytes s
-unfoldable pub recordsIn : {A : Type 0} → (List ℕ → A) → List ℕ → List ℕ → ℕ → List A
-recordsIn value s places n = tabulate (λ i. value (drop (getD places i 0) s)) n
 
 -- reading goes on with the value, or stops at the refusal
 unfoldable pub goesOn : {A B : Type 0} → Reading A → (A → Reading B) → Reading B

@@ -1,9 +1,4 @@
-// Reading: the records of a sheet into fixed tables, each to an end or to a refusal.
-// Contracts are equations with the format of `wire`; `specs/Tables.antt` and `specs/ClaimTable.antt` say what the tables hold.
-// Group tables are reached by a group's number, name tables by a name's number.
-pub mod claim;
-pub mod claims;
-pub mod labels;
+// Reading a sheet: all of its records into lent tables, to an end or to a refusal (1 to 7).
+// `load` goes through groups, names and claims; `specs/Loaded` says what the tables then hold, as the format of `wire` reads it.
+// Document 01, "Records of a sheet" and "Turned back, in checking order".
 pub mod load;
-pub mod records;
-pub mod tables;

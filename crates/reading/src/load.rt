@@ -1,36 +1,36 @@
 // A sheet into lent tables: its groups, names and claims one after another, to the end or to the first refusal.
-use crate::claim::claim_bytes;
-use crate::claim::put_claim;
-use crate::labels;
-use crate::records::Answer;
-use crate::records::Head;
-use crate::records::Record;
-use crate::records::read_claim;
-use crate::records::read_group;
-use crate::records::read_head;
-use crate::records::read_name;
-use crate::records::refusal_of;
-use crate::tables::CLAIM_TABLE;
-use crate::tables::GROUP_FIELDS;
-use crate::tables::GroupNo;
-use crate::tables::LABEL_HASHES;
-use crate::tables::LABEL_TABLE;
-use crate::tables::NAME_TABLE;
-use crate::tables::PLACE_TABLE;
-use crate::tables::number_meant;
-use crate::tables::put_four;
+use claim_records::claim::claim_bytes;
+use claim_records::claim::put_claim;
+use labels::used::LABEL_HASHES;
+use labels::used::used_label;
+use records::read::read_claim;
+use records::read::read_group;
+use records::read::read_head;
+use records::read::read_name;
+use records::record::Answer;
+use records::record::Head;
+use records::record::Record;
+use records::record::refusal_of;
+use tables::groups::GroupNo;
+use tables::groups::put_four;
+use tables::limits::CLAIM_TABLE;
+use tables::limits::GROUP_FIELDS;
+use tables::limits::LABEL_TABLE;
+use tables::limits::NAME_TABLE;
+use tables::limits::PLACE_TABLE;
+use tables::names::number_meant;
 ghost use mathlib.Core.Path.{_≡_};
 ghost use Prim.Native.Nat.{_+_, _*_, _≤_};
 ghost use lib.ListN.{length, drop};
-ghost use Rattle.wire.specs.Record.{refused};
-ghost use Rattle.wire.specs.Limits.{nameLimit, claimLimit};
 ghost use Rattle.wire.specs.Capacity.{groupCapacity};
 ghost use Rattle.wire.specs.Edition.{editionOf};
+ghost use Rattle.wire.specs.Limits.{nameLimit, claimLimit};
+ghost use Rattle.wire.specs.Record.{refused};
 ghost use Rattle.wire.specs.SheetFormat.{groupOf, groupTests, readGroups, readSheet};
-ghost use Rattle.reading.specs.Tables.{groupFields, groupsIn};
-ghost use Rattle.reading.specs.ClaimTable.{claimSlots};
-ghost use Rattle.reading.specs.Answers.{headRecord};
-ghost use Rattle.reading.specs.Loaded.{goesOn, passedAs, loadedAs, Goes, NamesGo, ClaimsGo, Loads, LoadsTree, Capacity, HeadLimits};
+ghost use Rattle.tables.specs.Groups.{groupFields, groupsIn};
+ghost use Rattle.claim_records.specs.ClaimTable.{claimSlots};
+ghost use Rattle.records.specs.Answers.{headRecord};
+ghost use Rattle.reading.specs.Loaded.{goesOn, passedAs, loadedAs, Goes, NamesGo, ClaimsGo, Loads, Capacity, HeadLimits, LoadsTree};
 
 // The place after the last of some records, or a refusal's number with the record's number.
 pub enum Passed {
@@ -100,7 +100,7 @@ fn load_names(
         let Record::Name(n) = rec else {
             return Passed::Refused(2, number);
         };
-        if labels::used_label(s, labels, k, at, &mut seen) {
+        if used_label(s, labels, k, at, &mut seen) {
             return Passed::Refused(6, number);
         }
         let means = n.means;

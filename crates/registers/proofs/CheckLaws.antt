@@ -20,12 +20,13 @@ use Rattle.meaning.proofs.ReadableRows.{distinct-of-readable}
 use Rattle.rows.specs.RowsRead.{wordBits, rowsBefore}
 use Rattle.rows.proofs.RowLaws.{rows-most}
 use Rattle.columns.specs.Columns.{columnDigit, ColumnsFilled, columnSets, WordsFor, inColumn}
+use Rattle.columns.specs.Counts.{ColumnsCounted}
 use Rattle.columns.proofs.ColumnLaws.{columns-distinct, bit-column}
-use Rattle.columns.proofs.FillLaws.{members-within}
-use Rattle.registers.specs.Tallies.{ColumnsCounted, Counted}
+use Rattle.columns.proofs.CountLaws.{column-count}
+use Rattle.tiles.proofs.FillLaws.{members-within}
+use Rattle.registers.specs.Tallies.{Counted}
 use Rattle.registers.specs.Checked.{Checked, Tallied, AnswerTo}
 use Rattle.registers.proofs.Agree.{Agree, answered-agree, count-agree}
-use Rattle.registers.proofs.CountLaws.{column-count}
 use Rattle.registers.specs.declared.check.Check.the-variants as check
 
 -- a refused register

@@ -22,8 +22,8 @@ use Rattle.rows.specs.RowsRead.{wordBits}
 use Rattle.columns.specs.Columns.{columnDigit, columnWord, inColumn}
 use Rattle.columns.specs.ColumnSteps.{Cleared}
 use Rattle.columns.proofs.ColumnLaws.{column-le, column-one, one-column}
-use Rattle.registers.specs.SonLists.{SonsListed}
-use Rattle.registers.specs.SonSteps.{SonsReadable, severalSons}
+use Rattle.sons.specs.SonLists.{SonsListed}
+use Rattle.sons.specs.SonSteps.{SonsReadable, severalSons}
 use Rattle.registers.specs.Joins.{ColumnJoined, total, Joined, heldBy}
 
 -- the digits of words that are 0, and of words to which a column is put

@@ -1,8 +1,6 @@
 pub mod Unbroken
 pub mod Agree
 pub mod Settled
-pub mod CountLaws
-pub mod SonLaws
 pub mod WordLaws
 pub mod JoinLaws
 pub mod RuleLaws

@@ -14,14 +14,15 @@ use Rattle.meaning.specs.SonList.{sonList}
 use Rattle.meaning.specs.Sets.{Sets, count}
 use Rattle.meaning.specs.Rule.{Rule, outside, lacking, uncovered, shared, below, above, ruleNumber, Broken}
 use Rattle.meaning.proofs.SonLaws.{son-parent}
-use Rattle.reading.specs.Modes.{disjointMode, coverMode, sameMode}
-use Rattle.reading.specs.SheetIn.{sheetIn, Tabled}
-use Rattle.reading.proofs.SheetInLaws.{group-in, parent-in, lo-in, hi-in, disjoint-in, cover-in, same-in, parent-below}
+use Rattle.tables.specs.Groups.{parentIn, loIn, hiIn, modeIn}
+use Rattle.tables.specs.Modes.{disjointMode, coverMode, sameMode}
+use Rattle.tables.specs.SheetIn.{sheetIn, Tabled}
+use Rattle.tables.proofs.SheetInLaws.{group-in, parent-in, lo-in, hi-in, disjoint-in, cover-in, same-in, parent-below}
 use Rattle.rows.specs.RowsRead.{wordBits}
 use Rattle.columns.specs.Columns.{columnDigit, inColumn, columnSets, WordsFor}
 use Rattle.columns.proofs.ColumnLaws.{bit-column, column-one, one-column}
 use Rattle.registers.specs.Joins.{heldBy, Joined, asksSons}
-use Rattle.registers.specs.RuleTests.{memberBreaks, parentIn, loIn, hiIn, modeIn, mayBreak, countBreaks}
+use Rattle.registers.specs.RuleTests.{memberBreaks, mayBreak, countBreaks}
 use Rattle.registers.proofs.JoinLaws.{none-held, held-none, two-held, held-two}
 
 zero-column : (t : List ℕ) (g i : ℕ) → columnDigit t g i ≡ 0 → inColumn t g i ≡ false

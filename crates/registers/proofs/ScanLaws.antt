@@ -6,22 +6,23 @@ use mathlib.Core.List.{List}
 use native.Mathlib.Omega.{arith}
 use native.Mathlib.Numerals.{add-one}
 use lib.ListN.{getD}
-use Rattle.reading.specs.declared.tables.GroupNo.{GroupNo}
+use Rattle.tables.specs.declared.groups.GroupNo.{GroupNo}
 use Rattle.laws.proofs.Cases.{compare-le, true-not-false, below-suc}
 use Rattle.meaning.specs.Sheet.{Sheet, Group}
 use Rattle.meaning.specs.SonList.{sonList}
 use Rattle.meaning.specs.Sets.{Sets}
 use Rattle.meaning.specs.Rule.{Rule, Broken, ruleNumber}
-use Rattle.reading.specs.SheetIn.{sheetIn, Tabled}
-use Rattle.reading.proofs.SheetInLaws.{size-in, group-in, parent-in}
+use Rattle.tables.specs.Groups.{parentIn, modeIn}
+use Rattle.tables.specs.SheetIn.{sheetIn, Tabled}
+use Rattle.tables.proofs.SheetInLaws.{size-in, group-in, parent-in}
 use Rattle.rows.specs.RowsRead.{wordBits}
 use Rattle.columns.specs.Columns.{columnSets, WordsFor}
 use Rattle.columns.proofs.ColumnLaws.{columns-distinct}
-use Rattle.registers.specs.SonLists.{keptSons}
-use Rattle.registers.specs.SonSteps.{severalSons}
+use Rattle.sons.specs.SonLists.{keptSons}
+use Rattle.sons.specs.SonSteps.{severalSons}
 use Rattle.registers.specs.Joins.{Joined, JoinedFor}
 use Rattle.registers.specs.Tallies.{Gathered}
-use Rattle.registers.specs.RuleTests.{memberBreaks, SomeMember, parentIn, modeIn, mayBreak, countBreaks}
+use Rattle.registers.specs.RuleTests.{memberBreaks, SomeMember, mayBreak, countBreaks}
 use Rattle.registers.specs.Checked.{AnswerTo}
 use Rattle.registers.proofs.Unbroken.{unbroken-fits, fits-answered, broken-answered}
 use Rattle.registers.proofs.JoinLaws.{two-sons}

@@ -1,11 +1,11 @@
 -- The columns of several groups put together, word by word: who is in some of them, and who is in two.
-use Prim.Native.Nat.{ℕ, _+_, _-_, _*_, _<_, min}
+use Prim.Native.Nat.{ℕ, _<_, _+_, _-_, _*_, min}
 use mathlib.Core.Path.{_≡_}
-use mathlib.Core.Bool.{Bool, true, _&&_, _||_}
+use mathlib.Core.Bool.{Bool, _&&_, _||_, true}
 use mathlib.Core.List.{List, [], _∷_}
 use lib.ListN.{getD}
 use lib.Bits.{bitAnd, bitOr}
-use Rattle.reading.specs.Modes.{disjointMode, coverMode}
+use Rattle.tables.specs.Modes.{disjointMode, coverMode}
 use Rattle.rows.specs.RowsRead.{wordBits}
 use Rattle.columns.specs.Columns.{columnWord, columnDigit}
 

@@ -1,5 +1,3 @@
-pub mod SonLists
-pub mod SonSteps
 pub mod Joins
 pub mod Tallies
 pub mod RuleTests

@@ -1,34 +1,21 @@
 -- The tests that the scan makes: whether a rule of one member can be broken at a group, whether a member breaks it, whether some
 -- member of several words does, whether a count does. Rules go by document 01's numbers.
-use Prim.Native.Nat.{ℕ, _-_, _*_, _+_, _<_, _≤_}
+use Prim.Native.Nat.{ℕ, _*_, _+_, _<_, _≤_}
 use mathlib.Core.Path.{_≡_}
 use mathlib.Core.Bool.{Bool, cond, _&&_, not, true, false}
 use mathlib.Core.List.{List}
-use lib.ListN.{getD}
 use lib.Dec.{eqb, ltb}
 use Rattle.laws.specs.Sum.{bit}
 use Rattle.laws.specs.Digit.{digit}
 use Rattle.wire.specs.Limits.{noEnd}
-use Rattle.reading.specs.Modes.{disjointMode, coverMode, sameMode}
+use Rattle.tables.specs.Groups.{parentIn, modeIn, loIn, hiIn}
+use Rattle.tables.specs.Modes.{disjointMode, coverMode, sameMode}
 use Rattle.rows.specs.RowsRead.{wordBits}
 use Rattle.columns.specs.Columns.{inColumn}
 
 -- by a rule's number, 1 to 4
 abbrev pub byRule : ℕ → Bool → Bool → Bool → Bool → Bool
 byRule k a b c d = cond (eqb k 1) a (cond (eqb k 2) b (cond (eqb k 3) c d))
-
--- the fields of group g in a table of groups
-abbrev pub parentIn : List ℕ → ℕ → ℕ
-parentIn t g = getD t (4 * (g - 1)) 0
-
-abbrev pub loIn : List ℕ → ℕ → ℕ
-loIn t g = getD t (4 * (g - 1) + 1) 0
-
-abbrev pub hiIn : List ℕ → ℕ → ℕ
-hiIn t g = getD t (4 * (g - 1) + 2) 0
-
-abbrev pub modeIn : List ℕ → ℕ → ℕ
-modeIn t g = getD t (4 * (g - 1) + 3) 0
 
 -- rules 1 and 2 need a parent, 2 one that is 'same', 3 needs 'cover' and 4 'disjoint' over several sons
 unfoldable pub mayBreak : List ℕ → Bool → ℕ → ℕ → Bool

@@ -1,22 +1,17 @@
 -- What the check has gathered before it looks for broken rules: the columns, each group's sons, and each group's count.
-use Prim.Native.Nat.{ℕ, _+_, _*_, _≤_, _<_}
+use Prim.Native.Nat.{ℕ, _≤_, _<_, _+_, _*_}
 use mathlib.Core.Path.{_≡_}
 use mathlib.Core.List.{List}
-use lib.ListN.{length, getD}
-use Rattle.laws.specs.Sum.{sum}
+use lib.ListN.{getD, length}
 use Rattle.wire.specs.Limits.{rowLimit}
+use Rattle.wire.specs.Capacity.{groupCapacity}
 use Rattle.meaning.specs.Sheet.{Sheet, Group}
 use Rattle.meaning.specs.Sets.{Sets, count}
-use Rattle.reading.specs.SheetIn.{sheetIn}
-use Rattle.wire.specs.Capacity.{groupCapacity}
-use Rattle.rows.specs.RowsRead.{wordBits}
-use Rattle.columns.specs.Columns.{columnWords, blockWords, groupPlaces, columnsLength, columnDigit, columnSets}
-use Rattle.registers.specs.SonLists.{SonsListed}
-use Rattle.registers.specs.SonSteps.{SonsReadable}
-
--- places of the table that has where each group's sons begin, and where the last list ends
-abbrev pub sonStarts : ℕ
-sonStarts = groupPlaces + 1
+use Rattle.tables.specs.Groups.{groupPlaces}
+use Rattle.tables.specs.SheetIn.{sheetIn}
+use Rattle.columns.specs.Columns.{columnWords, columnsLength, columnDigit, columnSets, blockWords}
+use Rattle.sons.specs.SonLists.{SonsListed}
+use Rattle.sons.specs.SonSteps.{SonsReadable}
 
 -- place g of the table is the count of group g
 pub record Counted {X : Type 0} (s : Sheet) (A : Sets X) (t : List ℕ) : Type 0 where
@@ -58,7 +53,3 @@ pub record WordAsked (c some two : List ℕ) (w g p : ℕ) : Type 0 where
   pub parent-last : p ≤ groupCapacity
   pub some-words : w < length some
   pub two-words : w < length two
-
--- place g of the table u is the number of ones of group g's column
-pub record ColumnsCounted (t : List ℕ) (size words : ℕ) (u : List ℕ) : Type 0 where
-  pub each : (g : ℕ) → 1 ≤ g → g ≤ size → getD u g 0 ≡ sum (columnDigit t g) (wordBits * words)

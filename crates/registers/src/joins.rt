@@ -1,14 +1,14 @@
 // The columns of a group's sons put together: who is in some son, and who is in two.
-use crate::sons::start_at;
 use columns::table::column_word;
-use reading::tables::GroupNo;
+use sons::lists::start_at;
+use tables::groups::GroupNo;
 ghost use Prim.Native.Nat.{_≤_};
 ghost use lib.ListN.{length};
 ghost use Rattle.wire.specs.Capacity.{groupCapacity};
-ghost use Rattle.columns.specs.Columns.{columnWords, columnsLength};
-ghost use Rattle.registers.specs.SonLists.{keptSons};
-ghost use Rattle.registers.specs.SonSteps.{SonsReadable};
 ghost use Rattle.columns.specs.ColumnSteps.{Cleared};
+ghost use Rattle.columns.specs.Columns.{columnWords, columnsLength};
+ghost use Rattle.sons.specs.SonLists.{keptSons};
+ghost use Rattle.sons.specs.SonSteps.{SonsReadable};
 ghost use Rattle.registers.specs.Joins.{ColumnJoined, Joined};
 
 // nobody is in some son, nor in two

@@ -1,3 +1,4 @@
 pub mod WroteLaws
 pub mod WrittenLaws
 pub mod ReplyLaws
+pub mod Alike

@@ -1,3 +1,5 @@
 pub mod Reply
 pub mod Wrote
 pub mod Written
+pub mod Verdict
+pub mod Shown

@@ -2,17 +2,18 @@
 // Each writer says what is read back from its bytes, and that no other byte changes. `specs/Reply` has the refusals and their
 // order, for the contract of every operation. Document 01, "Replies" and "Turned back, in checking order".
 pub mod pairs;
+pub mod verdict;
 
 use crate::pairs::pack;
 use wire::bytes::put_long;
 use wire::bytes::put_word;
-ghost use mathlib.Core.Path.{_≡_};
-ghost use Prim.Native.Nat.{_+_, _*_, _≤_};
+ghost use Prim.Native.Nat.{_*_, _≤_, _+_};
 ghost use lib.ListN.{length};
+ghost use mathlib.Core.Path.{_≡_};
+ghost use Rattle.wire.specs.Limits.{answerBytes, verdictBytes, rangeBytes, shownBytes};
 ghost use Rattle.replies.specs.Reply.{call, OnceRoom};
-ghost use Rattle.replies.specs.Wrote.{Wrote};
-ghost use Rattle.wire.specs.Limits.{rangeBytes, verdictBytes, shownBytes, answerBytes};
 ghost use Rattle.replies.specs.Written.{WordsPut, AnswerAt, VerdictAt, RangeAt, ShownAt, RangesPut, SetsPut};
+ghost use Rattle.replies.specs.Wrote.{Wrote};
 
 // Bytes of the records, length field and kind among them: kind 17, 18, 19, 20.
 pub const RANGE_BYTES: usize = 20;

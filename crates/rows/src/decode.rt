@@ -10,16 +10,16 @@ use crate::limits::row_bytes;
 use crate::limits::row_frame;
 use crate::limits::row_words;
 use wire::bytes;
-ghost use mathlib.Core.Bool.{true};
 ghost use mathlib.Core.Path.{_≡_};
-ghost use Prim.Native.Nat.{_+_, _*_, _^_, _≤_, _<_};
+ghost use Prim.Native.Nat.{_+_, _<_, _*_, _^_, _≤_};
 ghost use lib.ListN.{length};
+ghost use mathlib.Core.Bool.{true};
 ghost use Rattle.laws.specs.Digit.{digit};
-ghost use Rattle.wire.specs.Edition.{editionOf, groupLimit, membershipBytes, rowBytes, rowHead};
+ghost use Rattle.wire.specs.Bytes.{u32At};
+ghost use Rattle.wire.specs.Edition.{editionOf, rowBytes, rowHead, groupLimit, membershipBytes};
 ghost use Rattle.wire.specs.Member.{isSide, sideOf};
 ghost use Rattle.wire.specs.MemberKey.{keyMember};
-ghost use Rattle.wire.specs.Bytes.{u32At};
-ghost use Rattle.rows.specs.RowsRead.{rowFrame, held, rowGives, frontAt, bitAt, wordBytes, wordBits, WordAt, Above};
+ghost use Rattle.rows.specs.RowsRead.{rowGives, frontAt, held, rowFrame, wordBytes, WordAt, wordBits, Above, bitAt};
 
 // The key of a row's member, whether the row goes on with the member before, the place of its membership bytes, and the place
 // after the row.

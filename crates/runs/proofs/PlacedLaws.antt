@@ -15,11 +15,12 @@ use Rattle.meaning.specs.Sons.{isSon}
 use Rattle.meaning.specs.Arranged.{ended, firstOf}
 use Rattle.meaning.proofs.SonLaws.{son-of, no-son-before, son-parent, son-is, one-parent}
 use Rattle.sizes.specs.Balanced.{Balanced}
-use Rattle.reading.specs.Tables.{groupIn}
-use Rattle.reading.specs.Modes.{disjointMode, coverMode, sameMode}
-use Rattle.reading.specs.SheetIn.{sizeLimit, sheetIn, Tabled}
-use Rattle.reading.proofs.SheetInLaws.{few-groups, disjoint-in, cover-in, same-in}
-use Rattle.runs.specs.Told.{Told, runLimit, numberIn}
+use Rattle.tables.specs.Groups.{groupIn}
+use Rattle.tables.specs.Modes.{disjointMode, coverMode, sameMode}
+use Rattle.tables.specs.SheetIn.{sizeLimit, sheetIn, Tabled}
+use Rattle.tables.specs.Numbers.{numberIn}
+use Rattle.tables.proofs.SheetInLaws.{few-groups, disjoint-in, cover-in, same-in}
+use Rattle.runs.specs.Told.{Told, runLimit}
 use Rattle.runs.specs.Placed.{startBy, Placed, StartIs}
 
 -- one more group, g, a son of p: what changes in the two tables

@@ -1,25 +1,17 @@
 -- Laws of starts in document 01's words: stores, and the runs that such starts show.
-use Prim.Native.Nat.{ℕ, _-_, _≤_}
+use Prim.Native.Nat.{ℕ, _≤_}
 use mathlib.Core.Path.{_≡_, sym}
 use mathlib.Core.List.{List}
 use native.Mathlib.Omega.{arith}
 use native.Mathlib.Nat.{le-of-eq}
-use lib.ListN.{length, set}
-use lib.Seq.{getD-set-same, getD-set-other}
+use lib.ListN.{length}
 use Rattle.laws.proofs.Cases.{compare-eq}
 use Rattle.meaning.specs.Sheet.{Sheet, Group}
 use Rattle.meaning.specs.Tree.{Tree, Rooted}
 use Rattle.sizes.specs.Balanced.{Balanced}
 use Rattle.sizes.specs.Runs.{Starts}
 use Rattle.sizes.proofs.RunsInWords.{told-starts}
-use Rattle.runs.specs.Told.{numberIn, Told, Placeable}
-
--- a store at group g
-pub number-same : (t : List ℕ) (g x : ℕ) → 1 ≤ g → g ≤ length t → numberIn (set t (g - 1) x) g ≡ x
-number-same t g x a l = getD-set-same t (g - 1) x 0 (omega arith)
-
-pub number-other : (t : List ℕ) (g h x : ℕ) → 1 ≤ g → 1 ≤ h → (h ≡ g → ⊥) → numberIn (set t (g - 1) x) h ≡ numberIn t h
-number-other t g h x a b n = getD-set-other t (g - 1) (h - 1) x 0 (λ e. n (omega arith))
+use Rattle.runs.specs.Told.{Told, Placeable}
 
 -- such starts show sizes that the rules allow
 pub told-runs : {s : Sheet} {f first : ℕ → ℕ} → Tree s → Rooted s → Balanced s f → Told s f first → Starts s f first

@@ -5,7 +5,7 @@ use mathlib.Core.Path.{_≡_}
 use mathlib.Core.Bool.{Bool, cond}
 use Rattle.meaning.specs.Sheet.{Sheet, Group, Son}
 use Rattle.meaning.specs.Arranged.{ended, firstOf}
-use Rattle.reading.specs.SheetIn.{sizeLimit}
+use Rattle.tables.specs.SheetIn.{sizeLimit}
 use Rattle.runs.specs.Told.{runLimit}
 
 -- The start of a son with y members: the modes of its parent ('same', 'disjoint', 'cover'), the parent's start a and count

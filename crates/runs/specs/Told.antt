@@ -1,17 +1,14 @@
 -- Starts in document 01's words, for given sizes: what `place_runs` leaves in its table.
-use Prim.Native.Nat.{ℕ, _-_, _+_, _*_, _≤_}
+use Prim.Native.Nat.{ℕ, _+_, _*_, _≤_}
 use mathlib.Core.Path.{_≡_}
 use mathlib.Core.List.{List}
-use lib.ListN.{getD, length}
+use lib.ListN.{length}
 use Rattle.wire.specs.Capacity.{groupCapacity}
 use Rattle.meaning.specs.Sheet.{Sheet, Son}
 use Rattle.meaning.specs.Arranged.{firstOf}
 use Rattle.sizes.specs.Balanced.{Balanced}
-use Rattle.reading.specs.SheetIn.{sizeLimit, sheetIn, Tabled}
-
--- the number of group g in a table of one number a group
-abbrev pub numberIn : List ℕ → ℕ → ℕ
-numberIn t g = getD t (g - 1) 0
+use Rattle.tables.specs.SheetIn.{sizeLimit, sheetIn, Tabled}
+use Rattle.tables.specs.Numbers.{numberIn}
 
 -- The root starts at 1, and every son where document 01 says.
 pub record Told (s : Sheet) (size first : ℕ → ℕ) : Type 0 where

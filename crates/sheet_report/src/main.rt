@@ -3,15 +3,15 @@
 // Document 01, "Worked sheets", the printed case; document 02, card 5 (how many bytes).
 use libc::STDIN_FILENO;
 use libc::STDOUT_FILENO;
-use measuring::spans::NO_GREATEST;
-use reading::tables::CLAIMS;
-use reading::tables::GROUP_CAPACITY;
 use replies::RANGE_BYTES;
 use replies::SHOWN_BYTES;
 use replies::VERDICT_BYTES;
 use replies::pairs::PAIR;
-ghost use mathlib.Core.Path.{_≡_};
+use spans::span::NO_GREATEST;
+use tables::limits::CLAIMS;
+use tables::limits::GROUP_CAPACITY;
 ghost use Prim.Native.Nat.{_<_};
+ghost use mathlib.Core.Path.{_≡_};
 ghost use Rattle.wire.specs.Capacity.{groupCapacity};
 
 // most bytes that are taken as a sheet

@@ -1,5 +1,5 @@
 pub mod Members
-pub mod Renumbered
+pub mod RenumberedLaws
 pub mod RunsLaws
 pub mod RunsInWords
 pub mod Possible

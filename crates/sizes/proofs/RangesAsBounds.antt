@@ -18,7 +18,8 @@ use Rattle.meaning.specs.Part.{under, partAt, BottomUp}
 use Rattle.meaning.specs.Arranged.{cap, leftFor, sizeOf, ended, firstOf, Arranged, ArrangedBottomUp}
 use Rattle.meaning.proofs.SonLaws.{son-is, son-parent, sons-prefix, sons-gap}
 use Rattle.sizes.specs.Balanced.{Sizes}
-use Rattle.sizes.proofs.Renumbered.{renumbered, renumbered-count, renumbered-fits}
+use Rattle.sizes.specs.Renumbered.{renumbered}
+use Rattle.sizes.proofs.RenumberedLaws.{renumbered-count, renumbered-fits}
 use Rattle.sizes.proofs.Possible.{attains}
 use Rattle.sizes.proofs.Rebound.{rebound, group-rebound, fits-rebound, son-rebound, tree-rebound, sizes-rebound, rooted-rebound}
 use Rattle.sizes.proofs.SpanLaws.{cap-at, cap-most, cap-least, at-le}

@@ -1,5 +1,5 @@
 -- What the contracts of the operations leave to be said of readable sheets.
-use Prim.Native.Nat.{ℕ, zero-le, _-_, _*_, _≤_, max}
+use Prim.Native.Nat.{ℕ, zero-le, _-_, _≤_, max}
 use mathlib.Core.Path.{_≡_, refl}
 use mathlib.Core.List.{List}
 use mathlib.Core.Logic.{_⊎_}
@@ -10,7 +10,7 @@ use lib.Dec.{eqb}
 use lib.ListN.{length}
 use Rattle.laws.proofs.Cases.{split}
 use Rattle.wire.specs.Limits.{boundLimit, noEnd}
-use Rattle.wire.specs.Edition.{Edition, groupLimit, edition1, edition2}
+use Rattle.wire.specs.Edition.{groupLimit, edition1, edition2}
 use Rattle.wire.specs.Record.{read}
 use Rattle.wire.specs.SheetFormat.{Records, readSheet}
 use Rattle.wire.specs.Encoding.{SheetWithin, Bytes}
@@ -22,6 +22,7 @@ use Rattle.meaning.specs.Arranged.{ArrangedBottomUp}
 use Rattle.meaning.specs.OfRecords.{sheetOf, claimAt, groupAt}
 use Rattle.meaning.proofs.Readable.{tree-of-readable, root-under-none, tree-of-right, rooted-of-right, lo-most, hi-most}
 use Rattle.sizes.specs.Witness.{HasWitness}
+use Rattle.sizes.specs.EndLimit.{endLimit}
 use Rattle.sizes.proofs.BoundsLaws.{Small}
 use Rattle.sizes.proofs.ArrangedOnce.{arrangement-once}
 use Rattle.sizes.proofs.Ends.{End, end-limit}
@@ -57,11 +58,6 @@ small-of-within {d} w = record {
       (λ e. rw e zero-le)
       (λ e. let n : h ≡ noEnd → ⊥ = eqb-false h noEnd e in rw e (omega (arith, hi-most w g q)));
 }
-
--- "No finite end exceeds 127 × 65,534 = 8,322,818." (document 01, "Ranges"); "A finite end is at most 255 × 65,534 = 16,711,170."
--- (document 02, card 5)
-abbrev pub endLimit : Edition → ℕ
-endLimit e = (groupLimit e - 1) * boundLimit
 
 pub end-limits : (endLimit edition1 ≡ 8322818) × (endLimit edition2 ≡ 16711170)
 unfolding groupLimit

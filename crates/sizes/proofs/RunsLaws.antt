@@ -19,7 +19,7 @@ use Rattle.meaning.proofs.SonLaws.{son-parent, sons-prefix, only-prefix, sons-l
 use Rattle.sizes.specs.Balanced.{Balanced, Choice}
 use Rattle.sizes.specs.Runs.{startUnder, Starts, startAt}
 use Rattle.sizes.proofs.Members.{balanced-meets}
-use Rattle.sizes.proofs.Renumbered.{numbered-distinct}
+use Rattle.sizes.proofs.RenumberedLaws.{numbered-distinct}
 
 -- a run as numbers
 pub run-of : (a c m : ℕ) → inRun a c m ≡ true → (a ≤ m) × (m < a + c)

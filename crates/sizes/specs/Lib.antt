@@ -8,3 +8,5 @@ pub mod ClaimsPlace
 pub mod ClaimsMath
 pub mod RuleSteps
 pub mod Bounds
+pub mod Renumbered
+pub mod EndLimit

@@ -1,6 +1,6 @@
 -- Fields of two and four bytes: reading what was written, and writing what was read.
 use Prim.Native.Nat.{ℕ, _+_, zero, suc, _*_, _≤_, _/_, _%_, _<_}
-use mathlib.Core.Path.{_≡_, refl, sym, _∙_}
+use mathlib.Core.Path.{_≡_, refl, sym, _∙_, ap}
 use mathlib.Core.Bool.{true}
 use mathlib.Core.List.{List, _++_, [], _∷_, flatMap, append-assoc}
 use native.Mathlib.Omega.{arith}
@@ -175,3 +175,16 @@ pub encode-read : (b : List ℕ) → Bytes b → Framed b → (body : List ℕ) 
 unfolding encodeRecord
 encode-read b k f body e l =
     rw (l, append-assoc, append-assoc, e, drop-le16 b k 2 (omega arith)) (drop-le16 b k 0 (omega arith))
+
+pub field-at : (s : List ℕ) (at i : ℕ) → u16At (drop at s) i ≡ u16At s (at + i)
+field-at s at i = u16-drop at s i
+
+-- a field that was read
+pub read-at : (s : List ℕ) (at i x : ℕ) → x ≡ u16At s (at + i) → u16At (drop at s) i ≡ x
+read-at s at i x e = field-at s at i ∙ sym e
+
+pub length-at : (s : List ℕ) (at : ℕ) → u16At (drop at s) 0 ≡ u16At s at
+length-at s at = field-at s at 0 ∙ ap (u16At s) (add-zero at)
+
+pub fields-at : (s : List ℕ) (at i n : ℕ) → u16s (drop at s) i n ≡ u16s s (at + i) n
+fields-at s at i n = u16s-drop at s i n

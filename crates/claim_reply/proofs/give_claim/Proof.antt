@@ -5,8 +5,8 @@ use mathlib.Core.Logic.{⊎-elim}
 use native.Mathlib.Omega.{arith}
 use borrow.Author.Tests.{not-true, not-false}
 use borrow.Author.Needs.{needs}
-use Rattle.reading.specs.SheetIn.{sheetIn}
-use Rattle.reading.proofs.ClaimTableLaws.{length-claimsIn}
+use Rattle.tables.specs.SheetIn.{sheetIn}
+use Rattle.claim_records.proofs.ClaimTableLaws.{length-claimsIn}
 use Rattle.replies.proofs.ReplyLaws.{as-read}
 use Rattle.claim_reply.specs.ClaimReply.{ClaimVerdict}
 use Rattle.claim_reply.proofs.ClaimLaws.{verdict-as, claim-askable, claim-told}

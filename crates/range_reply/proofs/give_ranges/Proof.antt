@@ -5,7 +5,7 @@ use mathlib.Core.Bool.{false≢true}
 use native.Mathlib.Omega.{arith}
 use denote.Ref.{now}
 use borrow.Author.Tests.{not-true, not-false}
-use Rattle.reading.proofs.SheetInLaws.{size-in}
+use Rattle.tables.proofs.SheetInLaws.{size-in}
 use Rattle.wire.specs.Limits.{rangeBytes}
 use Rattle.replies.proofs.ReplyLaws.{written}
 use borrow.Author.Needs.{needs}

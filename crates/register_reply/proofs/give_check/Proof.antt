@@ -1,7 +1,7 @@
 -- `give_check` meets its contract: the register's refusal, or the answer of its check.
 use mathlib.Core.Path.{ap}
 use borrow.Author.Needs.{needs}
-use Rattle.reading.proofs.SheetInLaws.{size-in}
+use Rattle.tables.proofs.SheetInLaws.{size-in}
 use Rattle.registers.specs.Checked.{checkGives}
 use Rattle.replies.proofs.ReplyLaws.{turned-back}
 use Rattle.register_reply.proofs.RegisterLaws.{rows-under, rows-turned, rows-passed, rows-answered}

@@ -3,7 +3,7 @@ use mathlib.Core.Path.{_∙_, subst}
 use native.Mathlib.Omega.{arith}
 use Rattle.sizes.specs.Span.{In}
 use Rattle.sizes.proofs.MeasuredLaws.{spans-measured}
-use Rattle.reading.proofs.SheetInLaws.{size-in}
+use Rattle.tables.proofs.SheetInLaws.{size-in}
 use Rattle.measuring.proofs.DoneLaws.{room-span}
 use Rattle.choosing.proofs.ChosenLaws.{folded-table, chose-none, chose-some, least-in}
 use borrow.Author.Needs.{needs}

@@ -5,10 +5,10 @@ use native.Mathlib.Omega.{arith}
 use borrow.Author.Needs.{needs}
 use lib.ListN.{length, replicate}
 use Rattle.wire.specs.Capacity.{groupCapacity}
-use Rattle.runs.specs.Told.{numberIn}
-use Rattle.runs.proofs.ToldLaws.{number-same}
-use Rattle.reading.specs.SheetIn.{sheetIn}
-use Rattle.reading.proofs.SheetInLaws.{size-in}
+use Rattle.tables.specs.Numbers.{numberIn}
+use Rattle.tables.proofs.NumbersLaws.{number-same}
+use Rattle.tables.specs.SheetIn.{sheetIn}
+use Rattle.tables.proofs.SheetInLaws.{size-in}
 use Rattle.measuring.specs.Pairs.{pairIn}
 use Rattle.choosing.specs.Divided.{markedIn, RoomFor, DividedTo}
 use Rattle.choosing.proofs.DividedLaws.{mark-same, divided-root, divided-all}

@@ -2,9 +2,9 @@
 use mathlib.Core.Path.{ap, _∙_}
 use native.Mathlib.Omega.{arith}
 use Rattle.laws.specs.Sum.{bit}
-use Rattle.runs.specs.Told.{numberIn}
-use Rattle.runs.proofs.ToldLaws.{number-other}
-use Rattle.reading.proofs.SheetInLaws.{size-in}
+use Rattle.tables.specs.Numbers.{numberIn}
+use Rattle.tables.proofs.NumbersLaws.{number-other}
+use Rattle.tables.proofs.SheetInLaws.{size-in}
 use Rattle.choosing.specs.Divided.{markedIn}
 use Rattle.choosing.proofs.DividedLaws.{divisible-alike, shared-alike, divided-divisible, divided-more, kind-table, rest-table, mark-other}
 use borrow.Author.Needs.{needs}

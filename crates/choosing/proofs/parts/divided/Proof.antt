@@ -1,7 +1,7 @@
 -- `divided` meets its contract.
 use mathlib.Core.Path.{sym}
 use native.Mathlib.Omega.{arith}
-use Rattle.measuring.specs.Held.{pairOf, kindHeld}
+use Rattle.spans.specs.Held.{pairOf, kindHeld}
 use Rattle.choosing.proofs.PartsLaws.{shared-right}
 use borrow.Author.Needs.{needs}
 use Rattle.choosing.proofs.parts.divided.Statement.{statement}

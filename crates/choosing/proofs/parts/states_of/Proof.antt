@@ -1,5 +1,5 @@
 -- `states_of` meets its contract.
-use Rattle.measuring.specs.Held.{pairOf, kindHeld}
+use Rattle.spans.specs.Held.{pairOf, kindHeld}
 use Rattle.choosing.proofs.PartsLaws.{states-right}
 use borrow.Author.Needs.{needs}
 use Rattle.choosing.proofs.parts.states_of.Statement.{statement}

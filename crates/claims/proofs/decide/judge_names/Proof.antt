@@ -3,14 +3,14 @@ use mathlib.Core.Path.{sym, _∙_}
 use native.Mathlib.Omega.{arith}
 use borrow.Author.Tests.{ltb-true, ltb-false}
 use lib.Dec.{ltb}
-use Rattle.reading.specs.ClaimHeld.{listAs, leftNames, rightNames}
-use Rattle.reading.proofs.SheetInLaws.{size-in}
+use Rattle.claim_records.specs.ClaimHeld.{listAs, leftNames, rightNames}
+use Rattle.tables.proofs.SheetInLaws.{size-in}
 use Rattle.laws.proofs.Cases.{and-true}
-use Rattle.claims.proofs.GroupsLaws.{among-short, among-whole}
+use Rattle.questions.proofs.GroupsLaws.{among-short, among-whole}
 use Rattle.claims.specs.Named.{meanings}
 use Rattle.claims.proofs.NamedLaws.{meant-length, left-list, right-list, left-named, right-named, lists-speak, meanings-listed}
-use Rattle.claims.specs.Ways.{isPlace}
-use Rattle.claims.proofs.WaysLaws.{tried-judged, empty-judged}
+use Rattle.questions.specs.Ways.{isPlace}
+use Rattle.questions.proofs.WaysLaws.{tried-judged, empty-judged}
 use borrow.Author.Needs.{needs}
 use Rattle.claims.proofs.decide.judge_names.Statement.{statement}
 use Rattle.claims.proofs.decide.judge_names.Tie as tie

@@ -4,7 +4,7 @@ use mathlib.Core.List.{append-nil}
 use native.Mathlib.Omega.{arith}
 use native.Mathlib.Numerals.{add-one}
 use lib.Seq.{take-suc-set}
-use Rattle.claims.proofs.GroupsLaws.{among-zero, among-one}
+use Rattle.questions.proofs.GroupsLaws.{among-zero, among-one}
 use borrow.Author.Needs.{needs}
 use Rattle.claims.proofs.names.add_meant.Statement.{statement}
 use Rattle.claims.proofs.names.add_meant.Tie as tie

@@ -2,7 +2,7 @@
 use borrow.Author.Needs.{needs}
 use Rattle.reading.proofs.LoadedLaws.{loaded-sheet, loaded-held, loaded-refused}
 use Rattle.replies.proofs.ReplyLaws.{read-not-refused, once-turned}
-use Rattle.group_sheet.proofs.TabledLaws.{loaded-tabled}
+use Rattle.reading.proofs.TabledLaws.{loaded-tabled}
 use Rattle.group_sheet.proofs.claim.sheet_claim.Statement.{statement}
 use Rattle.group_sheet.proofs.claim.sheet_claim.Tie as tie
 

@@ -1,11 +1,11 @@
 -- `sheet_register` meets its contract: the sheet's refusal, or the answer under it.
 use borrow.Author.Needs.{needs}
 use Rattle.meaning.specs.OfRecords.{sheetOf}
-use Rattle.reading.specs.SheetIn.{sheetIn}
+use Rattle.tables.specs.SheetIn.{sheetIn}
 use Rattle.reading.proofs.LoadedLaws.{loaded-sheet, loaded-refused}
 use Rattle.register_reply.specs.RegisterReply.{Register}
 use Rattle.replies.proofs.ReplyLaws.{once-turned, once-passed}
-use Rattle.group_sheet.proofs.TabledLaws.{loaded-tabled}
+use Rattle.reading.proofs.TabledLaws.{loaded-tabled}
 use Rattle.group_sheet.proofs.register.sheet_register.Statement.{statement}
 use Rattle.group_sheet.proofs.register.sheet_register.Tie as tie
 

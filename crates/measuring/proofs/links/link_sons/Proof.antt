@@ -3,8 +3,8 @@ use mathlib.Core.Path.{_≡_, refl, subst}
 use native.Mathlib.Omega.{arith}
 use Prim.Native.Nat.{_+_, _-_, _≤_}
 use lib.ListN.{length}
-use Rattle.reading.specs.SheetIn.{sheetIn}
-use Rattle.reading.proofs.SheetInLaws.{parent-below}
+use Rattle.tables.specs.SheetIn.{sheetIn}
+use Rattle.tables.proofs.SheetInLaws.{parent-below}
 use Rattle.measuring.specs.Links.{Links}
 use Rattle.measuring.proofs.LinksLaws.{links-step}
 use Rattle.measuring.proofs.links.link_sons.Statement.{statement}

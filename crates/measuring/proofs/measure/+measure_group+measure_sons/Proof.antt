@@ -7,9 +7,9 @@ use Rattle.wire.specs.Limits.{noEnd}
 use Rattle.measuring.proofs.LinksLaws.{next-less}
 use native.Mathlib.Omega.{arith}
 use mathlib.Core.Path.{_≡_, refl, _∙_}
-use Rattle.measuring.specs.Held.{pairOf}
-use Rattle.reading.specs.SheetIn.{sheetIn}
-use Rattle.reading.proofs.SheetInLaws.{size-in}
+use Rattle.spans.specs.Held.{pairOf}
+use Rattle.tables.specs.SheetIn.{sheetIn}
+use Rattle.tables.proofs.SheetInLaws.{size-in}
 use Rattle.measuring.specs.Tables.{spansIn}
 use Rattle.measuring.proofs.DoneLaws.{AtSon, put-alike, done-put, finished, at-last, at-next, all-joined, room-sum, room-son}
 use borrow.Fn.Kinds.{In}

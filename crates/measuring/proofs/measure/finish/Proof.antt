@@ -2,8 +2,8 @@
 use native.Mathlib.Omega.{arith}
 use mathlib.Core.Path.{sym, ap, _∙_}
 use Rattle.sizes.specs.Span as sizes
-use Rattle.measuring.specs.Held.{pairOf}
-use Rattle.reading.proofs.SheetInLaws.{size-in}
+use Rattle.spans.specs.Held.{pairOf}
+use Rattle.tables.proofs.SheetInLaws.{size-in}
 use Rattle.measuring.proofs.TablesLaws.{own-in}
 use borrow.Author.Needs.{needs}
 use Rattle.measuring.proofs.measure.finish.Statement.{statement}

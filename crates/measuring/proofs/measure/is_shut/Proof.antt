@@ -1,7 +1,7 @@
 -- `is_shut` meets its contract.
 use mathlib.Core.Logic.{⊎-elim}
 use borrow.Author.Tests.{eq-eqb, ne-eqb}
-use Rattle.measuring.specs.Held.{shutBy}
+use Rattle.measuring.specs.Tables.{shutBy}
 use Rattle.measuring.proofs.measure.is_shut.Statement.{statement}
 use Rattle.measuring.proofs.measure.is_shut.Tie as tie
 

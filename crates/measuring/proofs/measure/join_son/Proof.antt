@@ -1,9 +1,9 @@
 -- `join_son` meets its contract.
-use Rattle.measuring.specs.Held.{pairOf, modeKind}
+use Rattle.spans.specs.Held.{pairOf, modeKind}
 use native.Mathlib.Omega.{arith}
 use mathlib.Core.Path.{sym, ap, _∙_}
 use Rattle.sizes.specs.Fold as fold
-use Rattle.reading.proofs.SheetInLaws.{size-in}
+use Rattle.tables.proofs.SheetInLaws.{size-in}
 use Rattle.measuring.proofs.TablesLaws.{kind-in}
 use borrow.Author.Needs.{needs}
 use Rattle.measuring.proofs.measure.join_son.Statement.{statement}

@@ -2,7 +2,7 @@
 use native.Mathlib.Omega.{arith}
 use mathlib.Core.Path.{sym, ap, _∙_}
 use Rattle.sizes.specs.Fold as fold
-use Rattle.reading.proofs.SheetInLaws.{size-in}
+use Rattle.tables.proofs.SheetInLaws.{size-in}
 use Rattle.measuring.proofs.LinksLaws.{last-most}
 use Rattle.measuring.proofs.DoneLaws.{shut-linked}
 use borrow.Author.Needs.{needs}

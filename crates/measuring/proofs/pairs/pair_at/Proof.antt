@@ -1,7 +1,7 @@
 -- `pair_at` meets its contract.
 use mathlib.Core.Path.{refl}
 use Rattle.measuring.specs.Pairs.{pairIn}
-use Rattle.measuring.proofs.HeldLaws.{both}
+use Rattle.spans.proofs.HeldLaws.{both}
 use borrow.Author.Needs.{needs}
 use Rattle.measuring.proofs.pairs.pair_at.Statement.{statement}
 use Rattle.measuring.proofs.pairs.pair_at.Tie as tie

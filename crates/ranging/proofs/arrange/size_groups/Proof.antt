@@ -5,10 +5,10 @@ use native.Mathlib.Omega.{arith}
 use lib.ListN.{length, length-set}
 use lib.Seq.{getD-set-same}
 use Rattle.meaning.specs.Arranged.{Arranged}
-use Rattle.reading.specs.SheetIn.{sheetIn}
-use Rattle.reading.proofs.SheetInLaws.{size-in}
-use Rattle.runs.specs.Told.{numberIn}
-use Rattle.ranging.specs.Tables.{leastIn, greatestIn}
+use Rattle.tables.specs.SheetIn.{sheetIn}
+use Rattle.tables.proofs.SheetInLaws.{size-in}
+use Rattle.tables.specs.Numbers.{numberIn}
+use Rattle.measuring.specs.Pairs.{leastIn, greatestIn}
 use Rattle.ranging.proofs.SizedLaws.{SizedTo, sized-root, size-step}
 use borrow.Author.Needs.{needs}
 use Rattle.ranging.proofs.arrange.size_groups.Statement.{statement}

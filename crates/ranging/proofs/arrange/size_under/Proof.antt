@@ -2,7 +2,7 @@
 use mathlib.Core.Path.{sym, _∙_}
 use native.Mathlib.Omega.{arith}
 use borrow.Author.Tests.{eq-eqb, ne-eqb}
-use Rattle.measuring.proofs.HeldLaws.{cap-top}
+use Rattle.spans.proofs.HeldLaws.{cap-top}
 use Rattle.ranging.specs.Sized.{sizeBy}
 use borrow.Author.Needs.{needs}
 use Rattle.ranging.proofs.arrange.size_under.Statement.{statement}

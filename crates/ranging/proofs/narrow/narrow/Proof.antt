@@ -5,13 +5,13 @@ use mathlib.Core.Bool.{Bool}
 use native.Mathlib.Omega.{arith}
 use lib.ListN.{length}
 use Rattle.sizes.specs.Span.{Span}
-use Rattle.reading.specs.SheetIn.{sheetIn}
-use Rattle.reading.proofs.SheetInLaws.{size-in}
-use Rattle.measuring.specs.Held.{modeKind}
-use Rattle.ranging.specs.Tables.{spanFields, spanIn}
-use Rattle.ranging.proofs.TablesLaws.{out-held}
+use Rattle.tables.specs.SheetIn.{sheetIn}
+use Rattle.tables.proofs.SheetInLaws.{size-in}
+use Rattle.spans.specs.Held.{modeKind}
+use Rattle.ranging.specs.Table.{spanFields, spanIn}
+use Rattle.measuring.proofs.PairsLaws.{out-held}
 use borrow.Author.Needs.{needs}
-use Rattle.ranging.specs.Narrowed.{Measures}
+use Rattle.measuring.specs.Fitting.{Measures}
 use Rattle.ranging.proofs.NarrowedLaws.{Narrowed, narrowed-root, narrow-step, narrowed-all}
 use Rattle.ranging.proofs.narrow.narrow.Statement.{statement}
 use Rattle.ranging.proofs.narrow.narrow.Tie as tie

@@ -1,6 +1,6 @@
 -- `pull` meets its contract: none where one of the spans is none, else by the kind.
 use mathlib.Core.Path.{sym, _∙_}
-use Rattle.measuring.proofs.HeldLaws.{none-of}
+use Rattle.spans.proofs.HeldLaws.{none-of}
 use Rattle.ranging.proofs.PullLaws.{pull-none-left, pull-none-right, pull-eq-meet, by-lap, by-add}
 use borrow.Author.Needs.{needs}
 use Rattle.ranging.proofs.pull.pull.Statement.{statement}

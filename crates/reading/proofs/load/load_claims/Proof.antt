@@ -9,12 +9,12 @@ use native.Mathlib.Omega.{arith}
 use denote.Ref.{now}
 use lib.ListN.{length}
 use Rattle.wire.specs.SheetFormat.{claimTests, claimOf}
-use Rattle.reading.specs.ClaimTable.{claimsIn, ClaimRoom}
-use Rattle.reading.specs.Answers.{claim, AnswerOf}
+use Rattle.claim_records.specs.ClaimTable.{claimsIn, ClaimRoom}
+use Rattle.records.specs.Answers.{claim, AnswerOf}
 use Rattle.reading.specs.Loaded.{passedAs, AllHeld}
-use Rattle.reading.specs.declared.records.Answer.the-variants as answer
-use Rattle.reading.proofs.Fields.{claim-whole, claim-alone}
-use Rattle.reading.proofs.Carried.{Handed, answered-record, answered-refusal, tag-of, claim-bytes}
+use Rattle.records.specs.declared.record.Answer.the-variants as answer
+use Rattle.records.proofs.Fields.{claim-whole, claim-alone}
+use Rattle.records.proofs.Carried.{Handed, answered-record, answered-refusal, tag-of, claim-bytes}
 use Rattle.wire.proofs.Passing.{never-read}
 use Rattle.reading.proofs.Many.{Left, left-start, left-stop, left-done, held-more, claim-again}
 use Rattle.reading.proofs.load.load_claims.Statement.{statement}

@@ -9,11 +9,11 @@ use native.Mathlib.Omega.{arith}
 use denote.Ref.{now}
 use lib.ListN.{length}
 use Rattle.wire.specs.SheetFormat.{groupTests, groupOf}
-use Rattle.reading.specs.Tables.{groupsIn}
-use Rattle.reading.proofs.TablesLaws.{length-groupsIn}
-use Rattle.reading.specs.Answers.{group, AnswerOf}
-use Rattle.reading.proofs.Fields.{group-whole}
-use Rattle.reading.proofs.Carried.{Handed, answered-record, answered-refusal, tag-of}
+use Rattle.tables.specs.Groups.{groupsIn}
+use Rattle.tables.proofs.GroupsLaws.{length-groupsIn}
+use Rattle.records.specs.Answers.{group, AnswerOf}
+use Rattle.records.proofs.Fields.{group-whole}
+use Rattle.records.proofs.Carried.{Handed, answered-record, answered-refusal, tag-of}
 use Rattle.reading.proofs.Many.{Left, left-start, left-stop, left-done, group-again}
 use Rattle.reading.proofs.load.load_groups.Statement.{statement}
 use Rattle.reading.proofs.load.load_groups.Tie as tie

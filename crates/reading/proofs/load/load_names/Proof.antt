@@ -11,12 +11,14 @@ use lib.ListN.{length, drop, length-set, length-replicate}
 use Rattle.wire.specs.Edition.{editionOf, labelLimit}
 use Rattle.wire.specs.Bytes.{u16At}
 use Rattle.wire.specs.SheetFormat.{nameTests, nameOf}
-use Rattle.reading.specs.Meant.{meantNumber}
-use Rattle.reading.specs.Answers.{name, AnswerOf, WholeName}
-use Rattle.reading.specs.Loaded.{recordsIn, passedAs, AllGrouped}
-use Rattle.reading.specs.LabelHash.{labelHashes, AllSeen}
-use Rattle.reading.proofs.Fields.{name-whole}
-use Rattle.reading.proofs.Carried.{Handed, answered-record, answered-refusal, tag-of, name-same}
+use Rattle.tables.specs.Names.{meantNumber}
+use Rattle.records.specs.Answers.{name, AnswerOf}
+use Rattle.labels.specs.WholeName.{WholeName}
+use Rattle.tables.specs.RecordsIn.{recordsIn}
+use Rattle.reading.specs.Loaded.{passedAs, AllGrouped}
+use Rattle.labels.specs.LabelHash.{labelHashes, AllSeen}
+use Rattle.records.proofs.Fields.{name-whole}
+use Rattle.records.proofs.Carried.{Handed, answered-record, answered-refusal, tag-of, name-same}
 use Rattle.wire.proofs.Passing.{never-read}
 use Rattle.reading.proofs.Many.{Left, left-start, left-stop, left-done, AllPass, pass-more, grouped-more, seen-more}
 use Rattle.reading.proofs.Many.{name-alone, name-used, name-again}

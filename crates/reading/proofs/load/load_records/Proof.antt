@@ -7,10 +7,11 @@ use denote.Ref.{now}
 use lib.ListN.{length, drop}
 use Rattle.wire.specs.SheetFormat.{HeadRecord, GroupRecord, NameRecord, ClaimRecord}
 use Rattle.wire.specs.SheetFormat.{nameOf, closing, readClaims, readNames, readGroups}
-use Rattle.reading.specs.Tables.{groupsIn}
-use Rattle.reading.specs.ClaimTable.{claimsIn}
-use Rattle.reading.specs.Answers.{headRecord}
-use Rattle.reading.specs.Loaded.{recordsIn, goesOn, loadedAs}
+use Rattle.tables.specs.Groups.{groupsIn}
+use Rattle.claim_records.specs.ClaimTable.{claimsIn}
+use Rattle.records.specs.Answers.{headRecord}
+use Rattle.tables.specs.RecordsIn.{recordsIn}
+use Rattle.reading.specs.Loaded.{goesOn, loadedAs}
 use Rattle.wire.proofs.Passing.{never-read}
 use Rattle.reading.proofs.Stages.{group-stage, name-stage, claim-stage, bytes-follow, at-end, went-on, went, turned-loads}
 use Rattle.reading.proofs.Stages.{names-grouped}

@@ -4,9 +4,9 @@ use mathlib.Core.Path.{_∙_}
 use mathlib.Core.List.{[], _∷_}
 use denote.Ref.{now}
 use Rattle.wire.specs.SheetFormat.{headTests, headOf}
-use Rattle.reading.specs.Answers.{head}
+use Rattle.records.specs.Answers.{head}
 use Rattle.reading.specs.Loaded.{goesOn, loadedAs}
-use Rattle.reading.proofs.Carried.{Handed, answered-record, answered-refusal, tag-of}
+use Rattle.records.proofs.Carried.{Handed, answered-record, answered-refusal, tag-of}
 use Rattle.wire.proofs.Passing.{never-read}
 use Rattle.reading.proofs.Stages.{head-refused, head-limits, head-goes}
 use borrow.Author.Needs.{needs}

@@ -7,14 +7,15 @@ use Prim.Native.Nat.{_≤_}
 use Rattle.wire.specs.Edition.{editionOf}
 use Rattle.wire.specs.Record.{read}
 use Rattle.wire.specs.RegisterFormat.{readRegister}
-use Rattle.reading.specs.SheetIn.{sheetIn}
-use Rattle.reading.proofs.SheetInLaws.{size-in}
+use Rattle.tables.specs.SheetIn.{sheetIn}
+use Rattle.tables.proofs.SheetInLaws.{size-in}
 use Rattle.wire.specs.Capacity.{groupCapacity}
 use Rattle.rows.specs.RowsRead.{rowsBefore}
 use Rattle.rows.proofs.RowLaws.{rows-most, rows-readable}
 use Rattle.columns.specs.Columns.{columnWords, columnsLength, columnSets}
-use Rattle.registers.specs.Tallies.{sonStarts, Counted}
-use Rattle.columns.proofs.FillLaws.{zeros}
+use Rattle.sons.specs.SonLists.{sonStarts}
+use Rattle.registers.specs.Tallies.{Counted}
+use Rattle.tiles.proofs.FillLaws.{zeros}
 use Rattle.registers.proofs.CheckLaws.{checked-refused, tallied-refused, others-none, columns-counted, members-most, checked-columns, tallied-columns}
 use Rattle.registers.proofs.check.check_register.Statement.{statement}
 use Rattle.registers.proofs.check.check_register.Tie as tie

@@ -4,7 +4,8 @@ use Prim.Native.Nat.{_<_}
 use mathlib.Core.Path.{sym, _∙_}
 use native.Mathlib.Omega.{arith}
 use borrow.Author.Tests.{lt-ltb, eq-eqb, ne-eqb}
-use Rattle.registers.specs.RuleTests.{parentIn, mayBreak}
+use Rattle.tables.specs.Groups.{parentIn}
+use Rattle.registers.specs.RuleTests.{mayBreak}
 use Rattle.registers.proofs.check.may_break.Statement.{statement}
 use Rattle.registers.proofs.check.may_break.Tie as tie
 

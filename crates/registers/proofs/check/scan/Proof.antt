@@ -6,10 +6,10 @@ use mathlib.Core.Path.{_≡_, refl, sym, _∙_}
 use mathlib.Core.Logic.{⊎-elim}
 use native.Mathlib.Omega.{arith}
 use lib.ListN.{length}
-use Rattle.reading.specs.SheetIn.{sheetIn}
-use Rattle.reading.proofs.SheetInLaws.{size-in, group-in, parent-below}
+use Rattle.tables.specs.SheetIn.{sheetIn}
+use Rattle.tables.proofs.SheetInLaws.{size-in, group-in, parent-below}
 use Rattle.columns.specs.Columns.{blockMembers, columnSets}
-use Rattle.registers.specs.RuleTests.{parentIn}
+use Rattle.tables.specs.Groups.{parentIn}
 use Rattle.registers.specs.declared.check.Check.the-variants as check
 use Rattle.registers.proofs.JoinLaws.{sons-readable}
 use Rattle.registers.proofs.ScanLaws.{ClearGroups, ClearRules, ClearMembers, members-none, members-more, rules-none, groups-none}

@@ -1,0 +1,5 @@
+pub mod ClaimTableLaws
+pub mod BodyLaws
+pub mod ListKinds
+pub mod ClaimBytes
+pub mod Taken

@@ -1,0 +1,3 @@
+pub mod ClaimHeld
+pub mod ClaimTable
+pub mod Body

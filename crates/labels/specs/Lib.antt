@@ -1,0 +1,2 @@
+pub mod WholeName
+pub mod LabelHash

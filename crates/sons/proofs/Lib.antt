@@ -1,0 +1,2 @@
+pub mod SonLaws
+pub mod KeptSons

@@ -1,0 +1,2 @@
+pub mod SonLists
+pub mod SonSteps

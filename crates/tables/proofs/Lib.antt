@@ -1,0 +1,4 @@
+pub mod GroupsLaws
+pub mod SheetInLaws
+pub mod RecordsInLaws
+pub mod NumbersLaws

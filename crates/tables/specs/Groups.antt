@@ -1,0 +1,41 @@
+-- What the table of groups holds: four numbers for each group, its parent, lo, hi and mode.
+use Prim.Native.Nat.{ℕ, _+_, _*_, _-_}
+use mathlib.Core.List.{List}
+use lib.ListN.{getD}
+use Rattle.laws.specs.Tabulate.{tabulate}
+use Rattle.wire.specs.Capacity.{groupCapacity}
+use Rattle.wire.specs.SheetFormat.{GroupRecord}
+
+-- fields a group
+abbrev pub groupFields : ℕ
+groupFields = 4
+
+-- the record of the group numbered g + 1
+abbrev pub groupIn : List ℕ → ℕ → GroupRecord
+groupIn t g = record {
+  parent = getD t (groupFields * g) 0;
+  lo = getD t (groupFields * g + 1) 0;
+  hi = getD t (groupFields * g + 2) 0;
+  mode = getD t (groupFields * g + 3) 0;
+}
+
+-- the records of the first n groups
+unfoldable pub groupsIn : List ℕ → ℕ → List GroupRecord
+groupsIn t n = tabulate (groupIn t) n
+
+-- places of a table by group: group numbers start at 1, and place 0 is for none
+abbrev pub groupPlaces : ℕ
+groupPlaces = groupCapacity + 1
+
+-- the fields of group g in a table of groups
+abbrev pub parentIn : List ℕ → ℕ → ℕ
+parentIn t g = getD t (4 * (g - 1)) 0
+
+abbrev pub loIn : List ℕ → ℕ → ℕ
+loIn t g = getD t (4 * (g - 1) + 1) 0
+
+abbrev pub hiIn : List ℕ → ℕ → ℕ
+hiIn t g = getD t (4 * (g - 1) + 2) 0
+
+abbrev pub modeIn : List ℕ → ℕ → ℕ
+modeIn t g = getD t (4 * (g - 1) + 3) 0
