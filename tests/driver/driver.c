@@ -45,15 +45,9 @@ int main(void)
             b = unhex(two, &bl);
         }
         switch (*op) {
-#ifdef OP_RANGES
         case 'r': got = sheet_ranges(a, al, reply, len); break;
-#endif
-#ifdef OP_CLAIM
         case 'c': got = sheet_claim(a, al, claim, reply, len); break;
-#endif
-#ifdef OP_REGISTER
         case 'g': got = sheet_register(a, al, b, bl, reply, len); break;
-#endif
         default: return 2;
         }
         size_t written = sheet_refusal_of(got) ? 0 : sheet_second_of(got);

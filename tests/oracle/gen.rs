@@ -170,7 +170,6 @@ pub struct Draft {
     pub records: Vec<Vec<u8>>,
     pub groups: usize,
     pub names: usize,
-    pub claims: usize,
 }
 
 pub fn record(kind: u16, body: &[u8]) -> Vec<u8> {
@@ -431,9 +430,8 @@ pub fn draft(rng: &mut Rng) -> Draft {
         body.extend(labels.next(rng));
         records.push(record(3, &body));
     }
-    let (names, number) = (namer.groups.len(), claims.len());
     records.extend(claims);
-    Draft { edition, tree, members, records, groups: n, names, claims: number }
+    Draft { edition, tree, members, records, groups: n, names: namer.groups.len() }
 }
 
 const ALPHABET: &[u8] = b"ABCDEFGHIJKLMNOPQRSTUVWXYZ0123456789-";
@@ -501,7 +499,7 @@ pub fn widest(rng: &mut Rng) -> Draft {
     for (lo, hi) in [(0, 65534), (0, 65535), (65534, 65535)] {
         records.push(record(4, &words(&[1, lo, hi])));
     }
-    Draft { edition, tree, members: Vec::new(), records, groups: n, names: 1, claims: 3 }
+    Draft { edition, tree, members: Vec::new(), records, groups: n, names: 1 }
 }
 
 fn set_word(r: &mut [u8], at: usize, x: u16) {

@@ -6,9 +6,7 @@
 //   oracle --self-test [--seed N]              hold the implementation's own methods together
 //
 // A case is one operation on one input (sheet, and claim number or register); it is called with
-// one or more reply buffers. Built with a cfg flag for each operation to link.
-#![allow(unexpected_cfgs)]
-#![allow(dead_code)]
+// one or more reply buffers.
 
 mod format;
 mod gen;
@@ -24,9 +22,7 @@ use std::collections::BTreeMap;
 use std::process::exit;
 
 extern "C" {
-    #[cfg(op_ranges)]
     fn sheet_ranges(sheet: *const u8, sheet_len: usize, reply: *mut u8, reply_len: usize) -> u64;
-    #[cfg(op_claim)]
     fn sheet_claim(
         sheet: *const u8,
         sheet_len: usize,
@@ -34,7 +30,6 @@ extern "C" {
         reply: *mut u8,
         reply_len: usize,
     ) -> u64;
-    #[cfg(op_register)]
     fn sheet_register(
         sheet: *const u8,
         sheet_len: usize,
@@ -44,10 +39,6 @@ extern "C" {
         reply_len: usize,
     ) -> u64;
 }
-
-const HAS_RANGES: bool = cfg!(op_ranges);
-const HAS_CLAIM: bool = cfg!(op_claim);
-const HAS_REGISTER: bool = cfg!(op_register);
 
 enum Ask<'a> {
     Ranges,
@@ -59,19 +50,13 @@ fn pointer(b: &[u8]) -> *const u8 {
     if b.is_empty() { std::ptr::null() } else { b.as_ptr() }
 }
 
-#[allow(unused_variables)]
 fn call(ask: &Ask, sheet: &[u8], reply: *mut u8, len: usize) -> u64 {
     match ask {
-        #[cfg(op_ranges)]
         Ask::Ranges => unsafe { sheet_ranges(pointer(sheet), sheet.len(), reply, len) },
-        #[cfg(op_claim)]
         Ask::Claim(n) => unsafe { sheet_claim(pointer(sheet), sheet.len(), *n, reply, len) },
-        #[cfg(op_register)]
         Ask::Register(reg) => unsafe {
             sheet_register(pointer(sheet), sheet.len(), pointer(reg), reg.len(), reply, len)
         },
-        #[allow(unreachable_patterns)]
-        _ => unreachable!("an operation that was not linked"),
     }
 }
 
@@ -254,7 +239,7 @@ impl Run {
         self.number = number;
         let mut rng = Rng::new(self.seed.wrapping_mul(1_000_003).wrapping_add(number));
         let rng = &mut rng;
-        if HAS_REGISTER && (number % FULL == 7 || number % JOINED == 5 || number % LATE == 11) {
+        if number % FULL == 7 || number % JOINED == 5 || number % LATE == 11 {
             let (bytes, registers) = if number % FULL == 7 {
                 gen::full(rng, number / FULL)
             } else if number % LATE == 11 {
@@ -275,33 +260,23 @@ impl Run {
             Err((n, r)) => {
                 self.met("sheets: not readable");
                 self.unreadable(&bytes, n, r);
-                if HAS_RANGES {
-                    self.case(rng, &bytes, &Ask::Ranges, Want::Refused(n, r));
-                }
-                if HAS_CLAIM {
-                    let c = rng.pick(&[0, 1, 2, 64, 65537, u32::MAX]);
-                    self.case(rng, &bytes, &Ask::Claim(c), Want::Refused(n, r));
-                }
-                if HAS_REGISTER {
-                    let reg = gen::register(rng, &draft);
-                    self.case(rng, &bytes, &Ask::Register(&reg), Want::Refused(n, r));
-                }
+                self.case(rng, &bytes, &Ask::Ranges, Want::Refused(n, r));
+                let c = rng.pick(&[0, 1, 2, 64, 65537, u32::MAX]);
+                self.case(rng, &bytes, &Ask::Claim(c), Want::Refused(n, r));
+                let reg = gen::register(rng, &draft);
+                self.case(rng, &bytes, &Ask::Register(&reg), Want::Refused(n, r));
                 return;
             }
         };
         self.readable(&bytes, &sheet);
-        if HAS_RANGES || HAS_CLAIM {
-            self.ranges_and_claims(rng, &bytes, &sheet);
+        self.ranges_and_claims(rng, &bytes, &sheet);
+        // Where the head has another edition now, registers of either.
+        if rng.chance(50) {
+            draft.edition = sheet.edition;
         }
-        if HAS_REGISTER {
-            // Where the head has another edition now, registers of either.
-            if rng.chance(50) {
-                draft.edition = sheet.edition;
-            }
-            for _ in 0..1 + rng.below(3) {
-                let reg = gen::register(rng, &draft);
-                self.register(rng, &bytes, &sheet, &reg);
-            }
+        for _ in 0..1 + rng.below(3) {
+            let reg = gen::register(rng, &draft);
+            self.register(rng, &bytes, &sheet, &reg);
         }
     }
 
@@ -525,95 +500,86 @@ impl Run {
         }
         if !possible {
             self.met("sheets: impossible");
-            if HAS_RANGES {
-                self.case(rng, bytes, &Ask::Ranges, Want::Refused(8, 0));
-            }
-            if HAS_CLAIM {
-                for c in [1 + rng.below(1 + q as u64) as u32, rng.pick(&[0, q + 1, 65537, u32::MAX])] {
-                    self.case(rng, bytes, &Ask::Claim(c), Want::Refused(8, 0));
-                }
+            self.case(rng, bytes, &Ask::Ranges, Want::Refused(8, 0));
+            for c in [1 + rng.below(1 + q as u64) as u32, rng.pick(&[0, q + 1, 65537, u32::MAX])] {
+                self.case(rng, bytes, &Ask::Claim(c), Want::Refused(8, 0));
             }
             return;
         }
         self.met("sheets: possible");
-        let mut again = None;
-        if HAS_RANGES {
-            let mut reply = Vec::new();
-            let runs = arrangement(sheet, &large.up);
-            for g in 0..sheet.groups.len() {
-                let (least, greatest) = large.range(g);
-                if small.as_ref().is_some_and(|s| s.ranges[g] != (least, greatest)) {
-                    self.fail(bytes, &Ask::Ranges, 0, "the oracle's two methods differ: range");
-                }
-                match greatest {
-                    Some(end) if end == sheet.edition.greatest_end() => self.met(&greatest_end(sheet.edition)),
-                    Some(8_322_819..) => self.met(ABOVE_EDITION_1),
-                    _ => {}
-                }
-                reply.extend([18, 0, 17, 0]);
-                for x in [least, greatest.unwrap_or(u32::MAX as u64), runs[g].0, runs[g].1] {
-                    reply.extend((x as u32).to_le_bytes());
-                }
+        let mut reply = Vec::new();
+        let runs = arrangement(sheet, &large.up);
+        for g in 0..sheet.groups.len() {
+            let (least, greatest) = large.range(g);
+            if small.as_ref().is_some_and(|s| s.ranges[g] != (least, greatest)) {
+                self.fail(bytes, &Ask::Ranges, 0, "the oracle's two methods differ: range");
             }
-            let shown: Vec<(u32, u32, u16)> =
-                runs.iter().map(|r| (r.0 as u32, r.1 as u32, 0)).collect();
-            if broken_rule(sheet, &expand(&shown)) != (0, 0) {
-                self.fail(bytes, &Ask::Ranges, 0, "the oracle's arrangement doesn't fit");
+            match greatest {
+                Some(end) if end == sheet.edition.greatest_end() => self.met(&greatest_end(sheet.edition)),
+                Some(8_322_819..) => self.met(ABOVE_EDITION_1),
+                _ => {}
             }
-            // Document 02, card 13: no sets that fit have fewer members in the root, and no run leaves it.
-            let end = |r: (u64, u64)| r.0 + r.1;
-            if runs[0].1 != large.range(0).0
-                || runs.iter().any(|&r| r.1 > 0 && (r.0 < runs[0].0 || end(r) > end(runs[0])))
-            {
-                self.fail(bytes, &Ask::Ranges, 0, "the oracle's arrangement isn't the smallest");
+            reply.extend([18, 0, 17, 0]);
+            for x in [least, greatest.unwrap_or(u32::MAX as u64), runs[g].0, runs[g].1] {
+                reply.extend((x as u32).to_le_bytes());
             }
-            self.case(rng, bytes, &Ask::Ranges, Want::Bytes(reply.clone()));
-            // And with its ranges as bounds a sheet keeps its reply.
-            again = replaced(bytes, reply.chunks(20).map(|record| self.off.range(record)));
-            match &again {
-                None => self.met("replaced: an end above 65,534"),
-                Some(b) => {
-                    self.met(if b == bytes { "replaced: as it was" } else { "replaced: other bounds" });
-                    if !self.verdicts {
-                        self.of_replaced(rng, b, &Ask::Ranges, Want::Bytes(reply));
-                    }
+        }
+        let shown: Vec<(u32, u32, u16)> =
+            runs.iter().map(|r| (r.0 as u32, r.1 as u32, 0)).collect();
+        if broken_rule(sheet, &expand(&shown)) != (0, 0) {
+            self.fail(bytes, &Ask::Ranges, 0, "the oracle's arrangement doesn't fit");
+        }
+        // Document 02, card 13: no sets that fit have fewer members in the root, and no run leaves it.
+        let end = |r: (u64, u64)| r.0 + r.1;
+        if runs[0].1 != large.range(0).0
+            || runs.iter().any(|&r| r.1 > 0 && (r.0 < runs[0].0 || end(r) > end(runs[0])))
+        {
+            self.fail(bytes, &Ask::Ranges, 0, "the oracle's arrangement isn't the smallest");
+        }
+        self.case(rng, bytes, &Ask::Ranges, Want::Bytes(reply.clone()));
+        // And with its ranges as bounds a sheet keeps its reply.
+        let again = replaced(bytes, reply.chunks(20).map(|record| self.off.range(record)));
+        match &again {
+            None => self.met("replaced: an end above 65,534"),
+            Some(b) => {
+                self.met(if b == bytes { "replaced: as it was" } else { "replaced: other bounds" });
+                if !self.verdicts {
+                    self.of_replaced(rng, b, &Ask::Ranges, Want::Bytes(reply));
                 }
             }
         }
-        if HAS_CLAIM {
-            let bad = rng.pick(&[0, q + 1, q + 1, q + 2, 65537, u32::MAX]);
-            self.case(rng, bytes, &Ask::Claim(bad), Want::Refused(9, 0));
-            let few = if small.is_some() { q } else { q.min(12) };
-            let start = rng.below(q.max(1) as u64) as u32;
-            for k in 0..few {
-                let c = (start + k) % q;
-                let claim = &sheet.claims[c as usize];
-                let shown = large.shown(claim);
-                if small.as_ref().is_some_and(|s| s.shown(claim) != shown) {
-                    self.fail(bytes, &Ask::Claim(c + 1), 0, "the oracle's two methods differ");
+        let bad = rng.pick(&[0, q + 1, q + 1, q + 2, 65537, u32::MAX]);
+        self.case(rng, bytes, &Ask::Claim(bad), Want::Refused(9, 0));
+        let few = if small.is_some() { q } else { q.min(12) };
+        let start = rng.below(q.max(1) as u64) as u32;
+        for k in 0..few {
+            let c = (start + k) % q;
+            let claim = &sheet.claims[c as usize];
+            let shown = large.shown(claim);
+            if small.as_ref().is_some_and(|s| s.shown(claim) != shown) {
+                self.fail(bytes, &Ask::Claim(c + 1), 0, "the oracle's two methods differ");
+            }
+            let holds = claim.holds_by_sets() == shown;
+            let kind = claim.word();
+            let size = if small.is_some() { "small" } else if wide { OVER_128 } else { "large" };
+            let verdict = if holds { "holds" } else { "denied" };
+            self.met(&format!("claim: {kind} {verdict}, {size}"));
+            if let (false, Claim::Lists { kind: ListKind::Place, left, right }) = (shown, claim) {
+                let pair = |a: &Named, b: &Named| Claim::Lists { kind: ListKind::Place, left: vec![*a, *b], right: right.clone() };
+                if left.iter().all(|a| left.iter().all(|b| large.shown(&pair(a, b)))) {
+                    self.met(PAIRS_ONLY);
                 }
-                let holds = claim.holds_by_sets() == shown;
-                let kind = claim.word();
-                let size = if small.is_some() { "small" } else if wide { OVER_128 } else { "large" };
-                let verdict = if holds { "holds" } else { "denied" };
-                self.met(&format!("claim: {kind} {verdict}, {size}"));
-                if let (false, Claim::Lists { kind: ListKind::Place, left, right }) = (shown, claim) {
-                    let pair = |a: &Named, b: &Named| Claim::Lists { kind: ListKind::Place, left: vec![*a, *b], right: right.clone() };
-                    if left.iter().all(|a| left.iter().all(|b| large.shown(&pair(a, b)))) {
-                        self.met(PAIRS_ONLY);
-                    }
-                }
-                let want = || if shown {
-                    Want::Shown(sheet, claim)
-                } else {
-                    Want::Bytes(vec![4, 0, 18, 0, holds as u8, 0])
-                };
-                self.case(rng, bytes, &Ask::Claim(c + 1), want());
-                // The same sets fit the replaced sheet: those that its reply shows fit this one.
-                if let (0, Some(b)) = (k, &again) {
-                    self.met(&format!("replaced: {kind} {verdict}"));
-                    self.of_replaced(rng, b, &Ask::Claim(c + 1), want());
-                }
+            }
+            let want = || if shown {
+                Want::Shown(sheet, claim)
+            } else {
+                Want::Bytes(vec![4, 0, 18, 0, holds as u8, 0])
+            };
+            self.case(rng, bytes, &Ask::Claim(c + 1), want());
+            // The same sets fit the replaced sheet: those that its reply shows fit this one.
+            if let (0, Some(b)) = (k, &again) {
+                self.met(&format!("replaced: {kind} {verdict}"));
+                self.of_replaced(rng, b, &Ask::Claim(c + 1), want());
             }
         }
     }
@@ -647,68 +613,58 @@ fn wanted() -> Vec<String> {
         }
         all.push(format!("{op}: answered"));
     };
-    if HAS_RANGES {
-        refusals("ranges", &[1, 2, 3, 4, 5, 6, 7, 8, 14]);
+    refusals("ranges", &[1, 2, 3, 4, 5, 6, 7, 8, 14]);
+    refusals("claim", &[1, 2, 3, 4, 5, 6, 7, 8, 9, 14]);
+    refusals("register", &[1, 2, 3, 4, 5, 6, 7, 10, 11, 12, 13, 14, 15]);
+    for rule in 0..7 {
+        all.push(format!("register: rule {rule}"));
+        all.push(format!("register: rule {rule}, 2,040 rows or more"));
     }
-    if HAS_CLAIM {
-        refusals("claim", &[1, 2, 3, 4, 5, 6, 7, 8, 9, 14]);
+    for rule in 0..7 {
+        all.push(format!("register: joined rows, rule {rule}"));
+        all.push(format!("register: both ears, rule {rule}"));
     }
-    if HAS_REGISTER {
-        refusals("register", &[1, 2, 3, 4, 5, 6, 7, 10, 11, 12, 13, 14, 15]);
-        for rule in 0..7 {
-            all.push(format!("register: rule {rule}"));
-            all.push(format!("register: rule {rule}, 2,040 rows or more"));
-        }
-        for rule in 0..7 {
-            all.push(format!("register: joined rows, rule {rule}"));
-            all.push(format!("register: both ears, rule {rule}"));
-        }
-        for n in [10, 11, 12, 13, 15] {
-            all.push(format!("register: refusal {n} at row 2,040 or later"));
-            all.push(format!("register: refusal {n} after joined rows"));
-        }
-        // Two rows as one member can break 4 and 5 where as two they don't; as two 1, 2, 3 and 6 where as one they don't.
-        for rule in [4, 5] {
-            all.push(otherwise(rule, 0, ROW_BY_ROW));
-            all.push(otherwise(0, rule, BY_NUMBERS));
-        }
-        for rule in [1, 2, 3, 6] {
-            all.push(otherwise(0, rule, ROW_BY_ROW));
-            all.push(otherwise(rule, 0, BY_NUMBERS));
-        }
-        for n in 11..14 {
-            all.extend([then(n, 15), then(15, n)]);
-        }
-        for edition in EDITIONS {
-            all.extend((0..7).map(|rule| in_edition(edition, "rule", rule)));
-            all.extend([10, 11, 12, 13, 15].map(|n| in_edition(edition, "refusal", n)));
-            let rows = [OTHER_REGISTER, OTHER_ROW, OTHER_KIND, OTHER_LENGTH, BIT_JUST_ABOVE, BIT_LAST];
-            all.extend(rows.map(|what| under(edition, what)));
-        }
-        all.extend((1..7).map(above_128));
-        all.extend(AT_EDGES.map(held_at));
-        let rest = [
-            [THREE_ROWS, AT_WORD, AT_END, ALL_ROWS, ZERO, FALLS, BIT_IN_JOINED].as_slice(),
-            &[BOTH_JOINED, BOTH_AT_WORD, BOTH_AT_END, SIDE_FALLS, FALLS_AS_SIDE_RISES, RIGHT_THEN_LEFT, OLD_ROW, OLD_KIND],
-            &[BIT_TO_128, BIT_FROM_129],
-            &[SIDE_IN_BAD_ROW, SIDE_OF_ZERO, SIDE_FALLING, SIDE_WITH_BIT, SIDE_0, SIDE_3, SIDE_BY_HIGH_BYTE, SIDE_AT_END],
-        ];
-        all.extend(rest.concat().into_iter().map(str::to_string));
+    for n in [10, 11, 12, 13, 15] {
+        all.push(format!("register: refusal {n} at row 2,040 or later"));
+        all.push(format!("register: refusal {n} after joined rows"));
     }
-    if HAS_CLAIM {
-        for kind in ["count"].into_iter().chain(LIST_KINDS.map(ListKind::word)) {
-            for verdict in ["holds", "denied"] {
-                for size in ["small", "large"] {
-                    all.push(format!("claim: {kind} {verdict}, {size}"));
-                }
-                all.push(format!("claim: {kind} {verdict}, {OVER_128}"));
-                if HAS_RANGES {
-                    all.push(format!("replaced: {kind} {verdict}"));
-                }
+    // Two rows as one member can break 4 and 5 where as two they don't; as two 1, 2, 3 and 6 where as one they don't.
+    for rule in [4, 5] {
+        all.push(otherwise(rule, 0, ROW_BY_ROW));
+        all.push(otherwise(0, rule, BY_NUMBERS));
+    }
+    for rule in [1, 2, 3, 6] {
+        all.push(otherwise(0, rule, ROW_BY_ROW));
+        all.push(otherwise(rule, 0, BY_NUMBERS));
+    }
+    for n in 11..14 {
+        all.extend([then(n, 15), then(15, n)]);
+    }
+    for edition in EDITIONS {
+        all.extend((0..7).map(|rule| in_edition(edition, "rule", rule)));
+        all.extend([10, 11, 12, 13, 15].map(|n| in_edition(edition, "refusal", n)));
+        let rows = [OTHER_REGISTER, OTHER_ROW, OTHER_KIND, OTHER_LENGTH, BIT_JUST_ABOVE, BIT_LAST];
+        all.extend(rows.map(|what| under(edition, what)));
+    }
+    all.extend((1..7).map(above_128));
+    all.extend(AT_EDGES.map(held_at));
+    let rest = [
+        [THREE_ROWS, AT_WORD, AT_END, ALL_ROWS, ZERO, FALLS, BIT_IN_JOINED].as_slice(),
+        &[BOTH_JOINED, BOTH_AT_WORD, BOTH_AT_END, SIDE_FALLS, FALLS_AS_SIDE_RISES, RIGHT_THEN_LEFT, OLD_ROW, OLD_KIND],
+        &[BIT_TO_128, BIT_FROM_129],
+        &[SIDE_IN_BAD_ROW, SIDE_OF_ZERO, SIDE_FALLING, SIDE_WITH_BIT, SIDE_0, SIDE_3, SIDE_BY_HIGH_BYTE, SIDE_AT_END],
+    ];
+    all.extend(rest.concat().into_iter().map(str::to_string));
+    for kind in ["count"].into_iter().chain(LIST_KINDS.map(ListKind::word)) {
+        for verdict in ["holds", "denied"] {
+            for size in ["small", "large"] {
+                all.push(format!("claim: {kind} {verdict}, {size}"));
             }
+            all.push(format!("claim: {kind} {verdict}, {OVER_128}"));
+            all.push(format!("replaced: {kind} {verdict}"));
         }
-        all.push(PAIRS_ONLY.to_string());
     }
+    all.push(PAIRS_ONLY.to_string());
     for kind in 5..8 {
         for n in 3..6 {
             all.push(format!("sheets: refusal {n} at kind {kind}"));
@@ -719,21 +675,15 @@ fn wanted() -> Vec<String> {
     all.extend(BAD_GROUPS.map(of_groups));
     for edition in EDITIONS {
         all.extend([most_groups(edition), longest_label(edition), too_long(edition)]);
-        if HAS_RANGES {
-            all.push(greatest_end(edition));
-        }
+        all.push(greatest_end(edition));
     }
     let sheets = [FEW_GROUPS, GROUPS_129, ALIKE_16, ALIKE_BUT_LAST, END_ALIKE_16, BEGINS_WITH, LONG_TWICE];
     all.extend(sheets.map(str::to_string));
-    if HAS_RANGES || HAS_CLAIM {
-        all.extend([WIDE_POSSIBLE, WIDE_IMPOSSIBLE].map(str::to_string));
+    all.extend([WIDE_POSSIBLE, WIDE_IMPOSSIBLE].map(str::to_string));
+    for what in ["other bounds", "as it was", "an end above 65,534"] {
+        all.push(format!("replaced: {what}"));
     }
-    if HAS_RANGES {
-        for what in ["other bounds", "as it was", "an end above 65,534"] {
-            all.push(format!("replaced: {what}"));
-        }
-        all.push(ABOVE_EDITION_1.to_string());
-    }
+    all.push(ABOVE_EDITION_1.to_string());
     all
 }
 

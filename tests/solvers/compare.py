@@ -1,6 +1,6 @@
 """Holds the library to cvc5, z3 and GLPK: possibility, ranges, claims.
 
-    compare.py DRIVER [--seed N] [--small N] [--large N] [--operations 'ranges claim']
+    compare.py DRIVER [--seed N] [--small N] [--large N]
 
 N small sheets, of both editions by turns, and N large ones of each edition: of 20 to 128 groups and of 129 to 256.
 A disagreement prints the sheet and ends the run with status 1. A question that a solver leaves
@@ -49,27 +49,22 @@ def agree_claims(sheet, solver, ours, answers):
 class Ours:
     """What the library says of a sheet, with the sets that it shows checked."""
 
-    def __init__(self, library, sheet, operations, expand):
-        self.ranges, self.shown = None, []
-        self.possible = None
-        if 'ranges' in operations:
-            self.ranges = library.ranges(sheet)
-            self.possible = self.ranges is not None
-        if 'claim' in operations and sheet.claims:
-            said = [library.claim(sheet, i + 1) for i in range(len(sheet.claims))]
-            if self.possible is None:
-                self.possible = said[0] is not None
-            for i, v in enumerate(said):
-                if (v is not None) != self.possible:
-                    differ(sheet, 'itself', 'claim %d: possible or not' % (i + 1))
-            if self.possible:
-                self.holds, self.shown = [v[0] for v in said], [v[1] is not None for v in said]
-                for i, (_, runs) in enumerate(said):
-                    if runs is not None and (expand or sum(r[1] for r in runs) < 100000):
-                        sets = shown_sets(runs)
-                        if not fits(sheet, sets) or not may_show(sheet.claims[i], sets):
-                            differ(sheet, 'plain check', 'sets shown of claim %d: %s' % (i + 1, runs))
-                        tally[SETS_CHECKED + over(sheet)] += 1
+    def __init__(self, library, sheet, expand):
+        self.ranges = library.ranges(sheet)
+        self.possible = self.ranges is not None
+        said = [library.claim(sheet, i + 1) for i in range(len(sheet.claims))]
+        for i, v in enumerate(said):
+            if (v is not None) != self.possible:
+                differ(sheet, 'itself', 'claim %d: possible or not' % (i + 1))
+        if not self.possible:
+            return
+        self.holds, self.shown = [v[0] for v in said], [v[1] is not None for v in said]
+        for i, (_, runs) in enumerate(said):
+            if runs is not None and (expand or sum(r[1] for r in runs) < 100000):
+                sets = shown_sets(runs)
+                if not fits(sheet, sets) or not may_show(sheet.claims[i], sets):
+                    differ(sheet, 'plain check', 'sets shown of claim %d: %s' % (i + 1, runs))
+                tally[SETS_CHECKED + over(sheet)] += 1
 
 
 def with_cvc5(sheet, ours):
@@ -78,17 +73,16 @@ def with_cvc5(sheet, ours):
     model.check()
     ends = []
     if ours.possible:
-        if ours.ranges:
-            ends = list(ends_questions(sheet, ours.ranges))
-            for g, op, k, _ in ends:
-                model.check(model.end(g, op, k))
-        for c in sheet.claims if ours.shown else []:
+        ends = list(ends_questions(sheet, ours.ranges))
+        for g, op, k, _ in ends:
+            model.check(model.end(g, op, k))
+        for c in sheet.claims:
             model.check(model.shown(c))
     answers = model.answers()
     agree(sheet, name, POSSIBLE[ours.possible], ours.possible, answers.pop(0))
     for g, op, k, want in ends:
         agree(sheet, name, 'range end: group %d %s %d' % (g, op, k), want, answers.pop(0))
-    if ours.shown:
+    if ours.possible:
         agree_claims(sheet, name, ours, answers)
 
 
@@ -98,10 +92,9 @@ def with_z3(sheet, ours):
     agree(sheet, name, POSSIBLE[ours.possible], ours.possible, model.check())
     if not ours.possible:
         return
-    for g, op, k, want in ends_questions(sheet, ours.ranges or []):
+    for g, op, k, want in ends_questions(sheet, ours.ranges):
         agree(sheet, name, 'range end: group %d %s %d' % (g, op, k), want, model.end(g, op, k))
-    if ours.shown:
-        agree_claims(sheet, name, ours, claims_shown(model, Z3Sizes(sheet).marked(), sheet))
+    agree_claims(sheet, name, ours, claims_shown(model, Z3Sizes(sheet).marked(), sheet))
 
 
 def with_glpk(sheet, ours):
@@ -110,10 +103,9 @@ def with_glpk(sheet, ours):
     agree(sheet, name, POSSIBLE[ours.possible], ours.possible, model.solve())
     if not ours.possible:
         return
-    for g, r in enumerate(ours.ranges or []):
+    for g, r in enumerate(ours.ranges):
         agree(sheet, name, 'range: group %d' % (g + 1), r, model.range(g + 1))
-    if ours.shown:
-        agree_claims(sheet, name, ours, claims_shown(model, GlpkSizes(sheet, marked=True), sheet))
+    agree_claims(sheet, name, ours, claims_shown(model, GlpkSizes(sheet, marked=True), sheet))
 
 
 def main():
@@ -122,11 +114,9 @@ def main():
     options.add_argument('--seed', type=int, default=4)
     options.add_argument('--small', type=int, default=300)
     options.add_argument('--large', type=int, default=24)
-    options.add_argument('--operations', default='ranges claim')
     o = options.parse_args()
     rng = random.Random(o.seed)
     library = Library(o.driver)
-    operations = o.operations.split()
     sheets = [(s, 'small', [with_cvc5, with_z3, with_glpk]) for s in by_hand()]
     for i in range(o.small):
         n = rng.randint(1, 6)
@@ -138,9 +128,7 @@ def main():
             s = random_sheet(rng, n, 24, 12, edition)
             sheets.append((s, 'large', [with_z3, with_glpk] if i % 3 == 0 else [with_glpk]))
     for s, size, solvers in sheets:
-        ours = Ours(library, s, operations, size == 'small' and all(g[1] < 1000 for g in s.groups))
-        if ours.possible is None:
-            continue
+        ours = Ours(library, s, size == 'small' and all(g[1] < 1000 for g in s.groups))
         tally[sheets_counted(size, s.edition, ours.possible)] += 1
         for solver in solvers:
             try:
@@ -159,12 +147,10 @@ def main():
               for possible in POSSIBLE]
     models = [(Cvc5Sets, ''), (Z3Sizes, ''), (GlpkSizes, ''), (Z3Sizes, OVER), (GlpkSizes, OVER)]
     wanted += ['%s: %s%s' % (model.name, possible, size) for model, size in models for possible in POSSIBLE.values()]
-    if 'ranges' in operations:
-        wanted += ['%s: %s%s' % (model.name, 'range' if model == GlpkSizes else 'range end', size) for model, size in models]
-    if 'claim' in operations:
-        wanted += ['%s: %s%s' % (model.name, VERDICT % (kind, verdict), size) for model, size in models
-                   for kind in KINDS for verdict in ('hold', 'denied')]
-        wanted += [SETS_CHECKED, SETS_CHECKED + OVER]
+    wanted += ['%s: %s%s' % (model.name, 'range' if model == GlpkSizes else 'range end', size) for model, size in models]
+    wanted += ['%s: %s%s' % (model.name, VERDICT % (kind, verdict), size) for model, size in models
+               for kind in KINDS for verdict in ('hold', 'denied')]
+    wanted += [SETS_CHECKED, SETS_CHECKED + OVER]
     unmet = [k for k in wanted if not tally[k]]
     if unmet:
         print('never met: ' + '; '.join(unmet))

@@ -76,11 +76,9 @@ impl Table {
 
     // The register check of an empty register over all values of a two-byte field: the refusal and its record, or none.
     fn every_sheet(&mut self, what: &str, sheet: impl Fn(u16) -> Bytes, wanted: impl Fn(u16) -> Option<(u64, u64)>) {
-        if REGISTER {
-            let number = |x| wanted(x).map_or(8, |(n, r)| n * 4_294_967_296 + r);
-            let wrong: Vec<u16> = (0..=65535).filter(|&x| call(Op::Register(&[]), &sheet(x), &mut [0; 8]) != number(x)).collect();
-            self.note(&format!("every {what}"), wrong.is_empty(), format!("another answer for {wrong:?}"));
-        }
+        let number = |x| wanted(x).map_or(8, |(n, r)| n * 4_294_967_296 + r);
+        let wrong: Vec<u16> = (0..=65535).filter(|&x| call(Op::Register(&[]), &sheet(x), &mut [0; 8]) != number(x)).collect();
+        self.note(&format!("every {what}"), wrong.is_empty(), format!("another answer for {wrong:?}"));
     }
 }
 
@@ -1165,17 +1163,14 @@ fn buffers(t: &mut Table) {
         let n = g as usize;
         let bytes = [18, 0, 17, 0, 0, 0, 0, 0, 1, 0, 0, 0, 1, 0, 0, 0, 0, 0, 0, 0].repeat(n);
         for len in [0, 19, 20, 2539, 2540, 2541, 2559, 2560, 2561, 2579, 2580, 2581, 3590, 5099, 5100, 5101, 5119, 5120, 5121, 5140, 10_240] {
-            if RANGES && len < 20 * n {
+            if len < 20 * n {
                 t.turned(&format!("{what}, ranges, {len} bytes"), Op::Ranges, &s, len, 14, 0);
-            } else if RANGES {
+            } else {
                 t.written(&format!("{what}, ranges, {len} bytes"), Op::Ranges, &s, len, &bytes);
             }
         }
         let shown = 6 + 14 * n;
         for len in [0, 5, 6, 7, 8, 1783, 1784, 1785, 1797, 1798, 1799, 1811, 1812, 1813, 3575, 3576, 3577, 3589, 3590, 3591, 5120] {
-            if !CLAIM {
-                continue;
-            }
             for (c, verdict) in [(1, 1), (4, 0)] {
                 let what = format!("{what}, claim {c}, {len} bytes");
                 if len < 6 {

@@ -1,5 +1,4 @@
 // Inputs and answers written by hand from documents 01 and 02, through the exported operations.
-#![allow(unexpected_cfgs)]
 #![allow(dead_code)]
 
 mod editions;
@@ -10,11 +9,8 @@ use format::Ear;
 use std::process::exit;
 
 extern "C" {
-    #[cfg(op_ranges)]
     fn sheet_ranges(sheet: *const u8, sheet_len: usize, reply: *mut u8, reply_len: usize) -> u64;
-    #[cfg(op_claim)]
     fn sheet_claim(s: *const u8, sl: usize, claim: u32, reply: *mut u8, reply_len: usize) -> u64;
-    #[cfg(op_register)]
     fn sheet_register(
         s: *const u8,
         sl: usize,
@@ -25,9 +21,6 @@ extern "C" {
     ) -> u64;
 }
 
-const RANGES: bool = cfg!(op_ranges);
-const CLAIM: bool = cfg!(op_claim);
-const REGISTER: bool = cfg!(op_register);
 const NONE: u32 = 4_294_967_295;
 const NO_END: u16 = 65535;
 
@@ -313,18 +306,12 @@ fn lend(b: &[u8]) -> *const u8 {
     if b.is_empty() { std::ptr::null() } else { b.as_ptr() }
 }
 
-#[allow(unused_variables)]
 fn call(op: Op, sheet: &[u8], reply: &mut [u8]) -> u64 {
     let (p, n) = (if reply.is_empty() { std::ptr::null_mut() } else { reply.as_mut_ptr() }, reply.len());
     match op {
-        #[cfg(op_ranges)]
         Op::Ranges => unsafe { sheet_ranges(lend(sheet), sheet.len(), p, n) },
-        #[cfg(op_claim)]
         Op::Claim(c) => unsafe { sheet_claim(lend(sheet), sheet.len(), c, p, n) },
-        #[cfg(op_register)]
         Op::Register(r) => unsafe { sheet_register(lend(sheet), sheet.len(), lend(r), r.len(), p, n) },
-        #[allow(unreachable_patterns)]
-        _ => unreachable!(),
     }
 }
 
@@ -382,15 +369,9 @@ impl Table {
     // The same in its own edition alone.
     fn sheet_once(&mut self, what: &str, sheet: &[u8], n: u64, r: u64) {
         for len in [0, 8, 6000] {
-            if RANGES {
-                self.turned(&format!("{what} (ranges)"), Op::Ranges, sheet, len, n, r);
-            }
-            if CLAIM {
-                self.turned(&format!("{what} (claim)"), Op::Claim(1), sheet, len, n, r);
-            }
-            if REGISTER {
-                self.turned(&format!("{what} (register)"), Op::Register(&[]), sheet, len, n, r);
-            }
+            self.turned(&format!("{what} (ranges)"), Op::Ranges, sheet, len, n, r);
+            self.turned(&format!("{what} (claim)"), Op::Claim(1), sheet, len, n, r);
+            self.turned(&format!("{what} (register)"), Op::Register(&[]), sheet, len, n, r);
         }
     }
 
@@ -408,10 +389,8 @@ impl Table {
     }
 
     fn register_refused_once(&mut self, what: &str, sheet: &[u8], reg: &[u8], n: u64, r: u64) {
-        if REGISTER {
-            for len in [0, 7, 8, 50] {
-                self.turned(what, Op::Register(reg), sheet, len, n, r);
-            }
+        for len in [0, 7, 8, 50] {
+            self.turned(what, Op::Register(reg), sheet, len, n, r);
         }
     }
 
@@ -426,9 +405,6 @@ impl Table {
 
     // With buffers of these lengths; a register of edition 1 in all its forms.
     fn register_with(&mut self, what: &str, sheet: &[u8], reg: &[u8], group: u16, rule: u16, lengths: &[usize]) {
-        if !REGISTER {
-            return;
-        }
         for form in forms(sheet) {
             let reg = form.rows(reg);
             let want = framed(6, 20, &words(&[form.group(group), rule]));
@@ -445,11 +421,9 @@ impl Table {
 
     // Of all values of a two-byte field of the only row, these pass and the others are turned back by n.
     fn every(&mut self, what: &str, sheet: &[u8], row: impl Fn(u16) -> Bytes, allowed: &[u16], n: u64) {
-        if REGISTER {
-            let wanted = |x: u16| if allowed.contains(&x) { 8 } else { n * 4_294_967_296 + 1 };
-            let wrong: Vec<u16> = (0..=65535).filter(|&x| call(Op::Register(&row(x)), sheet, &mut [0; 8]) != wanted(x)).collect();
-            self.note(&format!("every {what}"), wrong.is_empty(), format!("another answer for {wrong:?}"));
-        }
+        let wanted = |x: u16| if allowed.contains(&x) { 8 } else { n * 4_294_967_296 + 1 };
+        let wrong: Vec<u16> = (0..=65535).filter(|&x| call(Op::Register(&row(x)), sheet, &mut [0; 8]) != wanted(x)).collect();
+        self.note(&format!("every {what}"), wrong.is_empty(), format!("another answer for {wrong:?}"));
     }
 
     // For each group least, greatest, first, count; a sheet of edition 1 in all its forms. The root before other groups is
@@ -468,47 +442,38 @@ impl Table {
     }
 
     fn ranges_once(&mut self, what: &str, sheet: &[u8], want: &[[u32; 4]]) {
-        if RANGES {
-            let mut bytes = Vec::new();
-            for w in want {
-                bytes.extend(framed(18, 17, &[]));
-                for x in w {
-                    bytes.extend(x.to_le_bytes());
-                }
+        let mut bytes = Vec::new();
+        for w in want {
+            bytes.extend(framed(18, 17, &[]));
+            for x in w {
+                bytes.extend(x.to_le_bytes());
             }
-            let need = bytes.len();
-            for len in [0, 6, need - 1] {
-                self.turned(&format!("{what}, {len} bytes"), Op::Ranges, sheet, len, 14, 0);
-            }
-            for len in [need, need + 1, need + 100] {
-                self.written(&format!("{what}, {len} bytes"), Op::Ranges, sheet, len, &bytes);
-            }
-            // Document 02, card 13: with its ranges as bounds the sheet has the same reply.
-            if let Some(again) = format::replaced(sheet, want.iter().map(|r| (r[0], r[1]))) {
-                self.written(&format!("{what}, ranges as bounds"), Op::Ranges, &again, need, &bytes);
-            }
+        }
+        let need = bytes.len();
+        for len in [0, 6, need - 1] {
+            self.turned(&format!("{what}, {len} bytes"), Op::Ranges, sheet, len, 14, 0);
+        }
+        for len in [need, need + 1, need + 100] {
+            self.written(&format!("{what}, {len} bytes"), Op::Ranges, sheet, len, &bytes);
+        }
+        // Document 02, card 13: with its ranges as bounds the sheet has the same reply.
+        if let Some(again) = format::replaced(sheet, want.iter().map(|r| (r[0], r[1]))) {
+            self.written(&format!("{what}, ranges as bounds"), Op::Ranges, &again, need, &bytes);
         }
     }
 
     fn impossible(&mut self, what: &str, sheet: &[u8]) {
         for Form { what: form, sheet, .. } in forms(sheet) {
             for len in [0, 6000] {
-                if RANGES {
-                    self.turned(&format!("{what}{form}"), Op::Ranges, &sheet, len, 8, 0);
-                }
-                if CLAIM {
-                    for c in [0, 1, 2, 65, 65537, NONE] {
-                        self.turned(&format!("{what}{form}, claim {c}"), Op::Claim(c), &sheet, len, 8, 0);
-                    }
+                self.turned(&format!("{what}{form}"), Op::Ranges, &sheet, len, 8, 0);
+                for c in [0, 1, 2, 65, 65537, NONE] {
+                    self.turned(&format!("{what}{form}, claim {c}"), Op::Claim(c), &sheet, len, 8, 0);
                 }
             }
         }
     }
 
     fn no_claim(&mut self, what: &str, sheet: &[u8], numbers: &[u32]) {
-        if !CLAIM {
-            return;
-        }
         for Form { what: form, sheet, .. } in forms(sheet) {
             for &c in numbers {
                 for len in [0, 5, 6, 6000] {
@@ -526,9 +491,6 @@ impl Table {
     }
 
     fn verdicts_once(&mut self, what: &str, sheet: &[u8], want: &[Verdict]) {
-        if !CLAIM {
-            return;
-        }
         let read = format::read_sheet(sheet).expect("a readable sheet");
         assert_eq!(read.claims.len(), want.len(), "{what}");
         let g = read.groups.len();

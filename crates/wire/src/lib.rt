@@ -3,3 +3,4 @@
 // Document 01, "Records of a sheet", "Registers", "Replies" and "Turned back, in checking order"; document 02, cards 1, 2, 4 and 5.
 pub mod bytes;
 pub mod edition;
+pub mod refusals;
