@@ -24,7 +24,7 @@ fn names_allowed(s: &[u8], at: usize, n: u16, names: u16) -> bool
     ensures { λ r. ⌜ r ≡ allWithin names (u16s (now (s .entry)) at n) ⌝ }
 {
     for i in 0..n {
-        let x = NameNo(bytes::word(s, at + 2 * (i as usize)));
+        let x = NameNo(bytes::u16_at(s, at + 2 * (i as usize)));
         if x.0 < 1 {
             return false;
         }
@@ -42,7 +42,7 @@ fn count_refusal(s: &[u8], at: usize, len: u16, names: u16) -> u32
     if len != 8 {
         return 3;
     }
-    if BOUND < bytes::word(s, at + 6) {
+    if BOUND < bytes::u16_at(s, at + 6) {
         return 4;
     }
     if !names_allowed(s, at + 4, 1, names) {
@@ -82,8 +82,8 @@ fn lists_refusal(s: &[u8], at: usize, len: u16, names: u16) -> u32
     if 6 + 2 * (LIST + LIST) < len {
         return 3;
     }
-    let m = bytes::word(s, at + 4);
-    let n = bytes::word(s, at + 6);
+    let m = bytes::u16_at(s, at + 4);
+    let n = bytes::u16_at(s, at + 6);
     if !lists_allowed(m, n, len) {
         return 4;
     }
@@ -112,13 +112,13 @@ pub fn take_claim(s: &[u8], at: usize, kind: u16) -> Claim
     requires { ⌜ (at + 10 ≤ length (now s)) × ((4 ≤ kind) × ((kind ≤ lastClaim) × (u16At (now s) (at + 2) ≡ kind))) ⌝ }
     ensures { λ r. ⌜ ClaimTaken (now (s .entry)) at r ⌝ }
 {
-    let a = bytes::word(s, at + 4);
-    let b = bytes::word(s, at + 6);
+    let a = bytes::u16_at(s, at + 4);
+    let b = bytes::u16_at(s, at + 6);
     if kind == 4 {
         return Claim::Count(Count {
             name: NameNo(a),
             lo: b,
-            hi: bytes::word(s, at + 8),
+            hi: bytes::u16_at(s, at + 8),
         });
     }
     Claim::Lists(Lists {

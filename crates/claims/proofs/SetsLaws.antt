@@ -18,7 +18,7 @@ use Rattle.replies.specs.Wrote.{Wrote}
 use Rattle.replies.specs.Written.{VerdictAt, ShownAt, SetsPut}
 use Rattle.replies.specs.Verdict.{verdictNumber}
 use Rattle.replies.specs.Shown.{VerdictIn, shownAt, shownFirst, shownCount, shownMark, SetsIn}
-use Rattle.replies.proofs.WroteLaws.{word-kept}
+use Rattle.replies.proofs.WroteLaws.{u16-kept}
 use Rattle.claims.specs.Decided.{Shows}
 use Rattle.claims.proofs.NamedLaws.{SpeaksUpTo}
 use Rattle.claims.proofs.ShownAlike.{shown-fits-alike, shown-witness-alike}
@@ -29,9 +29,9 @@ verdict-in e a = record { sized = a .sized; kind = a .kind; verdict = a .verdict
 
 pub verdict-kept : {l m : List ℕ} {v k : ℕ} → Wrote l verdictBytes k m → VerdictAt l v → VerdictAt m v
 verdict-kept w r = record {
-  sized = word-kept w 0 (inl (omega arith)) ∙ r .sized;
-  kind = word-kept w 2 (inl (omega arith)) ∙ r .kind;
-  verdict = word-kept w 4 (inl (omega arith)) ∙ r .verdict;
+  sized = u16-kept w 0 (inl (omega arith)) ∙ r .sized;
+  kind = u16-kept w 2 (inl (omega arith)) ∙ r .kind;
+  verdict = u16-kept w 4 (inl (omega arith)) ∙ r .verdict;
 }
 
 -- the records of a reply show what the tables show

@@ -2,7 +2,7 @@
 use tables::names::Meant;
 use tables::names::NameNo;
 use tables::names::meant_by;
-use wire::bytes::word;
+use wire::bytes::u16_at;
 ghost use mathlib.Core.Path.{_≡_};
 ghost use Prim.Native.Nat.{_+_, _<_, _≤_};
 ghost use lib.ListN.{length, take};
@@ -18,7 +18,7 @@ fn name_at(sheet: &[u8], at: usize) -> NameNo
     requires { ⌜ at + 1 < length (now sheet) ⌝ }
     ensures { λ r. ⌜ r .0 ≡ u16At (now (sheet .entry)) at ⌝ }
 {
-    NameNo(word(sheet, at))
+    NameNo(u16_at(sheet, at))
 }
 
 // What a name means, added to a list of k groups: the group, or nothing for the empty set. How many groups the list then has.

@@ -15,7 +15,7 @@ use Rattle.laws.proofs.Cases.{split, and-true}
 use Rattle.wire.specs.Bytes.{u16At}
 use Rattle.wire.specs.SheetFormat.{labelByte, labelBytes, sameLabel, nameOf, used}
 use Rattle.wire.specs.Encoding.{Bytes}
-use Rattle.wire.proofs.WideLaws.{bytesAt}
+use Rattle.wire.proofs.U64Laws.{bytesAt}
 use Rattle.wire.proofs.Sorts.{used-snoc}
 use Rattle.wire.proofs.Fields.{length-at}
 use Rattle.tables.specs.RecordsIn.{recordsIn}

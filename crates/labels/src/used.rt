@@ -29,7 +29,7 @@ fn label_hash(s: &[u8], at: usize) -> usize
     requires { ⌜ WholeName (now s) at ⌝ }
     ensures { λ r. ⌜ (r ≡ labelHash (nameOf (drop at (now (s .entry))) .label)) × (r < labelHashes) ⌝ }
 {
-    let end = at + 2 + bytes::word(s, at) as usize;
+    let end = at + 2 + bytes::u16_at(s, at) as usize;
     let mut h: usize = 0;
     for i in at + 6..end {
         h = (h * 33 + s[i] as usize) % LABEL_HASHES;

@@ -21,7 +21,7 @@ use Rattle.wire.proofs.RoundTripRecords.{fields-read, name-back, claim-back}
 use Rattle.wire.proofs.RoundTripSheet.{readable-is-encoded}
 use Rattle.meaning.specs.OfRecords.{sheetOf}
 use Rattle.replies.specs.Wrote.{Wrote}
-use Rattle.replies.proofs.WroteLaws.{wrote-then, word-kept, wrote-word, word-put}
+use Rattle.replies.proofs.WroteLaws.{wrote-then, u16-kept, wrote-u16, u16-put}
 use Rattle.range_reply.specs.Planning.{rangeLo, rangeHi, groupPlace, groupOver, writtenOver, replacedGroup, replacedFrom, replaced, EndsWithin}
 use Rattle.range_reply.proofs.Replaced.{replaced-length, fields-within}
 
@@ -53,19 +53,19 @@ over-more : {sheet out b : List ℕ} (n : ℕ) → groupBytes * suc (suc n) ≤ 
 over-more {sheet} {out} {b} n l x y w =
     let i = groupPlace (suc n) in
     let m = sets b (i + 6) (le16 (rangeLo out (suc n))) in
-    let v : Wrote b (i + 6) 2 m = wrote-word (i + 6) (rangeLo out (suc n)) refl in
-    let u : Wrote m (i + 8) 2 (sets m (i + 8) (le16 (rangeHi out (suc n)))) = wrote-word (i + 8) (rangeHi out (suc n)) refl in
+    let v : Wrote b (i + 6) 2 m = wrote-u16 (i + 6) (rangeLo out (suc n)) refl in
+    let u : Wrote m (i + 8) 2 (sets m (i + 8) (le16 (rangeHi out (suc n)))) = wrote-u16 (i + 8) (rangeHi out (suc n)) refl in
     let both : Wrote b (i + 6) 4 (groupOver out (suc n) b) = wrote-then v u (omega arith) (omega arith) (omega arith) (omega arith) in
     record {
       sized = both .sized ∙ w .sized;
       lo = λ g j k. compare-eq g (suc n)
           (λ e. let s : groupBytes * g + 6 ≡ i + 6 = omega arith in
-          rw (s, e) (word-kept u (i + 6) (inl (omega arith)) ∙ word-put b (i + 6) (rangeLo out (suc n)) refl (omega (arith, w .sized)) (omega arith)))
-          (λ e. word-kept both (groupBytes * g + 6) (inl (omega arith)) ∙ w .lo g j (omega arith));
+          rw (s, e) (u16-kept u (i + 6) (inl (omega arith)) ∙ u16-put b (i + 6) (rangeLo out (suc n)) refl (omega (arith, w .sized)) (omega arith)))
+          (λ e. u16-kept both (groupBytes * g + 6) (inl (omega arith)) ∙ w .lo g j (omega arith));
       hi = λ g j k. compare-eq g (suc n)
           (λ e. let s : groupBytes * g + 8 ≡ i + 8 = omega arith in
-          rw (s, e) (word-put m (i + 8) (rangeHi out (suc n)) refl (omega (arith, v .sized, w .sized)) (omega arith)))
-          (λ e. word-kept both (groupBytes * g + 8) (inl (omega arith)) ∙ w .hi g j (omega arith));
+          rw (s, e) (u16-put m (i + 8) (rangeHi out (suc n)) refl (omega (arith, v .sized, w .sized)) (omega arith)))
+          (λ e. u16-kept both (groupBytes * g + 8) (inl (omega arith)) ∙ w .hi g j (omega arith));
       rest = λ j h. compare-le (i + 6) j
           (λ a. compare-le (i + 10) j
           (λ c. both .over j (omega arith) ∙ w .rest j (λ g p q. h g p (omega arith)))

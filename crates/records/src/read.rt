@@ -40,14 +40,14 @@ fn frame(s: &[u8], at: usize, first: u16, last: u16) -> u16
     if left < 4 {
         return 0;
     }
-    let len = bytes::word(s, at);
+    let len = bytes::u16_at(s, at);
     if len < 2 {
         return 0;
     }
     if left - 2 < len as usize {
         return 0;
     }
-    let kind = bytes::word(s, at + 2);
+    let kind = bytes::u16_at(s, at + 2);
     if kind < first {
         return 1;
     }
@@ -90,10 +90,10 @@ pub fn read_head(s: &[u8], at: usize) -> Answer
     if len != 10 {
         return Answer::Refused(3);
     }
-    let groups = bytes::word(s, at + 6);
-    let names = bytes::word(s, at + 8);
-    let claims = bytes::word(s, at + 10);
-    let edition = bytes::word(s, at + 4);
+    let groups = bytes::u16_at(s, at + 6);
+    let names = bytes::u16_at(s, at + 8);
+    let claims = bytes::u16_at(s, at + 10);
+    let edition = bytes::u16_at(s, at + 4);
     if head_allowed(edition, groups, names, claims) {
         return Answer::Record(Record::Head(Head {
             edition: edition,
@@ -129,10 +129,10 @@ pub fn read_group(s: &[u8], at: usize, number: GroupNo) -> Answer
     if len != 10 {
         return Answer::Refused(3);
     }
-    let parent = GroupNo(bytes::word(s, at + 4));
-    let lo = bytes::word(s, at + 6);
-    let hi = bytes::word(s, at + 8);
-    let mode = bytes::word(s, at + 10);
+    let parent = GroupNo(bytes::u16_at(s, at + 4));
+    let lo = bytes::u16_at(s, at + 6);
+    let hi = bytes::u16_at(s, at + 8);
+    let mode = bytes::u16_at(s, at + 10);
     if BOUND < lo {
         return Answer::Refused(4);
     }
@@ -169,7 +169,7 @@ pub fn read_name(s: &[u8], at: usize, edition: u16, groups: u16) -> Answer
     if !label_allowed(s, at + 6, label) {
         return Answer::Refused(4);
     }
-    let group = bytes::word(s, at + 4);
+    let group = bytes::u16_at(s, at + 4);
     if groups < group {
         return Answer::Refused(5);
     }
@@ -187,7 +187,7 @@ pub fn read_claim(s: &[u8], at: usize, names: u16) -> Answer
     if len < 2 {
         return Answer::Refused(1 + len as u32);
     }
-    let kind = bytes::word(s, at + 2);
+    let kind = bytes::u16_at(s, at + 2);
     let n = body_refusal(s, at, len, kind, names);
     if n != 0 {
         return Answer::Refused(n);

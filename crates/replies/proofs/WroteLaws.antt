@@ -21,16 +21,16 @@ wrote-then p q i j x y = record {
 }
 
 -- fields of two and four bytes beside the place stay
-pub word-kept : {l m : List ℕ} {a n : ℕ} → Wrote l a n m → (i : ℕ) → (i + 2 ≤ a) ⊎ (a + n ≤ i) → u16At m i ≡ u16At l i
+pub u16-kept : {l m : List ℕ} {a n : ℕ} → Wrote l a n m → (i : ℕ) → (i + 2 ≤ a) ⊎ (a + n ≤ i) → u16At m i ≡ u16At l i
 unfolding u16At
-word-kept w i (inl h) = rw (w .under i (omega arith), w .under (i + 1) (omega arith))
-word-kept w i (inr h) = rw (w .over i (omega arith), w .over (i + 1) (omega arith))
+u16-kept w i (inl h) = rw (w .under i (omega arith), w .under (i + 1) (omega arith))
+u16-kept w i (inr h) = rw (w .over i (omega arith), w .over (i + 1) (omega arith))
 
-pub long-kept : {l m : List ℕ} {a n : ℕ} → Wrote l a n m → (i : ℕ) → (i + 4 ≤ a) ⊎ (a + n ≤ i) → u32At m i ≡ u32At l i
+pub u32-kept : {l m : List ℕ} {a n : ℕ} → Wrote l a n m → (i : ℕ) → (i + 4 ≤ a) ⊎ (a + n ≤ i) → u32At m i ≡ u32At l i
 unfolding u32At
-long-kept w i (inl h) =
+u32-kept w i (inl h) =
     rw (w .under i (omega arith), w .under (i + 1) (omega arith), w .under (i + 2) (omega arith), w .under (i + 3) (omega arith))
-long-kept w i (inr h) =
+u32-kept w i (inr h) =
     rw (w .over i (omega arith), w .over (i + 1) (omega arith), w .over (i + 2) (omega arith), w .over (i + 3) (omega arith))
 
 -- what follows the place stays
@@ -62,23 +62,23 @@ getD-sets (x ∷ vs) l i (suc k) h n =
     rw e (getD-sets vs (set l i x) (suc i) k (omega arith) (simp length-set (omega arith)))
 
 -- a stored field of two bytes, and of four
-pub wrote-word : {l m : List ℕ} (i x : ℕ) → m ≡ sets l i (le16 x) → Wrote l i 2 m
+pub wrote-u16 : {l m : List ℕ} (i x : ℕ) → m ≡ sets l i (le16 x) → Wrote l i 2 m
 unfolding le16
-wrote-word {l} {m} i x e = rw e (wrote-sets (x % 256 ∷ x / 256 % 256 ∷ []) l i)
+wrote-u16 {l} {m} i x e = rw e (wrote-sets (x % 256 ∷ x / 256 % 256 ∷ []) l i)
 
-pub word-put : (l : List ℕ) {m : List ℕ} (i x : ℕ) → m ≡ sets l i (le16 x) → i + 2 ≤ length l → x < 65536 → u16At m i ≡ x
+pub u16-put : (l : List ℕ) {m : List ℕ} (i x : ℕ) → m ≡ sets l i (le16 x) → i + 2 ≤ length l → x < 65536 → u16At m i ≡ x
 unfolding le16 u16At
-word-put l {m} i x e h k =
+u16-put l {m} i x e h k =
     let vs : List ℕ = x % 256 ∷ x / 256 % 256 ∷ [] in
     rw e (omega (arith, rw (add-zero i) at (getD-sets vs l i 0 (omega arith) (omega arith)), getD-sets vs l i 1 (omega arith) (omega arith)))
 
-pub wrote-long : {l m : List ℕ} (i x : ℕ) → m ≡ sets l i (le32 x) → Wrote l i 4 m
+pub wrote-u32 : {l m : List ℕ} (i x : ℕ) → m ≡ sets l i (le32 x) → Wrote l i 4 m
 unfolding le32
-wrote-long {l} {m} i x e = rw e (wrote-sets (x % 256 ∷ x / 256 % 256 ∷ x / 65536 % 256 ∷ x / 16777216 % 256 ∷ []) l i)
+wrote-u32 {l} {m} i x e = rw e (wrote-sets (x % 256 ∷ x / 256 % 256 ∷ x / 65536 % 256 ∷ x / 16777216 % 256 ∷ []) l i)
 
-pub long-put : (l : List ℕ) {m : List ℕ} (i x : ℕ) → m ≡ sets l i (le32 x) → i + 4 ≤ length l → x < 4294967296 → u32At m i ≡ x
+pub u32-put : (l : List ℕ) {m : List ℕ} (i x : ℕ) → m ≡ sets l i (le32 x) → i + 4 ≤ length l → x < 4294967296 → u32At m i ≡ x
 unfolding le32 u32At
-long-put l {m} i x e h k =
+u32-put l {m} i x e h k =
     let vs : List ℕ = x % 256 ∷ x / 256 % 256 ∷ x / 65536 % 256 ∷ x / 16777216 % 256 ∷ [] in
     let a : getD m i 0 ≡ getD vs 0 0 = rw e (rw (add-zero i) at (getD-sets vs l i 0 (omega arith) (omega arith))) in
     let b : getD m (i + 1) 0 ≡ getD vs 1 0 = rw e (getD-sets vs l i 1 (omega arith) (omega arith)) in

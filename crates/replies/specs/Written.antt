@@ -37,8 +37,8 @@ pub record ShownAt (out : List ℕ) (at f n m : ℕ) : Type 0 where
   pub mark : u16At out (at + 12) ≡ m
 
 -- the first n fields of two bytes
-abbrev pub WordsPut : List ℕ → ℕ → List ℕ → Type 0
-WordsPut out n ws = (i : ℕ) → i < n → u16At out (2 * i) ≡ getD ws i 0
+abbrev pub U16sPut : List ℕ → ℕ → List ℕ → Type 0
+U16sPut out n ws = (i : ℕ) → i < n → u16At out (2 * i) ≡ getD ws i 0
 
 -- every group's record of kind 17, and of kind 19; the groups are numbered from 0 here
 abbrev pub RangesPut : List ℕ → ℕ → List ℕ → List ℕ → List ℕ → Type 0

@@ -5,14 +5,14 @@ pub mod pairs;
 pub mod verdict;
 
 use crate::pairs::pack;
-use wire::bytes::put_long;
-use wire::bytes::put_word;
+use wire::bytes::put_u16;
+use wire::bytes::put_u32;
 ghost use Prim.Native.Nat.{_*_, _≤_, _+_};
 ghost use lib.ListN.{length};
 ghost use mathlib.Core.Path.{_≡_};
 ghost use Rattle.wire.specs.Limits.{answerBytes, verdictBytes, rangeBytes, shownBytes};
 ghost use Rattle.replies.specs.Reply.{call, OnceRoom};
-ghost use Rattle.replies.specs.Written.{WordsPut, AnswerAt, VerdictAt, RangeAt, ShownAt, RangesPut, SetsPut};
+ghost use Rattle.replies.specs.Written.{U16sPut, AnswerAt, VerdictAt, RangeAt, ShownAt, RangesPut, SetsPut};
 ghost use Rattle.replies.specs.Wrote.{Wrote};
 
 // Bytes of the records, length field and kind among them: kind 17, 18, 19, 20.
@@ -25,13 +25,13 @@ pub const SHOWN_BYTES: usize = 14;
 pub const ANSWER_BYTES: usize = 8;
 
 // fields of two bytes, from the front of the buffer on
-fn put_words(out: &mut [u8], words: &[u16])
-    requires { ⌜ 2 * length (now words) ≤ length (now out) ⌝ }
-    ensures kept { λ _. ⌜ Wrote (now (out .entry)) 0 (2 * length (now (words .entry))) (now (out .exit)) ⌝ }
-    ensures put { λ _. ⌜ WordsPut (now (out .exit)) (length (now (words .entry))) (now (words .entry)) ⌝ }
+fn put_u16s(out: &mut [u8], fields: &[u16])
+    requires { ⌜ 2 * length (now fields) ≤ length (now out) ⌝ }
+    ensures kept { λ _. ⌜ Wrote (now (out .entry)) 0 (2 * length (now (fields .entry))) (now (out .exit)) ⌝ }
+    ensures put { λ _. ⌜ U16sPut (now (out .exit)) (length (now (fields .entry))) (now (fields .entry)) ⌝ }
 {
-    for i in 0..words.len() {
-        put_word(out, 2 * i, words[i]);
+    for i in 0..fields.len() {
+        put_u16(out, 2 * i, fields[i]);
     }
 }
 
@@ -41,8 +41,8 @@ pub fn put_answer(out: &mut [u8], group: u16, rule: u16)
     ensures kept { λ _. ⌜ Wrote (now (out .entry)) 0 answerBytes (now (out .exit)) ⌝ }
     ensures put { λ _. ⌜ AnswerAt (now (out .exit)) group rule ⌝ }
 {
-    let words = [6, 20, group, rule];
-    put_words(out, &words);
+    let fields = [6, 20, group, rule];
+    put_u16s(out, &fields);
 }
 
 // The verdict on a claim, of kind 18.
@@ -51,8 +51,8 @@ pub fn put_verdict(out: &mut [u8], verdict: u16)
     ensures kept { λ _. ⌜ Wrote (now (out .entry)) 0 verdictBytes (now (out .exit)) ⌝ }
     ensures put { λ _. ⌜ VerdictAt (now (out .exit)) verdict ⌝ }
 {
-    let words = [4, 18, verdict];
-    put_words(out, &words);
+    let fields = [4, 18, verdict];
+    put_u16s(out, &fields);
 }
 
 // A group's range and run, of kind 17.
@@ -61,12 +61,12 @@ pub fn put_range(out: &mut [u8], at: usize, least: u32, greatest: u32, first: u3
     ensures kept { λ _. ⌜ Wrote (now (out .entry)) at rangeBytes (now (out .exit)) ⌝ }
     ensures put { λ _. ⌜ RangeAt (now (out .exit)) at least greatest first count ⌝ }
 {
-    put_word(out, at, 18);
-    put_word(out, at + 2, 17);
-    put_long(out, at + 4, least);
-    put_long(out, at + 8, greatest);
-    put_long(out, at + 12, first);
-    put_long(out, at + 16, count);
+    put_u16(out, at, 18);
+    put_u16(out, at + 2, 17);
+    put_u32(out, at + 4, least);
+    put_u32(out, at + 8, greatest);
+    put_u32(out, at + 12, first);
+    put_u32(out, at + 16, count);
 }
 
 // A group's run and mark, of kind 19.
@@ -75,11 +75,11 @@ pub fn put_shown(out: &mut [u8], at: usize, first: u32, count: u32, mark: u16)
     ensures kept { λ _. ⌜ Wrote (now (out .entry)) at shownBytes (now (out .exit)) ⌝ }
     ensures put { λ _. ⌜ ShownAt (now (out .exit)) at first count mark ⌝ }
 {
-    put_word(out, at, 12);
-    put_word(out, at + 2, 19);
-    put_long(out, at + 4, first);
-    put_long(out, at + 8, count);
-    put_word(out, at + 12, mark);
+    put_u16(out, at, 12);
+    put_u16(out, at + 2, 19);
+    put_u32(out, at + 4, first);
+    put_u32(out, at + 8, count);
+    put_u16(out, at + 12, mark);
 }
 
 // The ranges and runs of all groups. `ranges` has two numbers for each group (least, greatest), `firsts` and `counts` one.
@@ -104,7 +104,7 @@ pub fn put_ranges(out: &mut [u8], size: u16, ranges: &[u32], firsts: &[u32], cou
     }
 }
 
-fn mark_word(mark: u8) -> u16
+fn mark_field(mark: u8) -> u16
     ensures { λ r. ⌜ r ≡ mark ⌝ }
 {
     mark as u16
@@ -125,7 +125,7 @@ pub fn put_sets(out: &mut [u8], size: u16, firsts: &[u32], counts: &[u32], marks
             VERDICT_BYTES + SHOWN_BYTES * g,
             firsts[g],
             counts[g],
-            mark_word(marks[g]),
+            mark_field(marks[g]),
         );
         g += 1;
     }

@@ -12,10 +12,10 @@ use Rattle.laws.specs.Digit.{digit}
 use Rattle.laws.proofs.Cases.{compare-le}
 use Rattle.laws.proofs.Digits.{digit-low, digit-shift, digit-none, digit-some}
 use Rattle.wire.specs.Edition.{Edition, edition1, edition2, groupLimit, membershipBytes}
-use Rattle.wire.specs.Wide.{u64At}
+use Rattle.wire.specs.U64.{u64At}
 use Rattle.wire.specs.Encoding.{Bytes}
 use Rattle.wire.proofs.EditionFacts.{group-bits}
-use Rattle.wire.proofs.WideLaws.{bytesAt, u64-bytes}
+use Rattle.wire.proofs.U64Laws.{bytesAt, u64-bytes}
 use Rattle.rows.specs.RowsRead.{wordBits, rowWords, wordBytes, bitAt, WordAt, Above}
 
 -- the words of a row have a bit for each group, and are its membership bytes

@@ -84,8 +84,8 @@ fn row_framed(register: &[u8], edition: u16, at: usize, last: u64) -> RowAnswer
     requires { ⌜ (at + rowBytes (editionOf edition) ≤ length (now register)) × (u32At (now register) at ≡ rowFrame (editionOf edition)) ⌝ }
     ensures { λ r. ⌜ rowGives r ≡ frontAt (editionOf edition) (now (register .entry)) at (keyMember last) ⌝ }
 {
-    let number = bytes::long(register, at + ROW_MEMBER);
-    let side = bytes::word(register, at + ROW_SIDE);
+    let number = bytes::u32_at(register, at + ROW_MEMBER);
+    let side = bytes::u16_at(register, at + ROW_SIDE);
     if !is_side(side) {
         return RowAnswer::Refused(15);
     }
@@ -113,7 +113,7 @@ pub fn row_at(register: &[u8], edition: u16, at: usize, last: u64) -> RowAnswer
     if register.len() - whole < at {
         return no_row(register, edition, at, last);
     }
-    if bytes::long(register, at) != row_frame(edition) {
+    if bytes::u32_at(register, at) != row_frame(edition) {
         return RowAnswer::Refused(11);
     }
     row_framed(register, edition, at, last)
@@ -124,7 +124,7 @@ pub fn word_at(register: &[u8], place: usize, k: u16) -> u64
     requires { ⌜ place + wordBytes * (k + 1) ≤ length (now register) ⌝ }
     ensures { λ r. ⌜ WordAt (now (register .entry)) place k r ⌝ }
 {
-    bytes::wide(register, place + WORD_BYTES * (k as usize))
+    bytes::u64_at(register, place + WORD_BYTES * (k as usize))
 }
 
 // whether a bit of a group above `groups` is set in a word that comes after `before` groups and has such a group

@@ -1,5 +1,5 @@
 pub mod EditionFacts
-pub mod WideLaws
+pub mod U64Laws
 pub mod Ears
 pub mod Editions
 pub mod Passing

@@ -3,7 +3,7 @@ pub mod Edition
 pub mod Capacity
 pub mod Member
 pub mod Bytes
-pub mod Wide
+pub mod U64
 pub mod Record
 pub mod SheetFormat
 pub mod RegisterFormat

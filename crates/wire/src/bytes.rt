@@ -4,7 +4,7 @@ ghost use Prim.Native.Nat.{_+_, _*_, _<_};
 ghost use lib.ListN.{length};
 ghost use lib.Seq.{sets};
 ghost use Rattle.wire.specs.Bytes.{u16At, u32At, le16, le32};
-ghost use Rattle.wire.specs.Wide.{u64At};
+ghost use Rattle.wire.specs.U64.{u64At};
 
 // a byte and the one above it
 fn pair(low: u8, high: u8) -> u16
@@ -14,41 +14,41 @@ fn pair(low: u8, high: u8) -> u16
 }
 
 // a field of two bytes and the one above it
-fn pair_of_words(low: u16, high: u16) -> u32
+fn pair_of_u16s(low: u16, high: u16) -> u32
     ensures { λ r. ⌜ r ≡ low + 65536 * high ⌝ }
 {
     low as u32 + 65536 * (high as u32)
 }
 
 // a field of four bytes and the one above it
-fn pair_of_longs(low: u32, high: u32) -> u64
+fn pair_of_u32s(low: u32, high: u32) -> u64
     ensures { λ r. ⌜ r ≡ low + 4294967296 * high ⌝ }
 {
     low as u64 + 4294967296 * (high as u64)
 }
 
-pub fn word(s: &[u8], at: usize) -> u16
+pub fn u16_at(s: &[u8], at: usize) -> u16
     requires { ⌜ at + 1 < length (now s) ⌝ }
     ensures { λ r. ⌜ r ≡ u16At (now (s .entry)) at ⌝ }
 {
     pair(s[at], s[at + 1])
 }
 
-pub fn long(s: &[u8], at: usize) -> u32
+pub fn u32_at(s: &[u8], at: usize) -> u32
     requires { ⌜ at + 3 < length (now s) ⌝ }
     ensures { λ r. ⌜ r ≡ u32At (now (s .entry)) at ⌝ }
 {
-    pair_of_words(word(s, at), word(s, at + 2))
+    pair_of_u16s(u16_at(s, at), u16_at(s, at + 2))
 }
 
-pub fn wide(s: &[u8], at: usize) -> u64
+pub fn u64_at(s: &[u8], at: usize) -> u64
     requires { ⌜ at + 7 < length (now s) ⌝ }
     ensures { λ r. ⌜ r ≡ u64At (now (s .entry)) at ⌝ }
 {
-    pair_of_longs(long(s, at), long(s, at + 4))
+    pair_of_u32s(u32_at(s, at), u32_at(s, at + 4))
 }
 
-pub fn put_word(out: &mut [u8], at: usize, x: u16)
+pub fn put_u16(out: &mut [u8], at: usize, x: u16)
     requires { ⌜ at + 1 < length (now out) ⌝ }
     ensures { λ _. ⌜ now (out .exit) ≡ sets (now (out .entry)) at (le16 x) ⌝ }
 {
@@ -56,7 +56,7 @@ pub fn put_word(out: &mut [u8], at: usize, x: u16)
     out[at + 1] = (x / 256 % 256) as u8;
 }
 
-pub fn put_long(out: &mut [u8], at: usize, x: u32)
+pub fn put_u32(out: &mut [u8], at: usize, x: u32)
     requires { ⌜ at + 3 < length (now out) ⌝ }
     ensures { λ _. ⌜ now (out .exit) ≡ sets (now (out .entry)) at (le32 x) ⌝ }
 {

@@ -38,11 +38,11 @@ mul-put-shown-3 c = search needs
 shared-slice-read-put-shown-2 : tie.Need-shared-slice-read-put-shown-2 Inv-loop μ-loop
 shared-slice-read-put-shown-2 c = search needs
 
-shared-slice-read-mark-word : tie.Need-shared-slice-read-mark-word Inv-loop μ-loop
-shared-slice-read-mark-word c = search needs
+shared-slice-read-mark-field : tie.Need-shared-slice-read-mark-field Inv-loop μ-loop
+shared-slice-read-mark-field c = search needs
 
-mark-word-requires : tie.Need-mark-word-requires Inv-loop μ-loop
-mark-word-requires c κs = search needs
+mark-field-requires : tie.Need-mark-field-requires Inv-loop μ-loop
+mark-field-requires c κs = search needs
 
 put-shown-requires : tie.Need-put-shown-requires Inv-loop μ-loop
 put-shown-requires c κs = search needs
@@ -63,7 +63,7 @@ loop-again c =
         search needs,
         (
           wrote-then (i .1 .1 .0) (p .0) (omega arith) (omega arith) (omega arith) (omega arith),
-          sets-more (a .firsts .now) (a .counts .now) (a .marks .now) _ (i .1 .1 .1) (p .0) (rw (c .before .before .before .mark-word .ensures) at (p .1)),
+          sets-more (a .firsts .now) (a .counts .now) (a .marks .now) _ (i .1 .1 .1) (p .0) (rw (c .before .before .before .mark-field .ensures) at (p .1)),
         ),
       ),
     )
@@ -90,8 +90,8 @@ put-sets-spec =
     shared-slice-read-put-shown
     mul-put-shown-3
     shared-slice-read-put-shown-2
-    shared-slice-read-mark-word
-    mark-word-requires
+    shared-slice-read-mark-field
+    mark-field-requires
     put-shown-requires
     add-g
     loop-less

@@ -4,20 +4,20 @@ use borrow.Author.Needs.{needs}
 use Rattle.replies.proofs.put_verdict.Statement.{statement}
 use Rattle.replies.proofs.put_verdict.Tie as tie
 
-slice-aggregate-put-words : tie.Need-slice-aggregate-put-words
-slice-aggregate-put-words c = search needs
+slice-aggregate-put-u16s : tie.Need-slice-aggregate-put-u16s
+slice-aggregate-put-u16s c = search needs
 
-put-words-requires : tie.Need-put-words-requires
-put-words-requires c κs = search needs
+put-u16s-requires : tie.Need-put-u16s-requires
+put-u16s-requires c κs = search needs
 
 same-length : tie.Need-same-length
 same-length c = search needs
 
 returns : tie.Need-returns
 returns c =
-    let w = c .before .before .put-words .ensures in
+    let w = c .before .before .put-u16s .ensures in
     (w .0, record { sized = w .1 0 (omega arith); kind = w .1 1 (omega arith); verdict = w .1 2 (omega arith) })
 
 pub put-verdict-spec : {M : Type 1} → statement M
 put-verdict-spec =
-    tie.close (tie.spec slice-aggregate-put-words put-words-requires same-length returns)
+    tie.close (tie.spec slice-aggregate-put-u16s put-u16s-requires same-length returns)

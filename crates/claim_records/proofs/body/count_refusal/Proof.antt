@@ -22,11 +22,11 @@ returns : tie.Need-returns
 unfolding refusal claimBody claimLength
 returns c = let l = lead (c .before .before) in simp (l .0, l .1, ne-eqb _ _ (c .if1 .taken))
 
-add-word : tie.Need-add-word
-add-word c = search needs
+add-u16-at : tie.Need-add-u16-at
+add-u16-at c = search needs
 
-word-requires : tie.Need-word-requires
-word-requires c κs = search needs
+u16-at-requires : tie.Need-u16-at-requires
+u16-at-requires c κs = search needs
 
 returns-2 : tie.Need-returns-2
 unfolding refusal claimBody claimLength claimFields
@@ -36,7 +36,7 @@ returns-2 c = let l = lead (c .before .before .before .before) in
       l .0,
       l .1,
       eq-eqb _ _ (c .before .before .if1 .left),
-      read-at (now (a .s)) (a .at) 6 _ (c .before .word .ensures),
+      read-at (now (a .s)) (a .at) 6 _ (c .before .u16-at .ensures),
       lt-leb _ _ (c .if2 .taken),
     )
 
@@ -57,7 +57,7 @@ past c =
       l .0,
       l .1,
       eq-eqb _ _ (c .before .before .before .if1 .left),
-      read-at (now (a .s)) (a .at) 6 _ (c .before .before .word .ensures),
+      read-at (now (a .s)) (a .at) 6 _ (c .before .before .u16-at .ensures),
       le-leb _ _ (c .before .if2 .left),
       field-at (now (a .s)) (a .at) 4,
       sym (c .names-allowed .ensures),
@@ -74,8 +74,8 @@ count-refusal-spec =
     tie.close
     (tie.spec
     returns
-    add-word
-    word-requires
+    add-u16-at
+    u16-at-requires
     returns-2
     add-names-allowed
     names-allowed-requires

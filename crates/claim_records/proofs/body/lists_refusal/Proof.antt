@@ -31,7 +31,7 @@ allowed : (c : tie.Else4) → c .before .lists-allowed .result ≡ true
 allowed c = not-false (c .before .lists-allowed .result) (c .if4 .left)
 
 -- m and n give the length
-ends : (c : tie.Else4) → 6 + 2 * (c .before .before .before .word .result + c .before .before .word2 .result)
+ends : (c : tie.Else4) → 6 + 2 * (c .before .before .before .u16-at .result + c .before .before .u16-at2 .result)
     ≡ c .before .before .before .before .before .before .before .before .args .len
 ends c = lists-end _ _ _ (sym (c .before .lists-allowed .ensures) ∙ allowed c)
 
@@ -39,8 +39,8 @@ ends c = lists-end _ _ _ (sym (c .before .lists-allowed .ensures) ∙ allowed c)
 past : (c : tie.After-lists-allowed) → let a = c .before .before .before .before .before .before .before .args in let s = now (a .s) in
     refusal (claimBody (a .names) (drop (a .at) s))
     ≡ cond (c .lists-allowed .result)
-    (cond (allWithin (a .names) (u16s s (a .at + 8) (c .before .before .word .result))
-    && allWithin (a .names) (u16s s (a .at + 8 + 2 * c .before .before .word .result) (c .before .word2 .result))) 0 5) 4
+    (cond (allWithin (a .names) (u16s s (a .at + 8) (c .before .before .u16-at .result))
+    && allWithin (a .names) (u16s s (a .at + 8 + 2 * c .before .before .u16-at .result) (c .before .u16-at2 .result))) 0 5) 4
 unfolding refusal claimBody claimLength claimFields claimNames leftOf rightOf
 past c =
     let l = lead (c .before .before .before .before .before .before .before) in
@@ -52,11 +52,11 @@ past c =
       eq-eqb _ _ (c .before .before .before .before .before .if1 .left),
       le-leb _ _ (c .before .before .before .before .if2 .left),
       le-leb _ _ (c .before .before .before .if3 .left),
-      read-at s (a .at) 4 _ (c .before .before .word .ensures),
-      read-at s (a .at) 6 _ (c .before .word2 .ensures),
+      read-at s (a .at) 4 _ (c .before .before .u16-at .ensures),
+      read-at s (a .at) 6 _ (c .before .u16-at2 .ensures),
       sym (c .lists-allowed .ensures),
       fields-at,
-      sym (add-assoc (a .at) 8 (2 * c .before .before .word .result)),
+      sym (add-assoc (a .at) 8 (2 * c .before .before .u16-at .result)),
     )
 
 returns : tie.Need-returns
@@ -82,17 +82,17 @@ unfolding refusal claimBody claimLength
 returns-3 c = let l = lead (c .before .before .before .before) in
     simp (l .0, l .1, eq-eqb _ _ (c .before .before .if1 .left), le-leb _ _ (c .before .if2 .left), lt-leb _ _ (c .if3 .taken))
 
-add-word : tie.Need-add-word
-add-word c = search needs
+add-u16-at : tie.Need-add-u16-at
+add-u16-at c = search needs
 
-word-requires : tie.Need-word-requires
-word-requires c κs = search needs
+u16-at-requires : tie.Need-u16-at-requires
+u16-at-requires c κs = search needs
 
-add-word-2 : tie.Need-add-word-2
-add-word-2 c = search needs
+add-u16-at-2 : tie.Need-add-u16-at-2
+add-u16-at-2 c = search needs
 
-word-requires-2 : tie.Need-word-requires-2
-word-requires-2 c κs = search needs
+u16-at-requires-2 : tie.Need-u16-at-requires-2
+u16-at-requires-2 c κs = search needs
 
 lists-allowed-requires : tie.Need-lists-allowed-requires
 lists-allowed-requires c κs = search needs
@@ -157,10 +157,10 @@ lists-refusal-spec =
     mul-if3
     add-if3-2
     returns-3
-    add-word
-    word-requires
-    add-word-2
-    word-requires-2
+    add-u16-at
+    u16-at-requires
+    add-u16-at-2
+    u16-at-requires-2
     lists-allowed-requires
     returns-4
     add-names-allowed

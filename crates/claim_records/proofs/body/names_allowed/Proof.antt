@@ -19,26 +19,26 @@ abbrev μ-loop : tie.MeasureT-loop
 loop-holds : tie.Need-loop-holds Inv-loop μ-loop
 loop-holds c = (search needs, simp (mul-zero, add-zero, sub-zero))
 
-cast-word : tie.Need-cast-word Inv-loop μ-loop
-cast-word c = search needs
+cast-u16-at : tie.Need-cast-u16-at Inv-loop μ-loop
+cast-u16-at c = search needs
 
-mul-word : tie.Need-mul-word Inv-loop μ-loop
-mul-word c = search needs
+mul-u16-at : tie.Need-mul-u16-at Inv-loop μ-loop
+mul-u16-at c = search needs
 
-add-word : tie.Need-add-word Inv-loop μ-loop
-add-word c = search needs
+add-u16-at : tie.Need-add-u16-at Inv-loop μ-loop
+add-u16-at c = search needs
 
-word-requires : tie.Need-word-requires Inv-loop μ-loop
-word-requires c κs = search needs
+u16-at-requires : tie.Need-u16-at-requires Inv-loop μ-loop
+u16-at-requires c κs = search needs
 
 returns : tie.Need-returns Inv-loop μ-loop
 returns c = let a = c .before .before .before .before .before .before .args in
-    sym (within-low (now (a .s)) (a .names) (a .at) (a .n) _ (omega arith) _ (c .before .before .word .ensures) (c .if1 .taken))
+    sym (within-low (now (a .s)) (a .names) (a .at) (a .n) _ (omega arith) _ (c .before .before .u16-at .ensures) (c .if1 .taken))
     ∙ c .before .before .before .before .loop .inv .1
 
 returns-2 : tie.Need-returns-2 Inv-loop μ-loop
 returns-2 c = let a = c .before .before .before .before .before .before .before .before .args in
-    sym (within-high (now (a .s)) (a .names) (a .at) (a .n) _ (omega arith) _ (c .before .before .before .before .word .ensures)
+    sym (within-high (now (a .s)) (a .names) (a .at) (a .n) _ (omega arith) _ (c .before .before .before .before .u16-at .ensures)
     (c .before .before .if1 .left) (c .if2 .taken)) ∙ c .before .before .before .before .before .before .loop .inv .1
 
 add-i : tie.Need-add-i Inv-loop μ-loop
@@ -51,7 +51,7 @@ loop-again : tie.Need-loop-again Inv-loop μ-loop
 loop-again c = let a = c .before .before .before .before .before .before .before .before .args in (
   search needs,
   sym (within-pass (now (a .s)) (a .names) (a .at) (a .n) _ (omega arith) _
-      (c .before .before .before .before .word .ensures) (c .before .before .if1 .left) (c .if2 .left)) ∙ c .before .before .before .before .before .before .loop .inv .1,
+      (c .before .before .before .before .u16-at .ensures) (c .before .before .if1 .left) (c .if2 .left)) ∙ c .before .before .before .before .before .before .loop .inv .1,
 )
 
 returns-3 : tie.Need-returns-3 Inv-loop μ-loop
@@ -64,10 +64,10 @@ names-allowed-spec =
     Inv-loop
     μ-loop
     loop-holds
-    cast-word
-    mul-word
-    add-word
-    word-requires
+    cast-u16-at
+    mul-u16-at
+    add-u16-at
+    u16-at-requires
     returns
     returns-2
     add-i

@@ -8,7 +8,7 @@ use native.Mathlib.Omega.{arith}
 use denote.Ref.{now}
 use lib.ListN.{getD}
 use lib.Dec.{eqb}
-use Rattle.wire.proofs.WideLaws.{u8-bytes}
+use Rattle.wire.proofs.U64Laws.{u8-bytes}
 use Rattle.labels.proofs.Strings.{alike, same-none, unlike-longer, alike-last}
 use Rattle.labels.proofs.same.same_bytes.Statement.{statement}
 use Rattle.labels.proofs.same.same_bytes.Tie as tie
@@ -19,14 +19,14 @@ Inv-loop s a b n i₀ i = (i ≤ n) × (alike s a b i ≡ true)
 abbrev μ-loop : tie.MeasureT-loop
 μ-loop s a b n i₀ i = n - i
 
-same-wides-requires : tie.Need-same-wides-requires Inv-loop μ-loop
-same-wides-requires c κs = search needs
+same-by-u64-requires : tie.Need-same-by-u64-requires Inv-loop μ-loop
+same-by-u64-requires c κs = search needs
 
 returns : tie.Need-returns Inv-loop μ-loop
 returns c = search needs
 
-same-longs-requires : tie.Need-same-longs-requires Inv-loop μ-loop
-same-longs-requires c κs = search needs
+same-by-u32-requires : tie.Need-same-by-u32-requires Inv-loop μ-loop
+same-by-u32-requires c κs = search needs
 
 returns-2 : tie.Need-returns-2 Inv-loop μ-loop
 returns-2 c = search needs
@@ -82,9 +82,9 @@ same-bytes-spec =
     (tie.spec
     Inv-loop
     μ-loop
-    same-wides-requires
+    same-by-u64-requires
     returns
-    same-longs-requires
+    same-by-u32-requires
     returns-2
     loop-holds
     add-if3

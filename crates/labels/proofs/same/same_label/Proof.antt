@@ -9,11 +9,11 @@ use borrow.Author.Needs.{needs}
 use Rattle.labels.proofs.same.same_label.Statement.{statement}
 use Rattle.labels.proofs.same.same_label.Tie as tie
 
-word-requires : tie.Need-word-requires
-word-requires c κs = search needs
+u16-at-requires : tie.Need-u16-at-requires
+u16-at-requires c κs = search needs
 
-word-requires-2 : tie.Need-word-requires-2
-word-requires-2 c κs = search needs
+u16-at-requires-2 : tie.Need-u16-at-requires-2
+u16-at-requires-2 c κs = search needs
 
 returns : tie.Need-returns
 returns c = let a = c .before .before .before .before .args in
@@ -41,16 +41,16 @@ same-bytes-requires c κs = search needs
 returns-2 : tie.Need-returns-2
 returns-2 c = let a = c .before .before .before .before .before .args in
     let s = now (a .s) in
-    let n : u16At s (a .b) ≡ c .before .before .before .word .result = sym (c .before .before .word2 .ensures)
+    let n : u16At s (a .b) ≡ c .before .before .before .u16-at .result = sym (c .before .before .u16-at2 .ensures)
     ∙ c .before .if1 .left in
-    c .same-bytes .ensures ∙ sym (simp (label-at s (a .a), label-at s (a .b), n, sym (c .before .before .before .word .ensures)))
+    c .same-bytes .ensures ∙ sym (simp (label-at s (a .a), label-at s (a .b), n, sym (c .before .before .before .u16-at .ensures)))
 
 pub same-label-spec : {M : Type 1} → statement M
 same-label-spec =
     tie.close
     (tie.spec
-    word-requires
-    word-requires-2
+    u16-at-requires
+    u16-at-requires-2
     returns
     add-same-bytes
     add-same-bytes-2

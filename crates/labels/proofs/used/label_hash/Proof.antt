@@ -21,8 +21,8 @@ abbrev μ-loop : tie.MeasureT-loop
 add-end : tie.Need-add-end Inv-loop μ-loop
 add-end c = search needs
 
-word-requires : tie.Need-word-requires Inv-loop μ-loop
-word-requires c κs = search needs
+u16-at-requires : tie.Need-u16-at-requires Inv-loop μ-loop
+u16-at-requires c κs = search needs
 
 cast-end : tie.Need-cast-end Inv-loop μ-loop
 cast-end c = search needs
@@ -74,7 +74,7 @@ label-hash-spec =
     Inv-loop
     μ-loop
     add-end
-    word-requires
+    u16-at-requires
     cast-end
     add-end-2
     add-i

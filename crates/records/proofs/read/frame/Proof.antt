@@ -13,8 +13,8 @@ sub-left c = search needs
 returns : tie.Need-returns
 returns c = let a = c .before .before .args in framed-none (now (a .s)) (a .at) (c .before .before .pre) (λ h k. omega arith)
 
-word-requires : tie.Need-word-requires
-word-requires c κs = search needs
+u16-at-requires : tie.Need-u16-at-requires
+u16-at-requires c κs = search needs
 
 returns-2 : tie.Need-returns-2
 returns-2 c = let a = c .before .before .before .before .args in
@@ -30,24 +30,24 @@ returns-3 : tie.Need-returns-3
 returns-3 c = let a = c .before .before .before .before .before .args in
     framed-none (now (a .s)) (a .at) (c .before .before .before .before .before .pre) (λ h k. omega arith)
 
-add-word : tie.Need-add-word
-add-word c = search needs
+add-u16-at : tie.Need-add-u16-at
+add-u16-at c = search needs
 
-word-requires-2 : tie.Need-word-requires-2
-word-requires-2 c κs = search needs
+u16-at-requires-2 : tie.Need-u16-at-requires-2
+u16-at-requires-2 c κs = search needs
 
 returns-4 : tie.Need-returns-4
 returns-4 c = let a = c .before .before .before .before .before .before .before .args in
-    framed-other (now (a .s)) (a .at) _ (c .before .word2 .ensures) (omega arith) (omega arith) (simp (lt-leb _ _ (c .if4 .taken)))
+    framed-other (now (a .s)) (a .at) _ (c .before .u16-at2 .ensures) (omega arith) (omega arith) (simp (lt-leb _ _ (c .if4 .taken)))
 
 returns-5 : tie.Need-returns-5
 returns-5 c = let a = c .before .before .before .before .before .before .before .before .args in
-    framed-other (now (a .s)) (a .at) _ (c .before .before .word2 .ensures) (omega arith) (omega arith)
+    framed-other (now (a .s)) (a .at) _ (c .before .before .u16-at2 .ensures) (omega arith) (omega arith)
     (simp (le-leb _ _ (c .before .if4 .left), lt-leb _ _ (c .if5 .taken)))
 
 returns-6 : tie.Need-returns-6
 returns-6 c = let a = c .before .before .before .before .before .before .before .before .args in
-    framed-some (now (a .s)) (a .at) _ _ (c .before .before .before .before .before .word .ensures) (c .before .before .word2 .ensures)
+    framed-some (now (a .s)) (a .at) _ _ (c .before .before .before .before .before .u16-at .ensures) (c .before .before .u16-at2 .ensures)
     (omega arith) (omega arith) (c .before .if4 .left) (c .if5 .left)
 
 pub frame-spec : {M : Type 1} → statement M
@@ -56,13 +56,13 @@ frame-spec =
     (tie.spec
     sub-left
     returns
-    word-requires
+    u16-at-requires
     returns-2
     sub-if3
     cast-if3
     returns-3
-    add-word
-    word-requires-2
+    add-u16-at
+    u16-at-requires-2
     returns-4
     returns-5
     returns-6)

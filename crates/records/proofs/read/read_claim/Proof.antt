@@ -20,10 +20,10 @@ use Rattle.records.proofs.read.read_claim.Tie as tie
 led : (c : tie.Else1) → let a = c .before .before .before .args in Led (now (a .s)) (a .at) 4 lastClaim (c .before .frame .result)
 led c = frame-led (c .before .before .before .pre) (c .before .frame .ensures) (c .if1 .left)
 
-kinds : (c : tie.After-word) → let k = c .word .result in
+kinds : (c : tie.After-u16-at) → let k = c .u16-at .result in
     (4 ≤ k) × ((k ≤ lastClaim) × (u16At (now (c .before .before .before .before .args .s)) (c .before .before .before .before .args .at + 2) ≡ k))
 kinds c = let w = led (c .before) in let a = c .before .before .before .before .args in
-    let e = read-at (now (a .s)) (a .at) 2 _ (c .word .ensures) in (omega arith, (omega arith, sym (c .word .ensures)))
+    let e = read-at (now (a .s)) (a .at) 2 _ (c .u16-at .ensures) in (omega arith, (omega arith, sym (c .u16-at .ensures)))
 
 passes : (c : tie.Else2) → let a = c .before .before .before .before .before .before .args in
     refusal (claimTests (a .names) [] (drop (a .at) (now (a .s)))) ≡ 0
@@ -43,11 +43,11 @@ unfolding refusal claimTests
 returns c = claim-refused (λ z. omega arith) (frame-refused (c .before .before .before .pre) (c .before .frame .ensures) (c .if1 .taken)
     (λ e z. simp (e, z)) (λ e k z. simp (e, k, z)))
 
-add-word : tie.Need-add-word
-add-word c = search needs
+add-u16-at : tie.Need-add-u16-at
+add-u16-at c = search needs
 
-word-requires : tie.Need-word-requires
-word-requires c κs = search needs
+u16-at-requires : tie.Need-u16-at-requires
+u16-at-requires c κs = search needs
 
 body-refusal-requires : tie.Need-body-refusal-requires
 body-refusal-requires c κs = let k = kinds c in (led (c .before) .whole, (k .0, k .1 .1))
@@ -69,8 +69,8 @@ read-claim-spec =
     cast-t8
     add-t9
     returns
-    add-word
-    word-requires
+    add-u16-at
+    u16-at-requires
     body-refusal-requires
     returns-2
     take-claim-requires

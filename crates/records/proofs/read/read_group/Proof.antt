@@ -44,29 +44,29 @@ unfolding refusal groupTests
 returns-2 c = λ gs e. let w = frame-led (c .before .before .before .before .pre) (c .before .before .frame .ensures) (c .before .if1 .left) in
     answer-refused (λ z. omega arith) (simp (w .frame, led-kind w, whole-length _ _ _ (w .whole), ne-eqb _ _ (c .if2 .taken)))
 
-add-word : tie.Need-add-word
-add-word c = search needs
+add-u16-at : tie.Need-add-u16-at
+add-u16-at c = search needs
 
-word-requires : tie.Need-word-requires
-word-requires c κs = search needs
+u16-at-requires : tie.Need-u16-at-requires
+u16-at-requires c κs = search needs
 
-add-word-2 : tie.Need-add-word-2
-add-word-2 c = search needs
+add-u16-at-2 : tie.Need-add-u16-at-2
+add-u16-at-2 c = search needs
 
-word-requires-2 : tie.Need-word-requires-2
-word-requires-2 c κs = search needs
+u16-at-requires-2 : tie.Need-u16-at-requires-2
+u16-at-requires-2 c κs = search needs
 
-add-word-3 : tie.Need-add-word-3
-add-word-3 c = search needs
+add-u16-at-3 : tie.Need-add-u16-at-3
+add-u16-at-3 c = search needs
 
-word-requires-3 : tie.Need-word-requires-3
-word-requires-3 c κs = search needs
+u16-at-requires-3 : tie.Need-u16-at-requires-3
+u16-at-requires-3 c κs = search needs
 
-add-word-4 : tie.Need-add-word-4
-add-word-4 c = search needs
+add-u16-at-4 : tie.Need-add-u16-at-4
+add-u16-at-4 c = search needs
 
-word-requires-4 : tie.Need-word-requires-4
-word-requires-4 c κs = search needs
+u16-at-requires-4 : tie.Need-u16-at-requires-4
+u16-at-requires-4 c κs = search needs
 
 returns-3 : tie.Need-returns-3
 unfolding refusal groupTests
@@ -74,7 +74,7 @@ returns-3 c = λ gs e.
     let l = lead (c .before .before .before .before .before) in
     let a = c .before .before .before .before .before .before .before .before .before .args in
     let s = now (a .s) in
-    answer-refused (λ z. omega arith) (simp (l .0, l .1 .0, l .1 .1, read-at s (a .at) 6 _ (c .before .before .before .word2 .ensures), lt-leb _ _ (c .if3 .taken)))
+    answer-refused (λ z. omega arith) (simp (l .0, l .1 .0, l .1 .1, read-at s (a .at) 6 _ (c .before .before .before .u16-at2 .ensures), lt-leb _ _ (c .if3 .taken)))
 
 returns-4 : tie.Need-returns-4
 unfolding refusal groupTests
@@ -86,8 +86,8 @@ returns-4 c = λ gs e.
       l .0,
       l .1 .0,
       l .1 .1,
-      read-at s (a .at) 6 _ (c .before .before .before .before .word2 .ensures),
-      read-at s (a .at) 10 _ (c .before .before .word4 .ensures),
+      read-at s (a .at) 6 _ (c .before .before .before .before .u16-at2 .ensures),
+      read-at s (a .at) 10 _ (c .before .before .u16-at4 .ensures),
       le-leb _ _ (c .before .if3 .left),
       lt-leb _ _ (c .if4 .taken),
     ))
@@ -107,9 +107,9 @@ past c gs e =
       l .0,
       l .1 .0,
       l .1 .1,
-      read-at s (a .at) 4 _ (c .before .before .before .before .before .before .word .ensures),
-      read-at s (a .at) 6 _ (c .before .before .before .before .before .word2 .ensures),
-      read-at s (a .at) 10 _ (c .before .before .before .word4 .ensures),
+      read-at s (a .at) 4 _ (c .before .before .before .before .before .before .u16-at .ensures),
+      read-at s (a .at) 6 _ (c .before .before .before .before .before .u16-at2 .ensures),
+      read-at s (a .at) 10 _ (c .before .before .before .u16-at4 .ensures),
       le-leb _ _ (c .before .before .if3 .left),
       le-leb _ _ (c .before .if4 .left),
       e,
@@ -123,10 +123,10 @@ returns-5 c = λ gs e.
     let s = now (a .s) in
     answer-record (simp (past (c .before) gs e, c .if5 .taken)) (simp (
       lead (c .before .before .before .before .before .before .before .before) .1 .0,
-      read-at s (a .at) 4 _ (c .before .before .before .before .before .before .before .word .ensures),
-      read-at s (a .at) 6 _ (c .before .before .before .before .before .before .word2 .ensures),
-      read-at s (a .at) 8 _ (c .before .before .before .before .before .word3 .ensures),
-      read-at s (a .at) 10 _ (c .before .before .before .before .word4 .ensures),
+      read-at s (a .at) 4 _ (c .before .before .before .before .before .before .before .u16-at .ensures),
+      read-at s (a .at) 6 _ (c .before .before .before .before .before .before .u16-at2 .ensures),
+      read-at s (a .at) 8 _ (c .before .before .before .before .before .u16-at3 .ensures),
+      read-at s (a .at) 10 _ (c .before .before .before .before .u16-at4 .ensures),
     ))
 
 returns-6 : tie.Need-returns-6
@@ -141,14 +141,14 @@ read-group-spec =
     add-t11
     returns
     returns-2
-    add-word
-    word-requires
-    add-word-2
-    word-requires-2
-    add-word-3
-    word-requires-3
-    add-word-4
-    word-requires-4
+    add-u16-at
+    u16-at-requires
+    add-u16-at-2
+    u16-at-requires-2
+    add-u16-at-3
+    u16-at-requires-3
+    add-u16-at-4
+    u16-at-requires-4
     returns-3
     returns-4
     parent-allowed-requires

@@ -42,29 +42,29 @@ unfolding refusal headTests
 returns-2 c = let w = frame-led (c .before .before .before .before .pre) (c .before .before .frame .ensures) (c .before .if1 .left) in
     answer-refused (λ z. omega arith) (simp (w .frame, led-kind w, whole-length _ _ _ (w .whole), ne-eqb _ _ (c .if2 .taken)))
 
-add-word : tie.Need-add-word
-add-word c = search needs
+add-u16-at : tie.Need-add-u16-at
+add-u16-at c = search needs
 
-word-requires : tie.Need-word-requires
-word-requires c κs = search needs
+u16-at-requires : tie.Need-u16-at-requires
+u16-at-requires c κs = search needs
 
-add-word-2 : tie.Need-add-word-2
-add-word-2 c = search needs
+add-u16-at-2 : tie.Need-add-u16-at-2
+add-u16-at-2 c = search needs
 
-word-requires-2 : tie.Need-word-requires-2
-word-requires-2 c κs = search needs
+u16-at-requires-2 : tie.Need-u16-at-requires-2
+u16-at-requires-2 c κs = search needs
 
-add-word-3 : tie.Need-add-word-3
-add-word-3 c = search needs
+add-u16-at-3 : tie.Need-add-u16-at-3
+add-u16-at-3 c = search needs
 
-word-requires-3 : tie.Need-word-requires-3
-word-requires-3 c κs = search needs
+u16-at-requires-3 : tie.Need-u16-at-requires-3
+u16-at-requires-3 c κs = search needs
 
-add-word-4 : tie.Need-add-word-4
-add-word-4 c = search needs
+add-u16-at-4 : tie.Need-add-u16-at-4
+add-u16-at-4 c = search needs
 
-word-requires-4 : tie.Need-word-requires-4
-word-requires-4 c κs = search needs
+u16-at-requires-4 : tie.Need-u16-at-requires-4
+u16-at-requires-4 c κs = search needs
 
 head-allowed-requires : tie.Need-head-allowed-requires
 head-allowed-requires c κs = search needs
@@ -81,10 +81,10 @@ past c =
       l .0,
       l .1 .0,
       l .1 .1,
-      read-at s (a .at) 6 _ (c .before .before .before .before .word .ensures),
-      read-at s (a .at) 8 _ (c .before .before .before .word2 .ensures),
-      read-at s (a .at) 10 _ (c .before .before .word3 .ensures),
-      read-at s (a .at) 4 _ (c .before .word4 .ensures),
+      read-at s (a .at) 6 _ (c .before .before .before .before .u16-at .ensures),
+      read-at s (a .at) 8 _ (c .before .before .before .u16-at2 .ensures),
+      read-at s (a .at) 10 _ (c .before .before .u16-at3 .ensures),
+      read-at s (a .at) 4 _ (c .before .u16-at4 .ensures),
       sym (c .head-allowed .ensures),
     )
 
@@ -95,10 +95,10 @@ returns-3 c =
     let s = now (a .s) in
     answer-record (simp (past (c .before), c .if3 .taken)) (simp (
       lead (c .before .before .before .before .before .before) .1 .0,
-      read-at s (a .at) 6 _ (c .before .before .before .before .before .word .ensures),
-      read-at s (a .at) 8 _ (c .before .before .before .before .word2 .ensures),
-      read-at s (a .at) 10 _ (c .before .before .before .word3 .ensures),
-      read-at s (a .at) 4 _ (c .before .before .word4 .ensures),
+      read-at s (a .at) 6 _ (c .before .before .before .before .before .u16-at .ensures),
+      read-at s (a .at) 8 _ (c .before .before .before .before .u16-at2 .ensures),
+      read-at s (a .at) 10 _ (c .before .before .before .u16-at3 .ensures),
+      read-at s (a .at) 4 _ (c .before .before .u16-at4 .ensures),
     ))
 
 returns-4 : tie.Need-returns-4
@@ -113,14 +113,14 @@ read-head-spec =
     add-t10
     returns
     returns-2
-    add-word
-    word-requires
-    add-word-2
-    word-requires-2
-    add-word-3
-    word-requires-3
-    add-word-4
-    word-requires-4
+    add-u16-at
+    u16-at-requires
+    add-u16-at-2
+    u16-at-requires-2
+    add-u16-at-3
+    u16-at-requires-3
+    add-u16-at-4
+    u16-at-requires-4
     head-allowed-requires
     returns-3
     returns-4)

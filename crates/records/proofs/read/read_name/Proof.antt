@@ -82,11 +82,11 @@ returns-4 c = let l = led (c .before .before .before .before .before) in
       sym (c .before .label-allowed .ensures) ∙ not-true (c .before .label-allowed .result) (c .if4 .taken),
     ))
 
-add-word : tie.Need-add-word
-add-word c = search needs
+add-u16-at : tie.Need-add-u16-at
+add-u16-at c = search needs
 
-word-requires : tie.Need-word-requires
-word-requires c κs = search needs
+u16-at-requires : tie.Need-u16-at-requires
+u16-at-requires c κs = search needs
 
 returns-5 : tie.Need-returns-5
 unfolding refusal nameTests
@@ -102,7 +102,7 @@ returns-5 c = let l = led (c .before .before .before .before .before .before .be
       l .whole .says,
       sym (c .before .before .before .label-allowed .ensures)
           ∙ not-false (c .before .before .before .label-allowed .result) (c .before .before .if4 .left),
-      read-at (now (a .s)) (a .at) 4 _ (c .before .word .ensures),
+      read-at (now (a .s)) (a .at) 4 _ (c .before .u16-at .ensures),
       lt-leb _ _ (c .if5 .taken),
     ))
 
@@ -114,7 +114,7 @@ unfolding refusal nameTests used
 returns-6 c = let l = led (c .before .before .before .before .before .before .before .before) in
     let a = c .before .before .before .before .before .before .before .before .before .before .before .args in
     let s = now (a .s) in
-    let group = read-at s (a .at) 4 _ (c .before .before .word .ensures) in
+    let group = read-at s (a .at) 4 _ (c .before .before .u16-at .ensures) in
     answer-record
     (simp (
       l .frame,
@@ -146,8 +146,8 @@ read-name-spec =
     add-label-allowed
     label-allowed-requires
     returns-4
-    add-word
-    word-requires
+    add-u16-at
+    u16-at-requires
     returns-5
     meaning-of-requires
     returns-6)

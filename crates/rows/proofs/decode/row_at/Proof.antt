@@ -26,8 +26,8 @@ no-row-requires-2 c κs = omega (arith, c .before .before .row-bytes .ensures)
 returns-2 : tie.Need-returns-2
 returns-2 c = search needs
 
-long-requires : tie.Need-long-requires
-long-requires c κs =
+u32-at-requires : tie.Need-u32-at-requires
+u32-at-requires c κs =
     omega (arith, c .before .before .row-bytes .ensures, row-parts (editionOf (c .before .before .before .before .args .edition)))
 
 row-frame-requires : tie.Need-row-frame-requires
@@ -36,11 +36,11 @@ row-frame-requires c κs = search needs
 returns-3 : tie.Need-returns-3
 returns-3 c =
     sym (front-frame _ _ _ _ (omega (arith, c .before .before .before .before .before .row-bytes .ensures))
-    (λ e. omega (arith, c .if3 .taken, c .before .before .long .ensures, c .before .row-frame .ensures, e)))
+    (λ e. omega (arith, c .if3 .taken, c .before .before .u32-at .ensures, c .before .row-frame .ensures, e)))
 
 row-framed-requires : tie.Need-row-framed-requires
 row-framed-requires c κs =
-    (omega (arith, c .before .before .before .before .before .row-bytes .ensures), omega (arith, c .if3 .left, c .before .before .long .ensures, c .before .row-frame .ensures))
+    (omega (arith, c .before .before .before .before .before .row-bytes .ensures), omega (arith, c .if3 .left, c .before .before .u32-at .ensures, c .before .row-frame .ensures))
 
 returns-4 : tie.Need-returns-4
 returns-4 c = search needs
@@ -55,7 +55,7 @@ row-at-spec =
     sub-if2
     no-row-requires-2
     returns-2
-    long-requires
+    u32-at-requires
     row-frame-requires
     returns-3
     row-framed-requires

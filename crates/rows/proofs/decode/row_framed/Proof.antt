@@ -12,38 +12,38 @@ use Rattle.rows.proofs.RowLaws.{RowFields, front-no-side, front-nobody,
 use Rattle.rows.proofs.decode.row_framed.Statement.{statement}
 use Rattle.rows.proofs.decode.row_framed.Tie as tie
 
-add-long : tie.Need-add-long
-add-long c = search needs
+add-u32-at : tie.Need-add-u32-at
+add-u32-at c = search needs
 
-long-requires : tie.Need-long-requires
-long-requires c κs = omega (arith, row-parts (editionOf (c .before .args .edition)))
+u32-at-requires : tie.Need-u32-at-requires
+u32-at-requires c κs = omega (arith, row-parts (editionOf (c .before .args .edition)))
 
-add-word : tie.Need-add-word
-add-word c = search needs
+add-u16-at : tie.Need-add-u16-at
+add-u16-at c = search needs
 
-word-requires : tie.Need-word-requires
-word-requires c κs = omega (arith, row-parts (editionOf (c .before .before .args .edition)))
+u16-at-requires : tie.Need-u16-at-requires
+u16-at-requires c κs = omega (arith, row-parts (editionOf (c .before .before .args .edition)))
 
 is-side-requires : tie.Need-is-side-requires
 is-side-requires c κs = search needs
 
 -- the row's fields; its side is one of the two; it names somebody
-fields : (c : tie.After-word)
-    → RowFields (editionOf (c .before .before .before .args .edition)) (c .before .before .before .args .register .now) (c .before .before .before .args .at) (c .before .long .result) (c .word .result)
+fields : (c : tie.After-u16-at)
+    → RowFields (editionOf (c .before .before .before .args .edition)) (c .before .before .before .args .register .now) (c .before .before .before .args .at) (c .before .u32-at .result) (c .u16-at .result)
 fields c =
     let k = c .before .before in
     record {
       whole = k .before .pre .0;
       bytes = λ i. k .shared-slice-known .given i .fits;
       frame = k .before .pre .1;
-      numbered = c .before .long .ensures;
-      sided = c .word .ensures;
+      numbered = c .before .u32-at .ensures;
+      sided = c .u16-at .ensures;
     }
 
-sided : (c : tie.Else1) → isSide (c .before .before .word .result) ≡ true
+sided : (c : tie.Else1) → isSide (c .before .before .u16-at .result) ≡ true
 sided c = sym (c .before .is-side .ensures) ∙ not-false (c .before .is-side .result) (c .if1 .left)
 
-named : (c : tie.Else2) → 0 < c .before .before .before .before .long .result
+named : (c : tie.Else2) → 0 < c .before .before .before .before .u32-at .result
 named c = omega (arith, c .if2 .left)
 
 returns : tie.Need-returns
@@ -87,10 +87,10 @@ pub row-framed-spec : {M : Type 1} → statement M
 row-framed-spec =
     tie.close
     (tie.spec
-    add-long
-    long-requires
-    add-word
-    word-requires
+    add-u32-at
+    u32-at-requires
+    add-u16-at
+    u16-at-requires
     is-side-requires
     returns
     returns-2

@@ -1,4 +1,4 @@
--- `put_long` meets its contract: four stores are a run of four bytes.
+-- `put_u32` meets its contract: four stores are a run of four bytes.
 use Prim.Native.Nat.{ℕ, suc, _+_}
 use mathlib.Core.Path.{_≡_}
 use native.Mathlib.Numerals.{add-one}
@@ -6,8 +6,8 @@ use native.Mathlib.Omega.{arith}
 use lib.ListN.{length-set}
 use Rattle.wire.specs.Bytes.{le32}
 use borrow.Author.Needs.{needs}
-use Rattle.wire.proofs.bytes.put_long.Statement.{statement}
-use Rattle.wire.proofs.bytes.put_long.Tie as tie
+use Rattle.wire.proofs.bytes.put_u32.Statement.{statement}
+use Rattle.wire.proofs.bytes.put_u32.Tie as tie
 
 add-two : (n : ℕ) → n + 2 ≡ suc (suc n)
 add-two n = omega arith
@@ -55,8 +55,8 @@ returns : tie.Need-returns
 unfolding le32
 returns c = simp (add-one, add-two, add-three)
 
-pub put-long-spec : {M : Type 1} → statement M
-put-long-spec =
+pub put-u32-spec : {M : Type 1} → statement M
+put-u32-spec =
     tie.close
     (tie.spec
     cast-out

@@ -1,9 +1,9 @@
--- `put_word` meets its contract: two stores are a run of two bytes.
+-- `put_u16` meets its contract: two stores are a run of two bytes.
 use native.Mathlib.Numerals.{add-one}
 use Rattle.wire.specs.Bytes.{le16}
 use borrow.Author.Needs.{needs}
-use Rattle.wire.proofs.bytes.put_word.Statement.{statement}
-use Rattle.wire.proofs.bytes.put_word.Tie as tie
+use Rattle.wire.proofs.bytes.put_u16.Statement.{statement}
+use Rattle.wire.proofs.bytes.put_u16.Tie as tie
 
 cast-out : tie.Need-cast-out
 cast-out c = search needs
@@ -27,7 +27,7 @@ returns : tie.Need-returns
 unfolding le16
 returns c = simp add-one
 
-pub put-word-spec : {M : Type 1} → statement M
-put-word-spec =
+pub put-u16-spec : {M : Type 1} → statement M
+put-u16-spec =
     tie.close
     (tie.spec cast-out slice-write-out cast-out-2 add-out slice-write-out-2 same-length returns)

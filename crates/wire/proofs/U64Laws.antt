@@ -6,7 +6,7 @@ use native.Mathlib.Omega.{arith}
 use native.Mathlib.Numerals.{add-one, add-two, add-three, add-four}
 use lib.ListN.{getD}
 use Rattle.wire.specs.Bytes.{u32At}
-use Rattle.wire.specs.Wide.{u64At}
+use Rattle.wire.specs.U64.{u64At}
 
 -- n bytes from i on as one number
 unfoldable pub bytesAt : ℕ → List ℕ → ℕ → ℕ
