@@ -1,8 +1,5 @@
 pub mod Unbroken
 pub mod Agree
 pub mod Settled
-pub mod WordLaws
-pub mod JoinLaws
-pub mod RuleLaws
 pub mod ScanLaws
 pub mod CheckLaws

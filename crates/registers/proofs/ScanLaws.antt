@@ -20,13 +20,13 @@ use Rattle.columns.specs.Columns.{columnSets, WordsFor}
 use Rattle.columns.proofs.ColumnLaws.{columns-distinct}
 use Rattle.sons.specs.SonLists.{keptSons}
 use Rattle.sons.specs.SonSteps.{severalSons}
-use Rattle.registers.specs.Joins.{Joined, JoinedFor}
+use Rattle.rules.specs.Joins.{Joined, JoinedFor}
+use Rattle.rules.specs.RuleTests.{memberBreaks, SomeMember, mayBreak, countBreaks}
+use Rattle.rules.proofs.JoinLaws.{two-sons}
+use Rattle.rules.proofs.RuleLaws.{rule-first, rule-last, may, rule-numbered, by-member, member-of, may-is, may-asked, by-count, count-of}
 use Rattle.registers.specs.Tallies.{Gathered}
-use Rattle.registers.specs.RuleTests.{memberBreaks, SomeMember, mayBreak, countBreaks}
 use Rattle.registers.specs.Checked.{AnswerTo}
 use Rattle.registers.proofs.Unbroken.{unbroken-fits, fits-answered, broken-answered}
-use Rattle.registers.proofs.JoinLaws.{two-sons}
-use Rattle.registers.proofs.RuleLaws.{rule-first, rule-last, may, rule-numbered, by-member, member-of, may-is, may-asked, by-count, count-of}
 use Rattle.registers.specs.declared.check.Check.the-variants as check
 
 -- nothing is broken at a group before g

@@ -1,4 +1,2 @@
-pub mod Joins
 pub mod Tallies
-pub mod RuleTests
 pub mod Checked

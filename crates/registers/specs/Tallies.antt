@@ -1,17 +1,15 @@
 -- What the check has gathered before it looks for broken rules: the columns, each group's sons, and each group's count.
-use Prim.Native.Nat.{ℕ, _≤_, _<_, _+_, _*_}
+use Prim.Native.Nat.{ℕ, _≤_, _<_}
 use mathlib.Core.Path.{_≡_}
 use mathlib.Core.List.{List}
 use lib.ListN.{getD, length}
 use Rattle.wire.specs.Limits.{rowLimit}
-use Rattle.wire.specs.Capacity.{groupCapacity}
 use Rattle.meaning.specs.Sheet.{Sheet, Group}
 use Rattle.meaning.specs.Sets.{Sets, count}
 use Rattle.tables.specs.Groups.{groupPlaces}
 use Rattle.tables.specs.SheetIn.{sheetIn}
-use Rattle.columns.specs.Columns.{columnWords, columnsLength, columnDigit, columnSets, blockWords}
+use Rattle.columns.specs.Columns.{columnWords, columnsLength, columnDigit, columnSets}
 use Rattle.sons.specs.SonLists.{SonsListed}
-use Rattle.sons.specs.SonSteps.{SonsReadable}
 
 -- place g of the table is the count of group g
 pub record Counted {X : Type 0} (s : Sheet) (A : Sets X) (t : List ℕ) : Type 0 where
@@ -27,29 +25,3 @@ pub record Gathered (t : List ℕ) (size : ℕ) (c : List ℕ) (n : ℕ) (starts
   pub counts : Counted (sheetIn t size) (columnSets c n) u
   pub some-words : columnWords ≤ length some
   pub two-words : columnWords ≤ length two
-
--- what is asked for to join the columns of group g's sons
-pub record Joinable (c : List ℕ) (words : ℕ) (starts order : List ℕ) (g : ℕ) (some two : List ℕ) : Type 0 where
-  pub readable : SonsReadable starts order g
-  pub most : words ≤ columnWords
-  pub columns : columnsLength ≤ length c
-  pub some-words : words ≤ length some
-  pub two-words : words ≤ length two
-
--- what the test of one block asks: block and groups are within the tables
-pub record BlockAsked (c some two : List ℕ) (b g p : ℕ) : Type 0 where
-  pub columns : columnsLength ≤ length c
-  pub block : blockWords * (b + 1) ≤ columnWords
-  pub last : g ≤ groupCapacity
-  pub parent-last : p ≤ groupCapacity
-  pub some-words : blockWords * (b + 1) ≤ length some
-  pub two-words : blockWords * (b + 1) ≤ length two
-
--- what the test of one word asks: word and groups are within the tables
-pub record WordAsked (c some two : List ℕ) (w g p : ℕ) : Type 0 where
-  pub columns : columnsLength ≤ length c
-  pub word : w < columnWords
-  pub last : g ≤ groupCapacity
-  pub parent-last : p ≤ groupCapacity
-  pub some-words : w < length some
-  pub two-words : w < length two

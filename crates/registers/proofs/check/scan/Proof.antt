@@ -11,7 +11,7 @@ use Rattle.tables.proofs.SheetInLaws.{size-in, group-in, parent-below}
 use Rattle.columns.specs.Columns.{blockMembers, columnSets}
 use Rattle.tables.specs.Groups.{parentIn}
 use Rattle.registers.specs.declared.check.Check.the-variants as check
-use Rattle.registers.proofs.JoinLaws.{sons-readable}
+use Rattle.rules.proofs.JoinLaws.{sons-readable}
 use Rattle.registers.proofs.ScanLaws.{ClearGroups, ClearRules, ClearMembers, members-none, members-more, rules-none, groups-none}
 use Rattle.registers.proofs.ScanLaws.{groups-more, scan-fits, rules-member, rules-not, rules-count, scan-member, scan-count}
 use Rattle.registers.proofs.check.scan.Statement.{statement}
