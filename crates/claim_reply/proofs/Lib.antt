@@ -1,2 +1,3 @@
 pub mod Answering
 pub mod ClaimLaws
+pub mod Settled

@@ -1,2 +1,3 @@
 pub mod ClaimReply
 pub mod Asked
+pub mod Settled

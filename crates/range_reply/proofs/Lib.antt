@@ -3,3 +3,4 @@ pub mod RangesOnce
 pub mod Replaced
 pub mod InPlace
 pub mod Planned
+pub mod Settled

@@ -1,1 +1,2 @@
 pub mod RegisterLaws
+pub mod Settled

@@ -1,17 +1,14 @@
--- Bytes that two buffers have alike: a field settles its bytes, and the records of a reply settle the reply.
-use Prim.Native.Nat.{ℕ, _+_, _≤_, _<_, zero, suc, _-_, _*_}
+-- Laws of bytes that two buffers have alike: a field settles its bytes, and the records of a reply settle the reply.
+use Prim.Native.Nat.{ℕ, _+_, _≤_, zero, suc, _-_, _*_}
 use mathlib.Core.Path.{_≡_}
 use mathlib.Core.List.{List}
 use native.Mathlib.Omega.{arith}
-use lib.ListN.{getD, length, drop}
+use lib.ListN.{length, drop, getD}
 use lib.Seq.{getD-drop, ext-getD}
 use Rattle.laws.proofs.Cases.{compare-le}
 use Rattle.wire.specs.Bytes.{u16At, u32At}
 use Rattle.wire.specs.Encoding.{Bytes}
-
--- the n bytes from place i on are the same in b and c
-pub record Alike (b c : List ℕ) (i n : ℕ) : Type 0 where
-  pub at : (j : ℕ) → i ≤ j → j < i + n → getD b j 0 ≡ getD c j 0
+use Rattle.replies.specs.Alike.{Alike}
 
 pub alike-then : {b c : List ℕ} {i n m : ℕ} → Alike b c i n → Alike b c (i + n) m → Alike b c i (n + m)
 alike-then {i} {n} p q =

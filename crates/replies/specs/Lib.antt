@@ -3,3 +3,4 @@ pub mod Wrote
 pub mod Written
 pub mod Verdict
 pub mod Shown
+pub mod Alike

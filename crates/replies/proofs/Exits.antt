@@ -1,22 +1,26 @@
 -- The frame of the contracts settles every refusal: two exits of one call that both meet a part of it are the same where it
 -- refuses, and otherwise both meet what comes next.
-use Prim.Native.Nat.{ℕ}
+use Prim.Native.Nat.{ℕ, _+_}
 use mathlib.Core.Path.{_≡_, refl, sym, _∙_}
 use mathlib.Core.List.{List}
 use mathlib.Core.Logic.{_⊎_, inl, inr}
-use native.Mathlib.Omega.{arith}
 use lib.ListN.{length}
+use Rattle.replies.specs.declared.verdict.Verdict.{Verdict}
 use Rattle.laws.proofs.Cases.{compare-le}
+use Rattle.wire.specs.Limits.{verdictBytes}
 use Rattle.wire.specs.Record.{Reading, read, refused}
+use Rattle.wire.specs.Encoding.{Bytes}
 use Rattle.meaning.specs.Sheet.{Sheet}
+use Rattle.meaning.specs.Sets.{Sets}
 use Rattle.meaning.specs.Fits.{Possible}
 use Rattle.replies.specs.Reply.{call, Refused, Replied, OnceRead, OncePossible, OnceRoom}
-use Rattle.replies.proofs.Alike.{Alike, alike-all}
-use Rattle.claim_reply.specs.ClaimReply.{OnceNumbered}
+use Rattle.replies.specs.Shown.{VerdictIn, shownAt, SetsIn}
+use Rattle.replies.specs.Alike.{Alike, shownReplyBytes, SameButSets}
+use Rattle.replies.proofs.Alike.{alike-all, alike-then, u16-alike}
 
 -- E is what is claimed of the two exits, and holds where they are the same.
 module _ {before after after' : List ℕ} {r r' : ℕ} {E : Type 0} (same : (r ≡ r') × (after ≡ after') → E) where
-  refused-alike : {n k : ℕ} → Refused n k (call before r after) → Refused n k (call before r' after') → E
+  pub refused-alike : {n k : ℕ} → Refused n k (call before r after) → Refused n k (call before r' after') → E
   refused-alike v w = same (v .returned ∙ sym (w .returned), v .unchanged ∙ sym (w .unchanged))
 
   pub once-read : {A : Type 0} (x : Reading A) {P Q : A → Type 0} → OnceRead x (call before r after) P → OnceRead x (call before r' after') Q
@@ -28,15 +32,6 @@ module _ {before after after' : List ℕ} {r r' : ℕ} {E : Type 0} (same : (r �
       → OncePossible s (call before r' after') Q → (Possible s → P → Q → E) → E
   once-possible (inl p) v w on = on p (v .possible p) (w .possible p)
   once-possible (inr n) v w on = refused-alike (v .impossible n) (w .impossible n)
-
-  pub once-numbered : {k n : ℕ} {P Q : Type 0} → OnceNumbered k n (call before r after) P → OnceNumbered k n (call before r' after') Q
-      → (P → Q → E) → E
-  once-numbered {k} {n} v w on =
-      compare-le 1 k
-      (λ a. compare-le k n
-      (λ b. on (v .numbered a b) (w .numbered a b))
-      (λ b. refused-alike (v .unnumbered (inr b)) (w .unnumbered (inr b))))
-      (λ a. let z : k ≡ 0 = omega arith in refused-alike (v .unnumbered (inl z)) (w .unnumbered (inl z)))
 
   pub once-room : {n : ℕ} {P : List ℕ → Type 0} → OnceRoom n (call before r after) P → OnceRoom n (call before r' after') P
       → (Replied n (call before r after) → Replied n (call before r' after') → P after → P after' → E) → E
@@ -50,3 +45,25 @@ pub replied-alike : {before after after' : List ℕ} {r r' n : ℕ} → Replied 
     → Alike after after' 0 n → (r ≡ r') × (after ≡ after')
 replied-alike v w a =
     (v .returned ∙ sym (w .returned), alike-all (v .sized ∙ sym (w .sized)) a (v .rest ∙ sym (w .rest)))
+
+-- Claims.
+pub verdict-alike : {o : Verdict} {out out' : List ℕ} → Bytes out → Bytes out' → VerdictIn o out → VerdictIn o out'
+    → Alike out out' 0 verdictBytes
+verdict-alike x y v w =
+    alike-then (alike-then
+    (u16-alike x y 0 (v .sized) (w .sized))
+    (u16-alike x y 2 (v .kind) (w .kind)))
+    (u16-alike x y 4 (v .verdict) (w .verdict))
+
+pub sets-alike : {s : Sheet} {o : Verdict} {P : Sets ℕ → Type 0} {before after after' : List ℕ} {r r' : ℕ} → Bytes after → Bytes after'
+    → Replied (shownReplyBytes (s .size)) (call before r after) → Replied (shownReplyBytes (s .size)) (call before r' after')
+    → SetsIn s o P after → SetsIn s o P after' → SameButSets s after after'
+sets-alike x y a b v w = record {
+  sized = a .sized ∙ sym (b .sized);
+  verdict = verdict-alike x y (v .verdict) (w .verdict);
+  frames = λ g q.
+      let m = v .records g q in
+      let n = w .records g q in
+      alike-then (u16-alike x y (shownAt g) (m .sized) (n .sized)) (u16-alike x y (shownAt g + 2) (m .kind) (n .kind));
+  rest = a .rest ∙ sym (b .rest);
+}
