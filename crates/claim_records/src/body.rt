@@ -7,6 +7,9 @@ use tables::limits::BOUND;
 use tables::limits::LIST;
 use tables::names::NameNo;
 use wire::bytes;
+use wire::refusals::BAD_REFERENCE;
+use wire::refusals::FIELD_RANGE;
+use wire::refusals::WRONG_LENGTH;
 ghost use mathlib.Core.Path.{_≡_};
 ghost use Prim.Native.Nat.{_+_, _*_, _≤_};
 ghost use lib.ListN.{length, drop};
@@ -40,13 +43,13 @@ fn count_refusal(s: &[u8], at: usize, len: u16, names: u16) -> u32
     ensures { λ r. ⌜ r ≡ refusal (claimBody names (drop at (now (s .entry)))) ⌝ }
 {
     if len != 8 {
-        return 3;
+        return WRONG_LENGTH;
     }
     if BOUND < bytes::u16_at(s, at + 6) {
-        return 4;
+        return FIELD_RANGE;
     }
     if !names_allowed(s, at + 4, 1, names) {
-        return 5;
+        return BAD_REFERENCE;
     }
     0
 }
@@ -74,24 +77,24 @@ fn lists_refusal(s: &[u8], at: usize, len: u16, names: u16) -> u32
     ensures { λ r. ⌜ r ≡ refusal (claimBody names (drop at (now (s .entry)))) ⌝ }
 {
     if len % 2 != 0 {
-        return 3;
+        return WRONG_LENGTH;
     }
     if len < 10 {
-        return 3;
+        return WRONG_LENGTH;
     }
     if 6 + 2 * (LIST + LIST) < len {
-        return 3;
+        return WRONG_LENGTH;
     }
     let m = bytes::u16_at(s, at + 4);
     let n = bytes::u16_at(s, at + 6);
     if !lists_allowed(m, n, len) {
-        return 4;
+        return FIELD_RANGE;
     }
     if !names_allowed(s, at + 8, m, names) {
-        return 5;
+        return BAD_REFERENCE;
     }
     if !names_allowed(s, at + 8 + 2 * (m as usize), n, names) {
-        return 5;
+        return BAD_REFERENCE;
     }
     0
 }

@@ -19,6 +19,9 @@ use tables::limits::LABEL_TABLE;
 use tables::limits::NAME_TABLE;
 use tables::limits::PLACE_TABLE;
 use tables::names::number_meant;
+use wire::refusals::LABEL_TWICE;
+use wire::refusals::TRAILING;
+use wire::refusals::WRONG_KIND;
 ghost use mathlib.Core.Path.{_≡_};
 ghost use Prim.Native.Nat.{_+_, _*_, _≤_};
 ghost use lib.ListN.{length, drop};
@@ -66,7 +69,7 @@ fn load_groups(s: &[u8], from: usize, count: u16, groups: &mut [u16]) -> Passed
             return Passed::Refused(refusal_of(answer), number);
         };
         let Record::Group(g) = rec else {
-            return Passed::Refused(2, number);
+            return Passed::Refused(WRONG_KIND, number);
         };
         let k = GROUP_FIELDS * i as usize;
         put_four(groups, k, g.parent.0, g.lo, g.hi, g.mode);
@@ -98,10 +101,10 @@ fn load_names(
             return Passed::Refused(refusal_of(answer), number);
         };
         let Record::Name(n) = rec else {
-            return Passed::Refused(2, number);
+            return Passed::Refused(WRONG_KIND, number);
         };
         if used_label(s, labels, k, at, &mut seen) {
-            return Passed::Refused(6, number);
+            return Passed::Refused(LABEL_TWICE, number);
         }
         let means = n.means;
         names[k] = number_meant(means);
@@ -132,7 +135,7 @@ fn load_claims(
             return Passed::Refused(refusal_of(answer), number);
         };
         let Record::Claim(c) = rec else {
-            return Passed::Refused(2, number);
+            return Passed::Refused(WRONG_KIND, number);
         };
         put_claim(claims, places, i as usize, c);
         at = at + claim_bytes(c);
@@ -169,7 +172,7 @@ fn load_records(
         return turned_back(c);
     };
     if end < s.len() {
-        return Loaded::Refused(7, first + h.claims as u32);
+        return Loaded::Refused(TRAILING, first + h.claims as u32);
     }
     Loaded::Sheet(h)
 }
@@ -191,7 +194,7 @@ pub fn load_sheet(
         return Loaded::Refused(refusal_of(answer), 1);
     };
     let Record::Head(h) = rec else {
-        return Loaded::Refused(2, 1);
+        return Loaded::Refused(WRONG_KIND, 1);
     };
     load_records(sheet, h, groups, names, labels, claims, places)
 }

@@ -19,6 +19,10 @@ use wire::bytes;
 use wire::edition::group_limit;
 use wire::edition::is_edition;
 use wire::edition::label_limit;
+use wire::refusals::BAD_REFERENCE;
+use wire::refusals::CUT;
+use wire::refusals::FIELD_RANGE;
+use wire::refusals::WRONG_LENGTH;
 ghost use Prim.Native.Nat.{_+_, _≤_};
 ghost use lib.ListN.{length};
 ghost use mathlib.Core.Path.{_≡_};
@@ -85,10 +89,10 @@ pub fn read_head(s: &[u8], at: usize) -> Answer
 {
     let len = frame(s, at, 1, 1);
     if len < 2 {
-        return Answer::Refused(1 + len as u32);
+        return Answer::Refused(CUT + len as u32);
     }
     if len != 10 {
-        return Answer::Refused(3);
+        return Answer::Refused(WRONG_LENGTH);
     }
     let groups = bytes::u16_at(s, at + 6);
     let names = bytes::u16_at(s, at + 8);
@@ -102,7 +106,7 @@ pub fn read_head(s: &[u8], at: usize) -> Answer
             claims: claims,
         }));
     }
-    Answer::Refused(4)
+    Answer::Refused(FIELD_RANGE)
 }
 
 fn parent_allowed(number: GroupNo, parent: GroupNo) -> bool
@@ -124,20 +128,20 @@ pub fn read_group(s: &[u8], at: usize, number: GroupNo) -> Answer
 {
     let len = frame(s, at, 2, 2);
     if len < 2 {
-        return Answer::Refused(1 + len as u32);
+        return Answer::Refused(CUT + len as u32);
     }
     if len != 10 {
-        return Answer::Refused(3);
+        return Answer::Refused(WRONG_LENGTH);
     }
     let parent = GroupNo(bytes::u16_at(s, at + 4));
     let lo = bytes::u16_at(s, at + 6);
     let hi = bytes::u16_at(s, at + 8);
     let mode = bytes::u16_at(s, at + 10);
     if BOUND < lo {
-        return Answer::Refused(4);
+        return Answer::Refused(FIELD_RANGE);
     }
     if MODE < mode {
-        return Answer::Refused(4);
+        return Answer::Refused(FIELD_RANGE);
     }
     if parent_allowed(number, parent) {
         return Answer::Record(Record::Group(Group {
@@ -147,7 +151,7 @@ pub fn read_group(s: &[u8], at: usize, number: GroupNo) -> Answer
             mode: mode,
         }));
     }
-    Answer::Refused(5)
+    Answer::Refused(BAD_REFERENCE)
 }
 
 // The tests of a name but for the use of its label before, which the caller knows.
@@ -157,21 +161,21 @@ pub fn read_name(s: &[u8], at: usize, edition: u16, groups: u16) -> Answer
 {
     let len = frame(s, at, 3, 3);
     if len < 2 {
-        return Answer::Refused(1 + len as u32);
+        return Answer::Refused(CUT + len as u32);
     }
     if len < 5 {
-        return Answer::Refused(3);
+        return Answer::Refused(WRONG_LENGTH);
     }
     if label_limit(edition) < len - 4 {
-        return Answer::Refused(3);
+        return Answer::Refused(WRONG_LENGTH);
     }
     let label = len - 4;
     if !label_allowed(s, at + 6, label) {
-        return Answer::Refused(4);
+        return Answer::Refused(FIELD_RANGE);
     }
     let group = bytes::u16_at(s, at + 4);
     if groups < group {
-        return Answer::Refused(5);
+        return Answer::Refused(BAD_REFERENCE);
     }
     Answer::Record(Record::Name(Name {
         means: meaning_of(group),
@@ -185,7 +189,7 @@ pub fn read_claim(s: &[u8], at: usize, names: u16) -> Answer
 {
     let len = frame(s, at, 4, LAST_CLAIM);
     if len < 2 {
-        return Answer::Refused(1 + len as u32);
+        return Answer::Refused(CUT + len as u32);
     }
     let kind = bytes::u16_at(s, at + 2);
     let n = body_refusal(s, at, len, kind, names);

@@ -10,6 +10,9 @@ use crate::limits::row_bytes;
 use crate::limits::row_frame;
 use crate::limits::row_words;
 use wire::bytes;
+use wire::refusals::BAD_ROW;
+use wire::refusals::BAD_SIDE;
+use wire::refusals::MEMBER_ORDER;
 ghost use mathlib.Core.Path.{_≡_};
 ghost use Prim.Native.Nat.{_+_, _<_, _*_, _^_, _≤_};
 ghost use lib.ListN.{length};
@@ -45,7 +48,7 @@ fn no_row(register: &[u8], edition: u16, at: usize, last: u64) -> RowAnswer
     if register.len() <= at {
         return RowAnswer::End;
     }
-    RowAnswer::Refused(11)
+    RowAnswer::Refused(BAD_ROW)
 }
 
 // whether a number is that of a side
@@ -87,10 +90,10 @@ fn row_framed(register: &[u8], edition: u16, at: usize, last: u64) -> RowAnswer
     let number = bytes::u32_at(register, at + ROW_MEMBER);
     let side = bytes::u16_at(register, at + ROW_SIDE);
     if !is_side(side) {
-        return RowAnswer::Refused(15);
+        return RowAnswer::Refused(BAD_SIDE);
     }
     if number == 0 {
-        return RowAnswer::Refused(12);
+        return RowAnswer::Refused(MEMBER_ORDER);
     }
     let key = key_of(number, side);
     if last < key {
@@ -99,7 +102,7 @@ fn row_framed(register: &[u8], edition: u16, at: usize, last: u64) -> RowAnswer
     if key == last {
         return row_found(edition, at, key, true);
     }
-    RowAnswer::Refused(12)
+    RowAnswer::Refused(MEMBER_ORDER)
 }
 
 // The row at a place, behind the member with the key `last`, 0 where no row is before.
@@ -114,7 +117,7 @@ pub fn row_at(register: &[u8], edition: u16, at: usize, last: u64) -> RowAnswer
         return no_row(register, edition, at, last);
     }
     if bytes::u32_at(register, at) != row_frame(edition) {
-        return RowAnswer::Refused(11);
+        return RowAnswer::Refused(BAD_ROW);
     }
     row_framed(register, edition, at, last)
 }

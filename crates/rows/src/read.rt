@@ -1,9 +1,11 @@
 // All rows of a register, read to an end or to a refusal (10 to 13, 15).
 use crate::decode::RowAnswer;
 use crate::decode::bit_above;
-use crate::limits::ROW_TOO_MANY;
 use crate::limits::ROWS;
+use crate::limits::ROW_TOO_MANY;
 use crate::reader::row_of;
+use wire::refusals::BIT_ABOVE;
+use wire::refusals::TOO_MANY_ROWS;
 ghost use mathlib.Core.Path.{_≡_};
 ghost use Rattle.wire.specs.Edition.{editionOf};
 ghost use Rattle.wire.specs.RegisterFormat.{readRegister};
@@ -32,7 +34,7 @@ pub fn read_rows(register: &[u8], edition: u16, groups: u16) -> Rows
             }
             RowAnswer::Row(r) => {
                 if bit_above(register, edition, r.bits, groups) {
-                    return Rows::Refused(13, number);
+                    return Rows::Refused(BIT_ABOVE, number);
                 }
                 last = r.key;
                 at = r.next;
@@ -40,7 +42,7 @@ pub fn read_rows(register: &[u8], edition: u16, groups: u16) -> Rows
         }
     }
     if at < register.len() {
-        return Rows::Refused(10, ROW_TOO_MANY);
+        return Rows::Refused(TOO_MANY_ROWS, ROW_TOO_MANY);
     }
     Rows::Count(ROWS)
 }
