@@ -21,7 +21,7 @@ pub lists-end : (m n len : ℕ) → (leb 1 m && leb m 8 && leb 1 n && leb n 8 &&
 lists-end m n len e =
     eqb-true (6 + 2 * (m + n)) len (and-true (leb 1 m && leb m 8 && leb 1 n && leb n 8) (eqb (6 + 2 * (m + n)) len) e .1)
 
--- the numbers at places of two bytes
+-- the numbers at offsets of two bytes
 module _ (s : List ℕ) (names at n i : ℕ) (h : i < n) where
   within-more : allWithin names (u16s s (at + 2 * i) (n - i)) ≡
       (leb 1 (u16At s (at + 2 * i)) && leb (u16At s (at + 2 * i)) names

@@ -8,11 +8,11 @@ use Rattle.wire.specs.SheetFormat.{ClaimRecord}
 use Rattle.claim_records.specs.ClaimHeld.{claimRecord}
 use Rattle.claim_records.specs.ClaimTable.{claimIn, claimsIn}
 
-module _ (s claims places : List ℕ) (n : ℕ) where
-  pub length-claimsIn : length (claimsIn s claims places n) ≡ n
+module _ (s claims offsets : List ℕ) (n : ℕ) where
+  pub length-claimsIn : length (claimsIn s claims offsets n) ≡ n
   unfolding claimsIn
-  length-claimsIn = length-tabulate (λ k. claimRecord s (claimIn claims places k)) n
+  length-claimsIn = length-tabulate (λ k. claimRecord s (claimIn claims offsets k)) n
 
-  pub getD-claimsIn : (k : ℕ) (d : ClaimRecord) → k < n → getD (claimsIn s claims places n) k d ≡ claimRecord s (claimIn claims places k)
+  pub getD-claimsIn : (k : ℕ) (d : ClaimRecord) → k < n → getD (claimsIn s claims offsets n) k d ≡ claimRecord s (claimIn claims offsets k)
   unfolding claimsIn
-  getD-claimsIn k d l = getD-tabulate (λ k. claimRecord s (claimIn claims places k)) n k d l
+  getD-claimsIn k d l = getD-tabulate (λ k. claimRecord s (claimIn claims offsets k)) n k d l

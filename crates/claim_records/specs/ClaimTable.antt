@@ -23,39 +23,39 @@ claimNumbers (claim.Count c) = 4 ∷ c .name .0 ∷ c .lo ∷ c .hi ∷ []
 claimNumbers (claim.Lists l) = listNumber (listAs (l .kind)) ∷ l .m ∷ l .n ∷ 0 ∷ []
 
 -- where the names of lists stand, 0 for a count
-abbrev pub claimPlace : Claim → ℕ
-claimPlace (claim.Count c) = 0
-claimPlace (claim.Lists l) = l .at
+abbrev pub claimOffset : Claim → ℕ
+claimOffset (claim.Count c) = 0
+claimOffset (claim.Lists l) = l .at
 
 -- the claim at the place k of the tables
 abbrev pub listsIn : List ℕ → List ℕ → ℕ → Lists
-listsIn claims places k = record {
+listsIn claims offsets k = record {
   kind = listRead (listKindOf (getD claims (claimSlots * k) 0));
   m = getD claims (claimSlots * k + 1) 0;
   n = getD claims (claimSlots * k + 2) 0;
-  at = getD places k 0;
+  at = getD offsets k 0;
 }
 
 unfoldable pub claimIn : List ℕ → List ℕ → ℕ → Claim
-claimIn claims places k =
+claimIn claims offsets k =
     cond (eqb (getD claims (claimSlots * k) 0) 4)
     (claim.Count (record {
       name = record { 0 = getD claims (claimSlots * k + 1) 0 };
       lo = getD claims (claimSlots * k + 2) 0;
       hi = getD claims (claimSlots * k + 3) 0;
     }))
-    (claim.Lists (listsIn claims places k))
+    (claim.Lists (listsIn claims offsets k))
 
 -- the records of the first n claims, whose lists stand in the bytes s
 unfoldable pub claimsIn : List ℕ → List ℕ → List ℕ → ℕ → List ClaimRecord
-claimsIn s claims places n = tabulate (λ k. claimRecord s (claimIn claims places k)) n
+claimsIn s claims offsets n = tabulate (λ k. claimRecord s (claimIn claims offsets k)) n
 
 -- the tables have a place k
-pub record ClaimRoom (claims places : List ℕ) (k : ℕ) : Type 0 where
+pub record ClaimRoom (claims offsets : List ℕ) (k : ℕ) : Type 0 where
   pub numbers : claimSlots * k + 3 < length claims
-  pub place : k < length places
+  pub offset : k < length offsets
 
 -- the claim c is put there
-pub record ClaimPut (claims places : List ℕ) (k : ℕ) (c : Claim) (claims-put places-put : List ℕ) : Type 0 where
+pub record ClaimPut (claims offsets : List ℕ) (k : ℕ) (c : Claim) (claims-put offsets-put : List ℕ) : Type 0 where
   pub numbers : claims-put ≡ sets claims (claimSlots * k) (claimNumbers c)
-  pub place : places-put ≡ set places k (claimPlace c)
+  pub offset : offsets-put ≡ set offsets k (claimOffset c)

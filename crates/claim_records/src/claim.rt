@@ -80,28 +80,28 @@ pub fn claim_bytes(c: Claim) -> usize
 }
 
 // The claim whose table place is k: its kind with name, lo and hi of a count, or with m, n and 0 of lists; and where lists stand.
-pub fn put_claim(claims: &mut [u16], places: &mut [usize], k: usize, c: Claim)
-    requires { ⌜ ClaimRoom (now claims) (now places) k ⌝ }
-    ensures { λ _. ⌜ ClaimPut (now (claims .entry)) (now (places .entry)) k c (now (claims .exit)) (now (places .exit)) ⌝ }
+pub fn put_claim(claims: &mut [u16], offsets: &mut [usize], k: usize, c: Claim)
+    requires { ⌜ ClaimRoom (now claims) (now offsets) k ⌝ }
+    ensures { λ _. ⌜ ClaimPut (now (claims .entry)) (now (offsets .entry)) k c (now (claims .exit)) (now (offsets .exit)) ⌝ }
 {
     let at = CLAIM_SLOTS * k;
     match c {
         Claim::Count(x) => {
             put_four(claims, at, 4, x.name.0, x.lo, x.hi);
-            places[k] = 0;
+            offsets[k] = 0;
         }
         Claim::Lists(l) => {
             let kind = l.kind;
             put_four(claims, at, list_number(kind), l.m, l.n, 0);
-            places[k] = l.at;
+            offsets[k] = l.at;
         }
     }
 }
 
 // the claim whose table place is k
-pub fn claim_in(claims: &[u16], places: &[usize], k: usize) -> Claim
-    requires { ⌜ ClaimRoom (now claims) (now places) k ⌝ }
-    ensures { λ r. ⌜ r ≡ claimIn (now (claims .entry)) (now (places .entry)) k ⌝ }
+pub fn claim_in(claims: &[u16], offsets: &[usize], k: usize) -> Claim
+    requires { ⌜ ClaimRoom (now claims) (now offsets) k ⌝ }
+    ensures { λ r. ⌜ r ≡ claimIn (now (claims .entry)) (now (offsets .entry)) k ⌝ }
 {
     let at = CLAIM_SLOTS * k;
     let kind = claims[at];
@@ -118,6 +118,6 @@ pub fn claim_in(claims: &[u16], places: &[usize], k: usize) -> Claim
         kind: list_kind(kind),
         m: a,
         n: b,
-        at: places[k],
+        at: offsets[k],
     })
 }

@@ -29,9 +29,9 @@ pub verdict-as : (s : Sheet) (y : Call) {j k : Question} → j ≡ k → Verdict
 verdict-as s y e w = subst (λ k. VerdictFor s k y) e w
 
 -- a claim x of a sheet that was read, handed up from place i of the tables
-module _ (h : Head) (s groups : List ℕ) {names : List ℕ} (labels claims places : List ℕ)
-    (e : readSheet s ≡ read (recordsOf (headRecord h) s groups labels claims places)) (k : Held (headRecord h) s names labels claims places)
-    (long : h .names ≤ length names) (i : ℕ) (l : i < h .claims) {x : ClaimRead} (o : x ≡ claimIn claims places i) where
+module _ (h : Head) (s groups : List ℕ) {names : List ℕ} (labels claims offsets : List ℕ)
+    (e : readSheet s ≡ read (recordsOf (headRecord h) s groups labels claims offsets)) (k : Held (headRecord h) s names labels claims offsets)
+    (long : h .names ≤ length names) (i : ℕ) (l : i < h .claims) {x : ClaimRead} (o : x ≡ claimIn claims offsets i) where
   abbrev pub claim-askable : Askable s x names (h .groups)
   claim-askable = record {
     count = h .names;
@@ -48,8 +48,8 @@ module _ (h : Head) (s groups : List ℕ) {names : List ℕ} (labels claims plac
 
   -- it is the claim that is written down
   pub claim-told : (n : ℕ) → n - 1 ≡ i
-      → claimMeant names (claimRecord s x) ≡ claimAt (recordsOf (headRecord h) s groups labels claims places) n
+      → claimMeant names (claimRecord s x) ≡ claimAt (recordsOf (headRecord h) s groups labels claims offsets) n
   claim-told n p =
       claim-named s x claim-askable _ (k .named)
-      ∙ ap (claimed (recordsOf (headRecord h) s groups labels claims places .names))
-      (ap (claimRecord s) o ∙ sym (rw p (getD-claimsIn s claims places (h .claims) i _ l)))
+      ∙ ap (claimed (recordsOf (headRecord h) s groups labels claims offsets .names))
+      (ap (claimRecord s) o ∙ sym (rw p (getD-claimsIn s claims offsets (h .claims) i _ l)))

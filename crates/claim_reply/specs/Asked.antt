@@ -7,9 +7,9 @@ use Rattle.wire.specs.SheetFormat.{HeadRecord, readSheet}
 use Rattle.tables.specs.SheetIn.{Tabled}
 use Rattle.reading.specs.Loaded.{recordsOf, Held, Capacity}
 
-pub record Asked (h : HeadRecord) (s groups names claims places : List ℕ) : Type 0 where
+pub record Asked (h : HeadRecord) (s groups names claims offsets : List ℕ) : Type 0 where
   pub labels : List ℕ
-  pub reads : readSheet s ≡ read (recordsOf h s groups labels claims places)
-  pub held : Held h s names labels claims places
+  pub reads : readSheet s ≡ read (recordsOf h s groups labels claims offsets)
+  pub held : Held h s names labels claims offsets
   pub tabled : Tabled groups (h .groups)
-  pub rooms : Capacity groups names labels claims places
+  pub rooms : Capacity groups names labels claims offsets

@@ -79,11 +79,11 @@ pub fn give_claim(
     groups: &mut [u16],
     names: &[u16],
     claims: &[u16],
-    places: &[usize],
+    offsets: &[usize],
     claim: u32,
     reply: &mut [u8],
 ) -> u64
-    requires { ⌜ Asked (headRecord head) (now sheet) (now groups) (now names) (now claims) (now places) ⌝ }
+    requires { ⌜ Asked (headRecord head) (now sheet) (now groups) (now names) (now claims) (now offsets) ⌝ }
     ensures { λ r. ⌜ ((d : Records) → readSheet (now (sheet .entry)) ≡ read d → ClaimVerdict claim d (call (now (reply .entry)) r (now
         (reply .exit)))) ⌝ }
 {
@@ -96,6 +96,6 @@ pub fn give_claim(
     if (head.claims as u32) < claim {
         return pack(9, 0);
     }
-    let c = claim_in(claims, places, claim as usize - 1);
+    let c = claim_in(claims, offsets, claim as usize - 1);
     give_verdict(sheet, c, names, groups, head.groups, reply)
 }

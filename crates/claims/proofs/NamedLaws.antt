@@ -33,7 +33,7 @@ lists-up-to inside w = w
 lists-up-to apart w = w
 lists-up-to place w = w
 
--- what is so of the fields at their places is so of each on the list
+-- what is so of the fields at their offsets is so of each on the list
 fields-all : (P : ℕ → Type 0) (s : List ℕ) (i n : ℕ) → ((j : ℕ) → j < n → P (u16At s (i + 2 * j)))
     → (x : ℕ) → List·Memᴰ x (u16s s i n) → P x
 unfolding u16s

@@ -8,7 +8,7 @@ use claim_records::claim::Lists;
 use questions::count::judge_count;
 use questions::lists::ask_lists;
 use questions::lists::is_place;
-use runs::starts::place_runs;
+use runs::starts::start_runs;
 use tables::limits::GROUP_CAPACITY;
 use tables::names::meant_by;
 ghost use mathlib.Core.Path.{_≡_};
@@ -117,7 +117,7 @@ pub fn decide(
 {
     if judge(sheet, c, names, groups, size, sizes, marks) {
         let mut ends = [0u32; GROUP_CAPACITY];
-        place_runs(groups, size, sizes, firsts, &mut ends);
+        start_runs(groups, size, sizes, firsts, &mut ends);
         return Decision::Shown(verdict_on(c, true));
     }
     Decision::Alone(verdict_on(c, false))

@@ -13,7 +13,7 @@ use Rattle.wire.specs.RegisterFormat.{Row}
 use Rattle.meaning.specs.Sets.{Sets, numbered}
 use Rattle.meaning.specs.OfRecords.{members}
 use Rattle.meaning.specs.MemberIn.{memberIn}
-use Rattle.tables.specs.Groups.{groupPlaces}
+use Rattle.tables.specs.Groups.{groupNumbers}
 use Rattle.rows.specs.RowsRead.{wordBits}
 
 -- the words of a column: a digit for each member, who are no more than the rows
@@ -32,7 +32,7 @@ abbrev pub columnStride : ℕ
 columnStride = columnWords + 8
 
 abbrev pub columnsLength : ℕ
-columnsLength = columnStride * groupPlaces
+columnsLength = columnStride * groupNumbers
 
 -- where word w of group g's column stands
 abbrev pub columnWord : ℕ → ℕ → ℕ

@@ -7,7 +7,7 @@ use tables::limits::CLAIM_TABLE;
 use tables::limits::GROUP_TABLE;
 use tables::limits::LABEL_TABLE;
 use tables::limits::NAME_TABLE;
-use tables::limits::PLACE_TABLE;
+use tables::limits::OFFSET_TABLE;
 ghost use Rattle.replies.specs.Reply.{call, OnceSheet};
 ghost use Rattle.claim_reply.specs.ClaimReply.{ClaimVerdict};
 
@@ -19,14 +19,14 @@ pub extern "C" fn sheet_claim(sheet: &[u8], claim: u32, reply: &mut [u8]) -> u64
     let mut names = [0u16; NAME_TABLE];
     let mut labels = [0usize; LABEL_TABLE];
     let mut claims = [0u16; CLAIM_TABLE];
-    let mut places = [0usize; PLACE_TABLE];
+    let mut offsets = [0usize; OFFSET_TABLE];
     match load_sheet(
         sheet,
         &mut groups,
         &mut names,
         &mut labels,
         &mut claims,
-        &mut places,
+        &mut offsets,
     ) {
         Loaded::Refused(n, record) => pack(n, record),
         Loaded::Sheet(head) => give_claim(
@@ -35,7 +35,7 @@ pub extern "C" fn sheet_claim(sheet: &[u8], claim: u32, reply: &mut [u8]) -> u64
             &mut groups,
             &names,
             &claims,
-            &places,
+            &offsets,
             claim,
             reply,
         ),

@@ -51,11 +51,11 @@ module _ (seen l : List ℕ) (none : getD seen (labelHash l) 0 ≡ 0) where
       (λ e. let k : 1 ≤ getD seen (labelHash l) 0 = rw (same-labels m l e) at h in absurd (omega arith))
       (λ e. e)
 
-  pub unseen : (s places : List ℕ) (n : ℕ) → AllSeen s seen places n → used (recordsIn nameOf s places n) l ≡ false
-  unseen s places zero h = used-none s places l
-  unseen s places (suc n) h =
+  pub unseen : (s offsets : List ℕ) (n : ℕ) → AllSeen s seen offsets n → used (recordsIn nameOf s offsets n) l ≡ false
+  unseen s offsets zero h = used-none s offsets l
+  unseen s offsets (suc n) h =
       rw add-one at
-      (used-more s places l n (unseen s places n (λ i k. h i (omega arith))) (unlike-seen _ (h n (omega arith))))
+      (used-more s offsets l n (unseen s offsets n (λ i k. h i (omega arith))) (unlike-seen _ (h n (omega arith))))
 
 -- one more hash is seen, and those before
 module _ (seen : List ℕ) (v : ℕ) (room : v < length seen) where

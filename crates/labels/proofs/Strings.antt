@@ -36,7 +36,7 @@ pub label-end : (l : List ℕ) (n i : ℕ) → n ≤ i → labelBytes (take (n -
 unfolding labelBytes
 label-end l n i h = let e : n - i ≡ 0 = omega arith in rw e
 
--- the n bytes at two places, compared
+-- the n bytes at two offsets, compared
 abbrev pub alike : List ℕ → ℕ → ℕ → ℕ → Bool
 alike s a b n = sameLabel (take n (drop a s)) (take n (drop b s))
 
@@ -112,23 +112,23 @@ pub label-length : (s : List ℕ) (at : ℕ) → 5 ≤ u16At s at → at + 2 + u
 label-length s at l h = rw (label-at s at) (simp (length-take, length-drop) (omega arith))
 
 -- a label among the first names
-module _ (s places l : List ℕ) where
-  pub used-none : used (recordsIn nameOf s places 0) l ≡ false
+module _ (s offsets l : List ℕ) where
+  pub used-none : used (recordsIn nameOf s offsets 0) l ≡ false
   unfolding used recordsIn
   used-none = refl
 
-  pub used-more : (j : ℕ) → used (recordsIn nameOf s places j) l ≡ false →
-      sameLabel (nameOf (drop (getD places j 0) s) .label) l ≡ false → used (recordsIn nameOf s places (j + 1)) l ≡ false
+  pub used-more : (j : ℕ) → used (recordsIn nameOf s offsets j) l ≡ false →
+      sameLabel (nameOf (drop (getD offsets j 0) s) .label) l ≡ false → used (recordsIn nameOf s offsets (j + 1)) l ≡ false
   unfolding recordsIn
   used-more j e f = rw (add-one, used-snoc, e, f)
 
-  pub used-found : (n j : ℕ) → j < n → sameLabel (nameOf (drop (getD places j 0) s) .label) l ≡ true →
-      used (recordsIn nameOf s places n) l ≡ true
+  pub used-found : (n j : ℕ) → j < n → sameLabel (nameOf (drop (getD offsets j 0) s) .label) l ≡ true →
+      used (recordsIn nameOf s offsets n) l ≡ true
   unfolding recordsIn
   used-found zero j h e = absurd (omega arith)
   used-found (suc n) j h e =
       ⊎-elim
       (λ (k : suc j ≡ suc n). let same : j ≡ n = omega arith in
-      rw (used-snoc, ← same, e) (split (used (recordsIn nameOf s places j) l) (λ t. rw t) (λ t. rw t)))
+      rw (used-snoc, ← same, e) (split (used (recordsIn nameOf s offsets j) l) (λ t. rw t) (λ t. rw t)))
       (λ (k : suc j < suc n). rw (used-snoc, used-found n j (omega arith) e))
       (eq-or-lt-of-le h)

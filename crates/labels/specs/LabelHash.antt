@@ -21,6 +21,6 @@ labelHash l = hashFrom 0 l
 abbrev pub Seen : List ℕ → List ℕ → ℕ → Type 0
 Seen s seen at = 1 ≤ getD seen (labelHash (nameOf (drop at s) .label)) 0
 
--- so are those of the first n names, whose records stand at these places
+-- so are those of the first n names, whose records stand at these offsets
 abbrev pub AllSeen : List ℕ → List ℕ → List ℕ → ℕ → Type 0
-AllSeen s seen places n = (i : ℕ) → i < n → Seen s seen (getD places i 0)
+AllSeen s seen offsets n = (i : ℕ) → i < n → Seen s seen (getD offsets i 0)

@@ -6,7 +6,7 @@ ghost use lib.ListN.{length, take, drop};
 ghost use Rattle.wire.specs.SheetFormat.{sameLabel, nameOf};
 ghost use Rattle.labels.specs.WholeName.{WholeName};
 
-// whether the n bytes at two places are the same, by fields of eight bytes, the last of which ends at the last byte
+// whether the n bytes at two offsets are the same, by fields of eight bytes, the last of which ends at the last byte
 fn same_by_u64(s: &[u8], a: usize, b: usize, n: usize) -> bool
     requires { ⌜ (8 ≤ n) × ((a + n ≤ length (now s)) × (b + n ≤ length (now s))) ⌝ }
     ensures { λ r. ⌜ r ≡ sameLabel (take n (drop a (now (s .entry)))) (take n (drop b (now (s .entry)))) ⌝ }
@@ -53,7 +53,7 @@ fn same_bytes(s: &[u8], a: usize, b: usize, n: usize) -> bool
     true
 }
 
-// whether the names whose records stand at two places have one label
+// whether the names whose records stand at two offsets have one label
 pub fn same_label(s: &[u8], a: usize, b: usize) -> bool
     requires { ⌜ WholeName (now s) a × WholeName (now s) b ⌝ }
     ensures { λ r. ⌜ r ≡ sameLabel (nameOf (drop a (now (s .entry))) .label) (nameOf (drop b (now (s .entry))) .label) ⌝ }

@@ -9,15 +9,15 @@ ghost use Rattle.tables.specs.RecordsIn.{recordsIn};
 ghost use Rattle.labels.specs.LabelHash.{labelHashes, labelHash, Seen, AllSeen};
 ghost use Rattle.labels.specs.WholeName.{WholeName};
 
-// whether one of the first n names, whose records stand at these places, has the label of the name at `at`
-fn used_before(s: &[u8], places: &[usize], n: usize, at: usize) -> bool
-    requires { ⌜ (n ≤ length (now places)) × (WholeName (now s) at
-        × ((j : ℕ) → j < n → WholeName (now s) (getD (now places) j 0))) ⌝ }
-    ensures { λ r. ⌜ r ≡ used (recordsIn nameOf (now (s .entry)) (now (places .entry)) n)
+// whether one of the first n names, whose records stand at these offsets, has the label of the name at `at`
+fn used_before(s: &[u8], offsets: &[usize], n: usize, at: usize) -> bool
+    requires { ⌜ (n ≤ length (now offsets)) × (WholeName (now s) at
+        × ((j : ℕ) → j < n → WholeName (now s) (getD (now offsets) j 0))) ⌝ }
+    ensures { λ r. ⌜ r ≡ used (recordsIn nameOf (now (s .entry)) (now (offsets .entry)) n)
         (nameOf (drop at (now (s .entry))) .label) ⌝ }
 {
     for j in 0..n {
-        if same_label(s, places[j], at) {
+        if same_label(s, offsets[j], at) {
             return true;
         }
     }
@@ -39,13 +39,13 @@ fn label_hash(s: &[u8], at: usize) -> usize
 
 // The answer of `used_before`, where the hashes of the first n labels are kept in `seen`: labels are compared only where the
 // hash of this one was seen. Then it is kept too.
-pub fn used_label(s: &[u8], places: &[usize], n: usize, at: usize, seen: &mut [u8]) -> bool
-    requires { ⌜ (n ≤ length (now places)) × (WholeName (now s) at
-        × (((j : ℕ) → j < n → WholeName (now s) (getD (now places) j 0))
-        × ((labelHashes ≤ length (now seen)) × AllSeen (now s) (now seen) (now places) n))) ⌝ }
-    ensures { λ r. ⌜ (r ≡ used (recordsIn nameOf (now (s .entry)) (now (places .entry)) n)
+pub fn used_label(s: &[u8], offsets: &[usize], n: usize, at: usize, seen: &mut [u8]) -> bool
+    requires { ⌜ (n ≤ length (now offsets)) × (WholeName (now s) at
+        × (((j : ℕ) → j < n → WholeName (now s) (getD (now offsets) j 0))
+        × ((labelHashes ≤ length (now seen)) × AllSeen (now s) (now seen) (now offsets) n))) ⌝ }
+    ensures { λ r. ⌜ (r ≡ used (recordsIn nameOf (now (s .entry)) (now (offsets .entry)) n)
         (nameOf (drop at (now (s .entry))) .label))
-        × (AllSeen (now (s .entry)) (now (seen .exit)) (now (places .entry)) n
+        × (AllSeen (now (s .entry)) (now (seen .exit)) (now (offsets .entry)) n
         × Seen (now (s .entry)) (now (seen .exit)) at) ⌝ }
 {
     let h = label_hash(s, at);
@@ -53,7 +53,7 @@ pub fn used_label(s: &[u8], places: &[usize], n: usize, at: usize, seen: &mut [u
         seen[h] = 1;
         return false;
     }
-    used_before(s, places, n, at)
+    used_before(s, offsets, n, at)
 }
 
 // How many hashes labels can have: a table of one number for each hash has this length.

@@ -36,7 +36,7 @@ use Rattle.spans.proofs.HeldLaws.{none-of, some-of}
 use Rattle.measuring.specs.Pairs.{pairIn, leastIn, greatestIn}
 use Rattle.measuring.specs.Fitting.{Arrangeable}
 use Rattle.measuring.proofs.DoneLaws.{room-span}
-use Rattle.runs.specs.Told.{Told, Placeable}
+use Rattle.runs.specs.Told.{Told, Startable}
 use Rattle.ranging.specs.Sized.{sizeBy, Sizing}
 
 -- the lower end of a span of two numbers
@@ -209,9 +209,9 @@ module _ {groups spans after : List ℕ} {n : ℕ} (k : Arrangeable groups n spa
       let w = rw (span-told k 1 q) at (room-span (k .tabled) b (k .measured) 1 q false) in
       omega (arith, table-sizes .1 .rootSize, weight-least _ _ _ w)
 
-  -- so the runs can be placed
+  -- so the runs can be given starts
   pub table-placeable : (firsts ends : List ℕ) → ((i : ℕ) → getD groups i 0 ≤ noEnd) → n ≤ length sizes → n ≤ length firsts
-      → n ≤ length ends → Placeable groups n sizes firsts ends
+      → n ≤ length ends → Startable groups n sizes firsts ends
   table-placeable firsts ends b x y z = record {
     grown = k .tabled;
     sizes-long = x;

@@ -1,7 +1,7 @@
 // The arrangement: sizes from the root down, group after group, then the starts of the runs. `left` has with each group
 // what its sons so far have left of it.
 use measuring::pairs::out_at;
-use runs::starts::place_runs;
+use runs::starts::start_runs;
 use spans::span::Span;
 use spans::span::minus;
 use spans::span::smaller;
@@ -123,5 +123,5 @@ pub fn arrange(
         (greatestIn (now (spans .entry))) (numberIn (now (firsts .exit))) (numberIn (now (sizes .exit))) ⌝ }
 {
     size_groups(groups, size, spans, after, sizes, ends);
-    place_runs(groups, size, sizes, firsts, ends);
+    start_runs(groups, size, sizes, firsts, ends);
 }

@@ -1,4 +1,4 @@
--- Laws of what loading gives: records at their places, and each of the two answers.
+-- Laws of what loading gives: records at their offsets, and each of the two answers.
 use Prim.Native.Nat.{ℕ}
 use mathlib.Core.Path.{_≡_, sym}
 use mathlib.Core.List.{List}
@@ -11,13 +11,13 @@ use Rattle.reading.specs.Loaded.{goesOn, loadedAs, recordsOf, Held, Load
 use Rattle.reading.specs.declared.load.Loaded.the-variants as loaded
 
 -- what that says for each of the two answers
-module _ {r : Loaded} {whole : Reading Records} {s groups names labels claims places : List ℕ}
-    (w : Loads r whole s groups names labels claims places) where
-  pub loaded-sheet : (h : Head) → r ≡ loaded.Sheet h → whole ≡ read (recordsOf (headRecord h) s groups labels claims places)
+module _ {r : Loaded} {whole : Reading Records} {s groups names labels claims offsets : List ℕ}
+    (w : Loads r whole s groups names labels claims offsets) where
+  pub loaded-sheet : (h : Head) → r ≡ loaded.Sheet h → whole ≡ read (recordsOf (headRecord h) s groups labels claims offsets)
   unfolding goesOn loadedAs
   loaded-sheet h e = sym (rw e at (w .reads))
 
-  pub loaded-held : (h : Head) → r ≡ loaded.Sheet h → Held (headRecord h) s names labels claims places
+  pub loaded-held : (h : Head) → r ≡ loaded.Sheet h → Held (headRecord h) s names labels claims offsets
   unfolding loadedAs
   loaded-held h e = w .held _ (rw e)
 

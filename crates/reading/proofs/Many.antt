@@ -30,7 +30,7 @@ use Rattle.tables.specs.RecordsIn.{recordsIn}
 use Rattle.labels.specs.WholeName.{WholeName}
 use Rattle.labels.specs.LabelHash.{Seen, AllSeen}
 use Rattle.claim_records.specs.ClaimHeld.{listAs, claimRecord, ClaimHeld}
-use Rattle.claim_records.specs.ClaimTable.{claimNumbers, claimPlace, claimIn, ClaimRoom, claimsIn, ClaimPut}
+use Rattle.claim_records.specs.ClaimTable.{claimNumbers, claimOffset, claimIn, ClaimRoom, claimsIn, ClaimPut}
 use Rattle.claim_records.proofs.ListKinds.{list-back, list-not-count}
 use Rattle.records.specs.Answers.{group, name, claim}
 use Rattle.records.proofs.Fields.{name-apart, group-whole}
@@ -100,37 +100,37 @@ each-more P Q n before kept here i k =
     (λ (m : suc i < n + 1). kept i (omega arith) (before i (omega arith)))
     (eq-or-lt-of-le k)
 
--- none of the first n records at these places meets a refusal
+-- none of the first n records at these offsets meets a refusal
 abbrev pub AllPass : (List ℕ → List Test) → List ℕ → List ℕ → ℕ → Type 0
-AllPass tests s places n = (i : ℕ) → i < n → refusal (tests (drop (getD places i 0) s)) ≡ 0
+AllPass tests s offsets n = (i : ℕ) → i < n → refusal (tests (drop (getD offsets i 0) s)) ≡ 0
 
--- the records whose places are in a table
-module _ (s places : List ℕ) (n x : ℕ) (h : n < length places) where
-  place-kept : (i : ℕ) → i < n → getD (set places n x) i 0 ≡ getD places i 0
-  place-kept i l = getD-set-other places n i x 0 (omega arith)
+-- the records whose offsets are in a table
+module _ (s offsets : List ℕ) (n x : ℕ) (h : n < length offsets) where
+  offset-kept : (i : ℕ) → i < n → getD (set offsets n x) i 0 ≡ getD offsets i 0
+  offset-kept i l = getD-set-other offsets n i x 0 (omega arith)
 
-  place-put : getD (set places n x) n 0 ≡ x
-  place-put = getD-set-same places n x 0 h
+  offset-put : getD (set offsets n x) n 0 ≡ x
+  offset-put = getD-set-same offsets n x 0 h
 
   records-more : {A : Type 0} (value : List ℕ → A) →
-      recordsIn value s (set places n x) (n + 1) ≡ recordsIn value s places n ++ (value (drop x s) ∷ [])
+      recordsIn value s (set offsets n x) (n + 1) ≡ recordsIn value s offsets n ++ (value (drop x s) ∷ [])
   unfolding recordsIn
   records-more value =
-      tabulate-more _ _ n _ (λ i l. ap (λ p. value (drop p s)) (place-kept i l)) (ap (λ p. value (drop p s)) place-put)
+      tabulate-more _ _ n _ (λ i l. ap (λ p. value (drop p s)) (offset-kept i l)) (ap (λ p. value (drop p s)) offset-put)
 
-  pub pass-more : (tests : List ℕ → List Test) → AllPass tests s places n → refusal (tests (drop x s)) ≡ 0 →
-      AllPass tests s (set places n x) (n + 1)
+  pub pass-more : (tests : List ℕ → List Test) → AllPass tests s offsets n → refusal (tests (drop x s)) ≡ 0 →
+      AllPass tests s (set offsets n x) (n + 1)
   pass-more tests before here =
-      each-more _ _ n before (λ i l e. rw (place-kept i l) e) (rw place-put here)
+      each-more _ _ n before (λ i l e. rw (offset-kept i l) e) (rw offset-put here)
 
-  pub grouped-more : (names : List ℕ) (g : ℕ) → n < length names → AllGrouped s names places n → g ≡ nameOf (drop x s) .group →
-      AllGrouped s (set names n g) (set places n x) (n + 1)
+  pub grouped-more : (names : List ℕ) (g : ℕ) → n < length names → AllGrouped s names offsets n → g ≡ nameOf (drop x s) .group →
+      AllGrouped s (set names n g) (set offsets n x) (n + 1)
   grouped-more names g k before here =
-      each-more _ _ n before (λ i l e. rw (place-kept i l, getD-set-other names n i g 0 (omega arith)) e)
-      (rw (place-put, getD-set-same names n g 0 k) here)
+      each-more _ _ n before (λ i l e. rw (offset-kept i l, getD-set-other names n i g 0 (omega arith)) e)
+      (rw (offset-put, getD-set-same names n g 0 k) here)
 
-  pub seen-more : (seen : List ℕ) → AllSeen s seen places n → Seen s seen x → AllSeen s seen (set places n x) (n + 1)
-  seen-more seen before here = each-more _ _ n before (λ i l e. rw (place-kept i l) e) (rw place-put here)
+  pub seen-more : (seen : List ℕ) → AllSeen s seen offsets n → Seen s seen x → AllSeen s seen (set offsets n x) (n + 1)
+  seen-more seen before here = each-more _ _ n before (λ i l e. rw (offset-kept i l) e) (rw offset-put here)
 
 -- a run of stores in a table
 sets-below : (vs t : List ℕ) (k i : ℕ) → i < k → getD (sets t k vs) i 0 ≡ getD t i 0
@@ -179,40 +179,40 @@ groups-more t n g h =
     (let f = four-put t n (g .parent) (g .lo) (g .hi) (g .mode) h in rw (f .first, f .second, f .third, f .fourth))
 
 -- the claims
-claim-put : (claims places : List ℕ) (n : ℕ) (c : Claim) → ClaimRoom claims places n →
-    claimIn (sets claims (4 * n) (claimNumbers c)) (set places n (claimPlace c)) n ≡ c
+claim-put : (claims offsets : List ℕ) (n : ℕ) (c : Claim) → ClaimRoom claims offsets n →
+    claimIn (sets claims (4 * n) (claimNumbers c)) (set offsets n (claimOffset c)) n ≡ c
 unfolding claimIn
-claim-put claims places n (claim-of.Count c) h =
+claim-put claims offsets n (claim-of.Count c) h =
     let f = four-put claims n 4 (c .name .0) (c .lo) (c .hi) (h .numbers) in rw (f .first, f .second, f .third, f .fourth)
-claim-put claims places n (claim-of.Lists l) h =
+claim-put claims offsets n (claim-of.Lists l) h =
     let f = four-put claims n (listNumber (listAs (l .kind))) (l .m) (l .n) 0 (h .numbers) in
-    rw (f .first, f .second, f .third, getD-set-same places n (l .at) 0 (h .place), list-back (l .kind), list-not-count (l .kind))
+    rw (f .first, f .second, f .third, getD-set-same offsets n (l .at) 0 (h .offset), list-back (l .kind), list-not-count (l .kind))
 
-module _ {claims places claims-put places-put : List ℕ} {n : ℕ} {c : Claim} (h : ClaimRoom claims places n)
-    (w : ClaimPut claims places n c claims-put places-put) where
-  claim-kept : (i : ℕ) → i < n → claimIn claims-put places-put i ≡ claimIn claims places i
+module _ {claims offsets claims-put offsets-put : List ℕ} {n : ℕ} {c : Claim} (h : ClaimRoom claims offsets n)
+    (w : ClaimPut claims offsets n c claims-put offsets-put) where
+  claim-kept : (i : ℕ) → i < n → claimIn claims-put offsets-put i ≡ claimIn claims offsets i
   unfolding claimIn
   claim-kept i l =
       let f = four-kept claims (claimNumbers c) n i l in
       rw (
         w .numbers,
-        w .place,
+        w .offset,
         f .first,
         f .second,
         f .third,
         f .fourth,
-        getD-set-other places n i (claimPlace c) 0 (omega arith),
+        getD-set-other offsets n i (claimOffset c) 0 (omega arith),
       )
 
-  claim-here : claimIn claims-put places-put n ≡ c
-  claim-here = rw (w .numbers, w .place) (claim-put claims places n c h)
+  claim-here : claimIn claims-put offsets-put n ≡ c
+  claim-here = rw (w .numbers, w .offset) (claim-put claims offsets n c h)
 
-  claims-more : (s : List ℕ) → claimsIn s claims-put places-put (n + 1) ≡ claimsIn s claims places n ++ (claimRecord s c ∷ [])
+  claims-more : (s : List ℕ) → claimsIn s claims-put offsets-put (n + 1) ≡ claimsIn s claims offsets n ++ (claimRecord s c ∷ [])
   unfolding claimsIn
   claims-more s = tabulate-more _ _ n _ (λ i l. ap (claimRecord s) (claim-kept i l)) (ap (claimRecord s) claim-here)
 
-  pub held-more : (s : List ℕ) (names : ℕ) → AllHeld s names claims places n → ClaimHeld s names c →
-      AllHeld s names claims-put places-put (n + 1)
+  pub held-more : (s : List ℕ) (names : ℕ) → AllHeld s names claims offsets n → ClaimHeld s names c →
+      AllHeld s names claims-put offsets-put (n + 1)
   held-more s names before here = each-more _ _ n before (λ i l e. rw (claim-kept i l) e) (rw claim-here here)
 
 -- a name's tests, its label's use set apart
@@ -236,28 +236,28 @@ group-again {s} t {u} {from} {count} {i} {at} {x} {g} left h room w e put =
     rw (put, groups-more t i r room, group-same w e)
     (left-more groupTests groupOf s from count 2 i at (groupsIn t i) left h 12 (w .pass) (omega arith))
 
-pub name-again : {s : List ℕ} (places : List ℕ) (v : Edition) (groups : ℕ) {from count i at : ℕ} {x : Record} {n : Name} →
-    Left (nameTests v groups) nameOf s from count (2 + groups) i at (recordsIn nameOf s places i) → i < count → i < length places →
+pub name-again : {s : List ℕ} (offsets : List ℕ) (v : Edition) (groups : ℕ) {from count i at : ℕ} {x : Record} {n : Name} →
+    Left (nameTests v groups) nameOf s from count (2 + groups) i at (recordsIn nameOf s offsets i) → i < count → i < length offsets →
     Handed (nameTests v groups []) (λ b. name (nameOf b)) s at x → x ≡ record-of.Name n → WholeName s at →
-    used (recordsIn nameOf s places i) (nameOf (drop at s) .label) ≡ false →
-    Left (nameTests v groups) nameOf s from count (2 + groups) (i + 1) (at + 6 + n .bytes) (recordsIn nameOf s (set places i at) (i + 1))
-name-again {s} places v groups {from} {count} {i} {at} {x} {n} left h room w e k f =
-    let z : refusal (nameTests v groups (recordsIn nameOf s places i) (drop at s)) ≡ 0 =
-    rw (name-apart v groups (recordsIn nameOf s places i) (drop at s), w .pass, f) in
+    used (recordsIn nameOf s offsets i) (nameOf (drop at s) .label) ≡ false →
+    Left (nameTests v groups) nameOf s from count (2 + groups) (i + 1) (at + 6 + n .bytes) (recordsIn nameOf s (set offsets i at) (i + 1))
+name-again {s} offsets v groups {from} {count} {i} {at} {x} {n} left h room w e k f =
+    let z : refusal (nameTests v groups (recordsIn nameOf s offsets i) (drop at s)) ≡ 0 =
+    rw (name-apart v groups (recordsIn nameOf s offsets i) (drop at s), w .pass, f) in
     let y = name-same w e k .1 in
     let p : at + 6 + n .bytes ≡ at + (6 + n .bytes) = omega arith in
-    rw (p, records-more s places i at room nameOf)
-    (left-more (nameTests v groups) nameOf s from count (2 + groups) i at (recordsIn nameOf s places i) left h (6 + n .bytes) z
+    rw (p, records-more s offsets i at room nameOf)
+    (left-more (nameTests v groups) nameOf s from count (2 + groups) i at (recordsIn nameOf s offsets i) left h (6 + n .bytes) z
     (omega arith))
 
-pub claim-again : (names : ℕ) {s claims places claims-put places-put : List ℕ} {from count first i at bytes : ℕ} {x : Record}
+pub claim-again : (names : ℕ) {s claims offsets claims-put offsets-put : List ℕ} {from count first i at bytes : ℕ} {x : Record}
     {c : Claim} →
-    Left (claimTests names) claimOf s from count first i at (claimsIn s claims places i) → i < count → ClaimRoom claims places i →
+    Left (claimTests names) claimOf s from count first i at (claimsIn s claims offsets i) → i < count → ClaimRoom claims offsets i →
     Handed (claimTests names []) (λ b. claim (claimOf b)) s at x → x ≡ record-of.Claim c →
-    ClaimPut claims places i c claims-put places-put → bytes ≡ length (encodeClaim (claimRecord s c)) →
-    Left (claimTests names) claimOf s from count first (i + 1) (at + bytes) (claimsIn s claims-put places-put (i + 1))
+    ClaimPut claims offsets i c claims-put offsets-put → bytes ≡ length (encodeClaim (claimRecord s c)) →
+    Left (claimTests names) claimOf s from count first (i + 1) (at + bytes) (claimsIn s claims-put offsets-put (i + 1))
 unfolding claimTests
-claim-again names {s} {claims} {places} {from = from} {count} {first} {i} {at} {bytes} left h room w e put b =
+claim-again names {s} {claims} {offsets} {from = from} {count} {first} {i} {at} {bytes} left h room w e put b =
     rw (claims-more room put s, claim-same w e)
-    (left-more (claimTests names) claimOf s from count first i at (claimsIn s claims places i) left h bytes (w .pass)
+    (left-more (claimTests names) claimOf s from count first i at (claimsIn s claims offsets i) left h bytes (w .pass)
     (sym (claim-bytes names w e b)))

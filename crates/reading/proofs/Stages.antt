@@ -41,12 +41,12 @@ unfolding readNames
 name-stage h s from p gs names labels g = g .reads .goes (readClaims h gs)
 
 pub claim-stage : (h : HeadRecord) (s : List ℕ) (from first : ℕ) (p : Passed) (gs : List GroupRecord)
-    (ns : List NameRecord) (claims places : List ℕ) →
-    ClaimsGo (h .names) first s from (h .claims) p claims places →
-    goesOn (passedAs p) (λ at. closing (h .edition) gs ns (first + h .claims) (claimsIn s claims places (h .claims)) (drop at s))
+    (ns : List NameRecord) (claims offsets : List ℕ) →
+    ClaimsGo (h .names) first s from (h .claims) p claims offsets →
+    goesOn (passedAs p) (λ at. closing (h .edition) gs ns (first + h .claims) (claimsIn s claims offsets (h .claims)) (drop at s))
     ≡ readClaims h gs first ns (drop from s)
 unfolding readClaims
-claim-stage h s from first p gs ns claims places g = g .reads .goes (closing (h .edition) gs ns)
+claim-stage h s from first p gs ns claims offsets g = g .reads .goes (closing (h .edition) gs ns)
 
 -- the end: 7 where bytes follow
 module _ (v : Edition) (gs : List GroupRecord) (ns : List NameRecord) (r : ℕ) (cs : List ClaimRecord) (s : List ℕ) (at : ℕ) where
@@ -70,8 +70,8 @@ went next e q = rw e at q
 
 -- a refusal of a stage is the sheet's
 pub turned-loads : {p : Passed} {n r : ℕ} (next : ℕ → Reading Records) {whole : Reading Records} {x : Loaded}
-    {s groups names labels claims places : List ℕ} → p ≡ Refused n r → loadedAs x ≡ goesOn (passedAs p) (λ at. refused 0 0) →
-    goesOn (passedAs p) next ≡ whole → Loads x whole s groups names labels claims places
+    {s groups names labels claims offsets : List ℕ} → p ≡ Refused n r → loadedAs x ≡ goesOn (passedAs p) (λ at. refused 0 0) →
+    goesOn (passedAs p) next ≡ whole → Loads x whole s groups names labels claims offsets
 unfolding goesOn passedAs
 turned-loads {n = n} {r = r} next {whole} {x} e f q =
     let z : loadedAs x ≡ refused n r = rw e at f in

@@ -34,6 +34,6 @@ tabled b t n d e f l =
     }
 
 -- those of a sheet that was loaded
-pub loaded-tabled : {r : Loaded} {b t names labels claims places : List ℕ} → Loads r (readSheet b) b t names labels claims places → (h : Head)
+pub loaded-tabled : {r : Loaded} {b t names labels claims offsets : List ℕ} → Loads r (readSheet b) b t names labels claims offsets → (h : Head)
     → r ≡ loaded.Sheet h → groupFields * groupCapacity ≤ length t → Tabled t (h .groups)
 loaded-tabled w h e l = tabled _ _ _ _ (loaded-sheet w h e) refl (omega (arith, loaded-held w h e .limits .fewGroups))

@@ -40,11 +40,11 @@ loadedAs (loaded.Refused n r) = refused n r
 
 -- the table of names has the group of each of the first n names
 abbrev pub AllGrouped : List ℕ → List ℕ → List ℕ → ℕ → Type 0
-AllGrouped s names places n = (i : ℕ) → i < n → getD names i 0 ≡ nameOf (drop (getD places i 0) s) .group
+AllGrouped s names offsets n = (i : ℕ) → i < n → getD names i 0 ≡ nameOf (drop (getD offsets i 0) s) .group
 
 -- what holds of each of the first n claims of a sheet of `names` names
 abbrev pub AllHeld : List ℕ → ℕ → List ℕ → List ℕ → ℕ → Type 0
-AllHeld s names claims places n = (k : ℕ) → k < n → ClaimHeld s names (claimIn claims places k)
+AllHeld s names claims offsets n = (k : ℕ) → k < n → ClaimHeld s names (claimIn claims offsets k)
 
 -- `count` records of one sort from the place `from` on, the first of them numbered `first`, are the list xs, and reading
 -- goes on after them; or one is refused
@@ -54,23 +54,23 @@ pub record Goes {A : Type 0} (tests : List A → List ℕ → List Test) (value 
       goesOn (passedAs r) (λ at. rest (first + count) xs (drop at s)) ≡ readMany tests value rest count first [] (drop from s)
   pub room : Then (passedAs r) (λ at. at ≤ length s)
 
--- the names: their groups and places are in the tables
+-- the names: their groups and offsets are in the tables
 pub record NamesGo (e : Edition) (groups : ℕ) (s : List ℕ) (from count : ℕ) (r : Passed) (names labels : List ℕ) : Type 0 where
   pub reads : Goes (nameTests e groups) nameOf s from count (2 + groups) r (recordsIn nameOf s labels count)
   pub grouped : Then (passedAs r) (λ at. AllGrouped s names labels count)
 
 -- the claims: they are in the tables
-pub record ClaimsGo (names first : ℕ) (s : List ℕ) (from count : ℕ) (r : Passed) (claims places : List ℕ) : Type 0 where
-  pub reads : Goes (claimTests names) claimOf s from count first r (claimsIn s claims places count)
-  pub held : Then (passedAs r) (λ at. AllHeld s names claims places count)
+pub record ClaimsGo (names first : ℕ) (s : List ℕ) (from count : ℕ) (r : Passed) (claims offsets : List ℕ) : Type 0 where
+  pub reads : Goes (claimTests names) claimOf s from count first r (claimsIn s claims offsets count)
+  pub held : Then (passedAs r) (λ at. AllHeld s names claims offsets count)
 
 -- the tables have room for the largest sheet
-pub record Capacity (groups names labels claims places : List ℕ) : Type 0 where
+pub record Capacity (groups names labels claims offsets : List ℕ) : Type 0 where
   pub groupRoom : groupFields * groupCapacity ≤ length groups
   pub nameRoom : nameLimit ≤ length names
   pub labelRoom : nameLimit ≤ length labels
   pub claimRoom : claimSlots * claimLimit ≤ length claims
-  pub placeRoom : claimLimit ≤ length places
+  pub offsetRoom : claimLimit ≤ length offsets
 
 -- the counts of a head are those of a sheet
 pub record HeadLimits (h : HeadRecord) : Type 0 where
@@ -81,28 +81,28 @@ pub record HeadLimits (h : HeadRecord) : Type 0 where
 
 -- the records that the tables hold, as many as the head says
 abbrev pub recordsOf : HeadRecord → List ℕ → List ℕ → List ℕ → List ℕ → List ℕ → Records
-recordsOf h s groups labels claims places = record {
+recordsOf h s groups labels claims offsets = record {
   edition = h .edition;
   groups = groupsIn groups (h .groups);
   names = recordsIn nameOf s labels (h .names);
-  claims = claimsIn s claims places (h .claims);
+  claims = claimsIn s claims offsets (h .claims);
 }
 
 -- what holds of the tables of a sheet that was read: the table of names has the group of each name, 0 for the empty set
-pub record Held (h : HeadRecord) (s names labels claims places : List ℕ) : Type 0 where
+pub record Held (h : HeadRecord) (s names labels claims offsets : List ℕ) : Type 0 where
   pub limits : HeadLimits h
   pub named : (n : ℕ) → 1 ≤ n → n ≤ h .names → getD names (n - 1) 0 ≡ nameGroup (recordsIn nameOf s labels (h .names)) n
-  pub claimed : AllHeld s (h .names) claims places (h .claims)
+  pub claimed : AllHeld s (h .names) claims offsets (h .claims)
 
 -- the contract of loading: what the tables hold is the reading `whole`
-pub record Loads (r : Loaded) (whole : Reading Records) (s groups names labels claims places : List ℕ) : Type 0 where
-  pub reads : goesOn (loadedAs r) (λ h. read (recordsOf h s groups labels claims places)) ≡ whole
-  pub held : Then (loadedAs r) (λ h. Held h s names labels claims places)
+pub record Loads (r : Loaded) (whole : Reading Records) (s groups names labels claims offsets : List ℕ) : Type 0 where
+  pub reads : goesOn (loadedAs r) (λ h. read (recordsOf h s groups labels claims offsets)) ≡ whole
+  pub held : Then (loadedAs r) (λ h. Held h s names labels claims offsets)
 
 -- the same of the groups alone, with some tables of names and claims
 pub record LoadsTree (r : Loaded) (whole : Reading Records) (s groups : List ℕ) : Type 0 where
   pub names : List ℕ
   pub labels : List ℕ
   pub claims : List ℕ
-  pub places : List ℕ
-  pub loads : Loads r whole s groups names labels claims places
+  pub offsets : List ℕ
+  pub loads : Loads r whole s groups names labels claims offsets

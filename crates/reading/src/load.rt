@@ -17,7 +17,7 @@ use tables::limits::CLAIM_TABLE;
 use tables::limits::GROUP_FIELDS;
 use tables::limits::LABEL_TABLE;
 use tables::limits::NAME_TABLE;
-use tables::limits::PLACE_TABLE;
+use tables::limits::OFFSET_TABLE;
 use tables::names::number_meant;
 use wire::refusals::LABEL_TWICE;
 use wire::refusals::TRAILING;
@@ -121,11 +121,11 @@ fn load_claims(
     names: u16,
     first: u32,
     claims: &mut [u16],
-    places: &mut [usize],
+    offsets: &mut [usize],
 ) -> Passed
     requires { ⌜ (from ≤ length (now s)) × ((count ≤ claimLimit) × ((first ≤ 2 + groupCapacity + nameLimit) ×
-        ((claimSlots * claimLimit ≤ length (now claims)) × (claimLimit ≤ length (now places))))) ⌝ }
-    ensures { λ r. ⌜ ClaimsGo names first (now (s .entry)) from count r (now (claims .exit)) (now (places .exit)) ⌝ }
+        ((claimSlots * claimLimit ≤ length (now claims)) × (claimLimit ≤ length (now offsets))))) ⌝ }
+    ensures { λ r. ⌜ ClaimsGo names first (now (s .entry)) from count r (now (claims .exit)) (now (offsets .exit)) ⌝ }
 {
     let mut at = from;
     for i in 0..count {
@@ -137,7 +137,7 @@ fn load_claims(
         let Record::Claim(c) = rec else {
             return Passed::Refused(WRONG_KIND, number);
         };
-        put_claim(claims, places, i as usize, c);
+        put_claim(claims, offsets, i as usize, c);
         at = at + claim_bytes(c);
     }
     Passed::To(at)
@@ -151,12 +151,12 @@ fn load_records(
     names: &mut [u16],
     labels: &mut [usize],
     claims: &mut [u16],
-    places: &mut [usize],
+    offsets: &mut [usize],
 ) -> Loaded
     requires { ⌜ (12 ≤ length (now s)) × (HeadLimits (headRecord h) × Capacity (now groups) (now names) (now labels) (now claims)
-        (now places)) ⌝ }
+        (now offsets)) ⌝ }
     ensures { λ r. ⌜ Loads r (readGroups (headRecord h) (drop 12 (now (s .entry)))) (now (s .entry)) (now (groups .exit))
-        (now (names .exit)) (now (labels .exit)) (now (claims .exit)) (now (places .exit)) ⌝ }
+        (now (names .exit)) (now (labels .exit)) (now (claims .exit)) (now (offsets .exit)) ⌝ }
 {
     let g = load_groups(s, 12, h.groups, groups);
     let Passed::To(at_names) = g else {
@@ -167,7 +167,7 @@ fn load_records(
         return turned_back(n);
     };
     let first = 2 + h.groups as u32 + h.names as u32;
-    let c = load_claims(s, at_claims, h.claims, h.names, first, claims, places);
+    let c = load_claims(s, at_claims, h.claims, h.names, first, claims, offsets);
     let Passed::To(end) = c else {
         return turned_back(c);
     };
@@ -183,11 +183,11 @@ pub fn load_sheet(
     names: &mut [u16],
     labels: &mut [usize],
     claims: &mut [u16],
-    places: &mut [usize],
+    offsets: &mut [usize],
 ) -> Loaded
-    requires { ⌜ Capacity (now groups) (now names) (now labels) (now claims) (now places) ⌝ }
+    requires { ⌜ Capacity (now groups) (now names) (now labels) (now claims) (now offsets) ⌝ }
     ensures { λ r. ⌜ Loads r (readSheet (now (sheet .entry))) (now (sheet .entry)) (now (groups .exit))
-        (now (names .exit)) (now (labels .exit)) (now (claims .exit)) (now (places .exit)) ⌝ }
+        (now (names .exit)) (now (labels .exit)) (now (claims .exit)) (now (offsets .exit)) ⌝ }
 {
     let answer = read_head(sheet, 0);
     let Answer::Record(rec) = answer else {
@@ -196,7 +196,7 @@ pub fn load_sheet(
     let Record::Head(h) = rec else {
         return Loaded::Refused(WRONG_KIND, 1);
     };
-    load_records(sheet, h, groups, names, labels, claims, places)
+    load_records(sheet, h, groups, names, labels, claims, offsets)
 }
 
 // for operations that need the groups only: names and claims are read, and not kept
@@ -207,13 +207,13 @@ pub fn load_tree(sheet: &[u8], groups: &mut [u16]) -> Loaded
     let mut names = [0u16; NAME_TABLE];
     let mut labels = [0usize; LABEL_TABLE];
     let mut claims = [0u16; CLAIM_TABLE];
-    let mut places = [0usize; PLACE_TABLE];
+    let mut offsets = [0usize; OFFSET_TABLE];
     load_sheet(
         sheet,
         groups,
         &mut names,
         &mut labels,
         &mut claims,
-        &mut places,
+        &mut offsets,
     )
 }

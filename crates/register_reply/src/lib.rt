@@ -5,7 +5,7 @@ use registers::check::Check;
 use registers::check::check_register;
 use replies::give_answer;
 use replies::pairs::pack;
-use tables::limits::GROUP_PLACES;
+use tables::limits::GROUP_NUMBERS;
 ghost use Rattle.wire.specs.Edition.{editionOf};
 ghost use Rattle.tables.specs.SheetIn.{sheetIn, Tabled};
 ghost use Rattle.replies.specs.Reply.{call};
@@ -17,7 +17,7 @@ pub fn give_check(groups: &[u16], size: u16, edition: u16, register: &[u8], repl
     ensures { λ r. ⌜ Register (now (register .entry)) (editionOf edition) (sheetIn (now (groups .entry)) size)
         (call (now (reply .entry)) r (now (reply .exit))) ⌝ }
 {
-    let mut counts = [0u32; GROUP_PLACES];
+    let mut counts = [0u32; GROUP_NUMBERS];
     match check_register(groups, size, edition, register, &mut counts) {
         Check::Refused(n, row) => pack(n, row),
         Check::Broken(group, rule) => give_answer(reply, group.0, rule),

@@ -6,7 +6,7 @@ use lib.ListN.{getD, length}
 use Rattle.wire.specs.Limits.{rowLimit}
 use Rattle.meaning.specs.Sheet.{Sheet, Group}
 use Rattle.meaning.specs.Sets.{Sets, count}
-use Rattle.tables.specs.Groups.{groupPlaces}
+use Rattle.tables.specs.Groups.{groupNumbers}
 use Rattle.tables.specs.SheetIn.{sheetIn}
 use Rattle.columns.specs.Columns.{columnWords, columnsLength, columnDigit, columnSets}
 use Rattle.sons.specs.SonLists.{SonsListed}
@@ -21,7 +21,7 @@ pub record Gathered (t : List ℕ) (size : ℕ) (c : List ℕ) (n : ℕ) (starts
   pub members : n ≤ rowLimit
   pub others : (g i : ℕ) → Group (sheetIn t size) g → n ≤ i → i < rowLimit → columnDigit c g i ≡ 0
   pub sons : SonsListed (sheetIn t size) starts order
-  pub places : groupPlaces ≤ length u
+  pub places : groupNumbers ≤ length u
   pub counts : Counted (sheetIn t size) (columnSets c n) u
   pub some-words : columnWords ≤ length some
   pub two-words : columnWords ≤ length two

@@ -23,7 +23,7 @@ ghost use Prim.Native.Nat.{_*_, _≤_, _+_, _<_};
 ghost use lib.ListN.{length};
 ghost use Rattle.wire.specs.Edition.{editionOf};
 ghost use Rattle.wire.specs.RegisterFormat.{readRegister};
-ghost use Rattle.tables.specs.Groups.{modeIn, groupPlaces};
+ghost use Rattle.tables.specs.Groups.{modeIn, groupNumbers};
 ghost use Rattle.tables.specs.SheetIn.{sheetIn, Tabled};
 ghost use Rattle.columns.specs.Columns.{columnSets};
 ghost use Rattle.sons.specs.SonLists.{keptSons};
@@ -112,7 +112,7 @@ pub fn check_register(
     register: &[u8],
     counts: &mut [u32],
 ) -> Check
-    requires { ⌜ Tabled (now groups) size × (groupPlaces ≤ length (now counts)) ⌝ }
+    requires { ⌜ Tabled (now groups) size × (groupNumbers ≤ length (now counts)) ⌝ }
     ensures { λ r. ⌜ Checked (sheetIn (now (groups .entry)) size) (readRegister (editionOf edition) size (now (register .entry))) r
         × Tallied (sheetIn (now (groups .entry)) size) (readRegister (editionOf edition) size (now (register .entry))) (now (counts .entry)) (now (counts .exit)) ⌝ }
 {

@@ -28,16 +28,16 @@ pub words-bytes : (ed : Edition) → membershipBytes ed ≡ wordBytes * rowWords
 words-bytes ed = omega (arith, words-groups ed, group-bits ed)
 
 -- bits counted from n bytes further on
-bit-on : (b : List ℕ) (place n j : ℕ) → bitAt b (place + n) j ≡ bitAt b place (8 * n + j)
+bit-on : (b : List ℕ) (offset n j : ℕ) → bitAt b (offset + n) j ≡ bitAt b offset (8 * n + j)
 unfolding bitAt
-bit-on b place n j =
-    let q : place + (8 * n + j) / 8 ≡ place + n + j / 8 = omega arith in
+bit-on b offset n j =
+    let q : offset + (8 * n + j) / 8 ≡ offset + n + j / 8 = omega arith in
     let r : (8 * n + j) % 8 ≡ j % 8 = omega arith in rw (q, r)
 
-bit-low : (b : List ℕ) (place j : ℕ) → j < 8 → bitAt b place j ≡ digit (getD b place 0) j
+bit-low : (b : List ℕ) (offset j : ℕ) → j < 8 → bitAt b offset j ≡ digit (getD b offset 0) j
 unfolding bitAt
-bit-low b place j l =
-    let q : place + j / 8 ≡ place = omega arith in
+bit-low b offset j l =
+    let q : offset + j / 8 ≡ offset = omega arith in
     let r : j % 8 ≡ j = omega arith in rw (q, r)
 
 -- the digits of a field are the bits of its bytes
@@ -52,12 +52,12 @@ digit-bytes (suc n) b i j h l =
     (digit-bytes n b (suc i) (j - 8) h (omega arith)))
     (λ o. digit-low 8 j (bytesAt n b (suc i)) (getD b i 0) o ∙ sym (bit-low b i j o))
 
-pub word-at : (b : List ℕ) (place k : ℕ) → Bytes b → WordAt b place k (u64At b (place + 8 * k))
-word-at b place k h =
+pub word-at : (b : List ℕ) (offset k : ℕ) → Bytes b → WordAt b offset k (u64At b (offset + 8 * k))
+word-at b offset k h =
     record {
       each = λ j l.
           let s : 8 * (8 * k) + j ≡ wordBits * k + j = omega arith in
-          rw (u64-bytes b (place + 8 * k)) (digit-bytes 8 b (place + 8 * k) j h l ∙ bit-on b place (8 * k) j ∙ (rw s));
+          rw (u64-bytes b (offset + 8 * k)) (digit-bytes 8 b (offset + 8 * k) j h l ∙ bit-on b offset (8 * k) j ∙ (rw s));
     }
 
 -- no bit is above the groups
@@ -78,10 +78,10 @@ above-shift groups before word h =
     }
 
 -- the bits of one word more
-pub above-on : {b : List ℕ} {place groups k word : ℕ} {r : Bool} → Above groups 0 (wordBits * k) (bitAt b place) false
-    → WordAt b place k word → Above groups (wordBits * k) wordBits (digit word) r
-    → Above groups 0 (wordBits * (k + 1)) (bitAt b place) r
-above-on {b} {place} {groups} {k} {word} c w a =
+pub above-on : {b : List ℕ} {offset groups k word : ℕ} {r : Bool} → Above groups 0 (wordBits * k) (bitAt b offset) false
+    → WordAt b offset k word → Above groups (wordBits * k) wordBits (digit word) r
+    → Above groups 0 (wordBits * (k + 1)) (bitAt b offset) r
+above-on {b} {offset} {groups} {k} {word} c w a =
     record {
       some = λ e.
           let j = a .some e in

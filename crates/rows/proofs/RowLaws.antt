@@ -33,7 +33,7 @@ use Rattle.rows.specs.RowsRead.{rowFrame, Front, ended, held, turned, ro
 use Rattle.rows.specs.RowsRead.{RowsReadable}
 use Rattle.rows.specs.declared.decode.RowAnswer.the-variants as answer
 
--- the place of the membership bytes of row i
+-- the offset of the membership bytes of row i
 abbrev pub bitsPlace : Edition → ℕ → ℕ
 bitsPlace e i = rowBytes e * i + rowHead
 
@@ -51,7 +51,7 @@ clear-none r groups zero h = refl
 clear-none r groups (suc n) h = rw (h n (le-refl (suc n))) (clear-none r groups n (λ k l. h k (omega arith)))
 
 module _ (ed : Edition) where
-  -- group g of the row at a place is bit g - 1 of its membership bytes
+  -- group g of the row at an offset is bit g - 1 of its membership bytes
   pub in-group-bit : (b : List ℕ) (at g : ℕ) → g ≤ groupLimit ed
       → inGroup (rowOf ed (drop at b)) g ≡ eqb (bitAt b (at + rowHead) (g - 1)) 1
   unfolding inGroup rowOf bitAt
@@ -98,7 +98,7 @@ module _ (ed : Edition) where
       let t = and-true (leb (rowBytes ed) (length b)) (eqb (u16At b 0) (rowLength ed)) (s .0) in
       (leb-true _ _ (t .0), eqb-true _ _ (t .1))
 
-  -- what the bytes from a place on begin with, where a whole row is left
+  -- what the bytes from an offset on begin with, where a whole row is left
   frame-at : (b : List ℕ) (at : ℕ) → at + rowBytes ed ≤ length b
       → rowFramed (drop at b) ≡ (eqb (u16At b at) (rowLength ed) && eqb (u16At b (at + 2)) (rowKind ed))
   frame-at b at l =
@@ -109,11 +109,11 @@ module _ (ed : Edition) where
         add-zero at,
       )
 
-  -- bytes are left at a place
+  -- bytes are left at an offset
   some-at : (b : List ℕ) (at : ℕ) → at < length b → eqb (length (drop at b)) 0 ≡ false
   some-at b at l = ne-eqb (length (drop at b)) 0 (λ e. let z = rw length-drop at e in omega arith)
 
-  -- what stands at a place
+  -- what stands at an offset
   module _ (b : List ℕ) (at : ℕ) (last : Member) where
     -- the tests that the reader asks of a row there
     abbrev asked : List Test
@@ -207,7 +207,7 @@ module _ (ed : Edition) where
         let w = held-frame v e in
         omega (arith, frame-of (drop at b) (w .passes .0) .0, length-drop at b, w .bits, row-parts ed)
 
-  -- the frame of the row at a place is right, and its number and the number of its side are known
+  -- the frame of the row at an offset is right, and its number and the number of its side are known
   pub record RowFields (b : List ℕ) (at number side : ℕ) : Type 0 where
     pub whole : at + rowBytes ed ≤ length b
     pub bytes : Bytes b
@@ -320,8 +320,8 @@ module _ (ed : Edition) where
   last-start b = refl
 
   module _ (groups : ℕ) (b : List ℕ) (row : ℕ) (l : row < rowLimit) where
-    abbrev place : ℕ
-    place = rowBytes ed * row
+    abbrev offset : ℕ
+    offset = rowBytes ed * row
 
     -- the member before
     abbrev before : Member
@@ -330,10 +330,10 @@ module _ (ed : Edition) where
     more : rowLimit - row ≡ suc (rowLimit - (row + 1))
     more = omega arith
 
-    pub going-end : rowGives answer.End ≡ frontAt ed b place before → going groups b row ≡ read (rowsBefore ed b row)
+    pub going-end : rowGives answer.End ≡ frontAt ed b offset before → going groups b row ≡ read (rowsBefore ed b row)
     unfolding going
     going-end e =
-        rw more (step-end groups (rowLimit - (row + 1)) (rowsBefore ed b row) (fromRow ed b row) (end-empty b place before e))
+        rw more (step-end groups (rowLimit - (row + 1)) (rowsBefore ed b row) (fromRow ed b row) (end-empty b offset before e))
 
     going-turned : (n : ℕ) → eqb (length (fromRow ed b row)) 0 ≡ false → refusal (rowTests ed groups before (fromRow ed b row)) ≡ n → 1 ≤ n
         → going groups b row ≡ refused n (row + 1)
@@ -342,18 +342,18 @@ module _ (ed : Edition) where
         rw more (step-refused groups (rowLimit - (row + 1)) n (rowsBefore ed b row) (fromRow ed b row) x y p
         ∙ (rw (length-rowsBefore b row)))
 
-    pub going-refused : (n : ℕ) → rowGives (answer.Refused n) ≡ frontAt ed b place before → going groups b row ≡ refused n (row + 1)
-    going-refused n e = let w = turned-tests b place before groups n e in going-turned n (w .0) (w .1) (w .2)
+    pub going-refused : (n : ℕ) → rowGives (answer.Refused n) ≡ frontAt ed b offset before → going groups b row ≡ refused n (row + 1)
+    going-refused n e = let w = turned-tests b offset before groups n e in going-turned n (w .0) (w .1) (w .2)
 
-    module _ (v : RowFound) (e : rowGives (answer.Row v) ≡ frontAt ed b place before) where
-      is-row : Held b place before v
-      is-row = held-frame b place before v e
+    module _ (v : RowFound) (e : rowGives (answer.Row v) ≡ frontAt ed b offset before) where
+      is-row : Held b offset before v
+      is-row = held-frame b offset before v e
 
       tests-are : (r : Bool) → Above groups 0 (groupLimit ed) (bitAt b (v .bits)) r
           → refusal (rowTests ed groups before (fromRow ed b row)) ≡ cond r 13 0
       tests-are r a =
           tests-rest groups before (fromRow ed b row) r (is-row .passes)
-          (clear-bits b place groups r (rw (is-row .bits) at a))
+          (clear-bits b offset groups r (rw (is-row .bits) at a))
 
       pub going-bits : Above groups 0 (groupLimit ed) (bitAt b (v .bits)) true → going groups b row ≡ refused 13 (row + 1)
       going-bits a = going-turned 13 (is-row .some) (tests-are true a) (omega arith)
@@ -417,7 +417,7 @@ module _ (ed : Edition) where
     pub rows-most : n ≤ rowLimit
     rows-most = rw (length-rowsBefore b n) at (register-read ed groups b (rowsBefore ed b n) (sym h) .rowCount)
 
-    -- each row stands at its place
+    -- each row stands at its offset
     pub rows-readable : RowsReadable ed b n
     unfolding rowTests
     rows-readable =
@@ -437,7 +437,7 @@ module _ (ed : Edition) where
     pub some : 0 < rowOf ed (fromRow ed b i) .member .number
     pub follows : precedes (rowOf ed (fromRow ed b i) .member) (lastMember (rowsBefore ed b i)) ≡ false
 
-  -- what the reader hands up at the place of a row that is known to be readable: that row, and no end or refusal
+  -- what the reader hands up at the offset of a row that is known to be readable: that row, and no end or refusal
   module _ {b : List ℕ} {n i at : ℕ} {last : Member} (r : RowsReadable ed b n) (l : i < n) (e : at ≡ rowBytes ed * i)
       (k : last ≡ lastMember (rowsBefore ed b i)) where
     stands : frontAt ed b at last ≡ rowHeld ed b (rowBytes ed * i) (lastMember (rowsBefore ed b i))

@@ -30,8 +30,8 @@ rowWords e = groupLimit e / wordBits
 abbrev pub rowFrame : Edition → ℕ
 rowFrame e = rowLength e + 65536 * rowKind e
 
--- what stands at a place: no bytes at all; a row, with its member, whether it goes on with the member before, the place of its
--- membership bytes and the place after it; or a row that is turned back with a refusal's number
+-- what stands at an offset: no bytes at all; a row, with its member, whether it goes on with the member before, the offset of its
+-- membership bytes and the offset after it; or a row that is turned back with a refusal's number
 pub data Front : Type 0 where
   ended : Front
   held : Member → Bool → ℕ → ℕ → Front
@@ -43,7 +43,7 @@ rowGives answer.End = ended
 rowGives (answer.Row r) = held (keyMember (r .key)) (r .joined) (r .bits) (r .next)
 rowGives (answer.Refused n) = turned n
 
--- the row at a place
+-- the row at an offset
 abbrev pub rowHeld : Edition → List ℕ → ℕ → Member → Front
 rowHeld e b at last = held (memberOf (drop at b)) (oneMember (memberOf (drop at b)) last) (at + rowHead) (at + rowBytes e)
 
@@ -51,7 +51,7 @@ rowHeld e b at last = held (memberOf (drop at b)) (oneMember (memberOf (drop at 
 abbrev pub frontTests : Edition → Member → List ℕ → List Test
 frontTests e last b = take 3 (rowTests e 0 last b)
 
--- what stands at a place of a register's bytes, behind the member `last` (`noMember` where no row is before)
+-- what stands at an offset of a register's bytes, behind the member `last` (`noMember` where no row is before)
 unfoldable pub frontAt : Edition → List ℕ → ℕ → Member → Front
 frontAt e b at last =
     cond (eqb (length (drop at b)) 0) ended
@@ -65,13 +65,13 @@ unfoldable pub rowsBefore : Edition → List ℕ → ℕ → List Row
 rowsBefore e b zero = []
 rowsBefore e b (suc n) = rowsBefore e b n ++ (rowOf e (fromRow e b n) ∷ [])
 
--- bit j of the bytes from a place on, the lowest bit of each byte first
+-- bit j of the bytes from an offset on, the lowest bit of each byte first
 unfoldable pub bitAt : List ℕ → ℕ → ℕ → ℕ
-bitAt b place j = digit (getD b (place + j / 8) 0) (j % 8)
+bitAt b offset j = digit (getD b (offset + j / 8) 0) (j % 8)
 
--- the digits of a word are the bits of word k of the bytes from a place on
-pub record WordAt (b : List ℕ) (place k word : ℕ) : Type 0 where
-  pub each : (j : ℕ) → j < wordBits → digit word j ≡ bitAt b place (wordBits * k + j)
+-- the digits of a word are the bits of word k of the bytes from an offset on
+pub record WordAt (b : List ℕ) (offset k word : ℕ) : Type 0 where
+  pub each : (j : ℕ) → j < wordBits → digit word j ≡ bitAt b offset (wordBits * k + j)
 
 -- whether one of the n bits f is set that belong to groups above `groups`; bit j is that of group before + j + 1
 pub record Above (groups before n : ℕ) (f : ℕ → ℕ) (r : Bool) : Type 0 where
@@ -83,7 +83,7 @@ abbrev pub rowsGive : Edition → List ℕ → Rows → Reading (List Row)
 rowsGive e b (rows.Count n) = read (rowsBefore e b n)
 rowsGive e b (rows.Refused n r) = refused n r
 
--- each of the first n rows stands at its place, behind the rows before it: what is known of a register that was read
+-- each of the first n rows stands at its offset, behind the rows before it: what is known of a register that was read
 pub record RowsReadable (e : Edition) (b : List ℕ) (n : ℕ) : Type 0 where
   pub each : (i : ℕ) → i < n
       → frontAt e b (rowBytes e * i) (lastMember (rowsBefore e b i)) ≡ rowHeld e b (rowBytes e * i) (lastMember (rowsBefore e b i))

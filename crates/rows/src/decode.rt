@@ -24,7 +24,7 @@ ghost use Rattle.wire.specs.Member.{isSide, sideOf};
 ghost use Rattle.wire.specs.MemberKey.{keyMember};
 ghost use Rattle.rows.specs.RowsRead.{rowGives, frontAt, held, rowFrame, wordBytes, WordAt, wordBits, Above, bitAt};
 
-// The key of a row's member, whether the row goes on with the member before, the place of its membership bytes, and the place
+// The key of a row's member, whether the row goes on with the member before, the offset of its membership bytes, and the offset
 // after the row.
 pub struct RowFound {
     pub key: u64,
@@ -40,7 +40,7 @@ pub enum RowAnswer {
     Refused(u32),
 }
 
-// what stands at a place where no whole row does
+// what stands at an offset where no whole row does
 fn no_row(register: &[u8], edition: u16, at: usize, last: u64) -> RowAnswer
     requires { ⌜ length (now register) < at + rowBytes (editionOf edition) ⌝ }
     ensures { λ r. ⌜ rowGives r ≡ frontAt (editionOf edition) (now (register .entry)) at (keyMember last) ⌝ }
@@ -69,7 +69,7 @@ fn key_of(number: u32, side: u16) -> u64
     2 * (number as u64) + (side as u64) - 1
 }
 
-// a row at a place
+// a row at an offset
 fn row_found(edition: u16, at: usize, key: u64, joined: bool) -> RowAnswer
     requires { ⌜ at + rowBytes (editionOf edition) < 2 ^ 64 ⌝ }
     ensures { λ r. ⌜ rowGives r ≡ held (keyMember key) joined (at + rowHead) (at + rowBytes (editionOf edition)) ⌝ }
@@ -82,7 +82,7 @@ fn row_found(edition: u16, at: usize, key: u64, joined: bool) -> RowAnswer
     })
 }
 
-// the row at a place where length and kind are a row's
+// the row at an offset where length and kind are a row's
 fn row_framed(register: &[u8], edition: u16, at: usize, last: u64) -> RowAnswer
     requires { ⌜ (at + rowBytes (editionOf edition) ≤ length (now register)) × (u32At (now register) at ≡ rowFrame (editionOf edition)) ⌝ }
     ensures { λ r. ⌜ rowGives r ≡ frontAt (editionOf edition) (now (register .entry)) at (keyMember last) ⌝ }
@@ -105,7 +105,7 @@ fn row_framed(register: &[u8], edition: u16, at: usize, last: u64) -> RowAnswer
     RowAnswer::Refused(MEMBER_ORDER)
 }
 
-// The row at a place, behind the member with the key `last`, 0 where no row is before.
+// The row at an offset, behind the member with the key `last`, 0 where no row is before.
 pub fn row_at(register: &[u8], edition: u16, at: usize, last: u64) -> RowAnswer
     ensures { λ r. ⌜ rowGives r ≡ frontAt (editionOf edition) (now (register .entry)) at (keyMember last) ⌝ }
 {
@@ -122,12 +122,12 @@ pub fn row_at(register: &[u8], edition: u16, at: usize, last: u64) -> RowAnswer
     row_framed(register, edition, at, last)
 }
 
-// Word k of the membership bytes at a place.
-pub fn word_at(register: &[u8], place: usize, k: u16) -> u64
-    requires { ⌜ place + wordBytes * (k + 1) ≤ length (now register) ⌝ }
-    ensures { λ r. ⌜ WordAt (now (register .entry)) place k r ⌝ }
+// Word k of the membership bytes at an offset.
+pub fn word_at(register: &[u8], offset: usize, k: u16) -> u64
+    requires { ⌜ offset + wordBytes * (k + 1) ≤ length (now register) ⌝ }
+    ensures { λ r. ⌜ WordAt (now (register .entry)) offset k r ⌝ }
 {
-    bytes::u64_at(register, place + WORD_BYTES * (k as usize))
+    bytes::u64_at(register, offset + WORD_BYTES * (k as usize))
 }
 
 // whether a bit of a group above `groups` is set in a word that comes after `before` groups and has such a group
@@ -141,13 +141,13 @@ fn word_above(word: u64, before: u16, groups: u16) -> bool
     (word >> (groups - before)) != 0
 }
 
-// Whether a bit of a group above `groups` is set in the membership bytes at a place. Words that have no such bit are passed over.
-pub fn bit_above(register: &[u8], edition: u16, place: usize, groups: u16) -> bool
-    requires { ⌜ place + membershipBytes (editionOf edition) ≤ length (now register) ⌝ }
-    ensures { λ r. ⌜ Above groups 0 (groupLimit (editionOf edition)) (bitAt (now (register .entry)) place) r ⌝ }
+// Whether a bit of a group above `groups` is set in the membership bytes at an offset. Words that have no such bit are passed over.
+pub fn bit_above(register: &[u8], edition: u16, offset: usize, groups: u16) -> bool
+    requires { ⌜ offset + membershipBytes (editionOf edition) ≤ length (now register) ⌝ }
+    ensures { λ r. ⌜ Above groups 0 (groupLimit (editionOf edition)) (bitAt (now (register .entry)) offset) r ⌝ }
 {
     for k in groups / WORD_BITS..row_words(edition) {
-        if word_above(word_at(register, place, k), WORD_BITS * k, groups) {
+        if word_above(word_at(register, offset, k), WORD_BITS * k, groups) {
             return true;
         }
     }

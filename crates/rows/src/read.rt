@@ -1,8 +1,8 @@
 // All rows of a register, read to an end or to a refusal (10 to 13, 15).
 use crate::decode::RowAnswer;
 use crate::decode::bit_above;
-use crate::limits::ROWS;
 use crate::limits::ROW_TOO_MANY;
+use crate::limits::ROWS;
 use crate::reader::row_of;
 use wire::refusals::BIT_ABOVE;
 use wire::refusals::TOO_MANY_ROWS;

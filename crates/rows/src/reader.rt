@@ -1,4 +1,4 @@
-// The reader that walks the rows: the lent register, the number of its sheet's edition, the place reached, and the key of the
+// The reader that walks the rows: the lent register, the number of its sheet's edition, the offset reached, and the key of the
 // member before it, 0 at first. The borrow checker covers no function over it, so each is proved by hand; the work is `row_at`'s,
 // which takes a plain slice.
 use crate::decode::RowAnswer;
@@ -15,14 +15,14 @@ pub struct RowReader<'a> {
     pub last: u64,
 }
 
-// The row at the place reached, with its member's key, whether it goes on with the member before, and the place reached after it.
+// The row at the offset reached, with its member's key, whether it goes on with the member before, and the offset reached after it.
 pub fn next<'a>(r: RowReader<'a>) -> RowAnswer
     ensures { λ s. ⌜ rowGives s ≡ frontAt (editionOf (r .entry .edition)) (now (r .entry .bytes)) (r .entry .at) (keyMember (r .entry .last)) ⌝ }
 {
     row_at(r.bytes, r.edition, r.at, r.last)
 }
 
-// One step of the walk, by a reader that has reached the place `at` behind a member with the key `last`.
+// One step of the walk, by a reader that has reached the offset `at` behind a member with the key `last`.
 pub fn row_of(register: &[u8], edition: u16, at: usize, last: u64) -> RowAnswer
     ensures { λ r. ⌜ rowGives r ≡ frontAt (editionOf edition) (now (register .entry)) at (keyMember last) ⌝ }
 {

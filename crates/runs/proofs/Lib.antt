@@ -1,2 +1,2 @@
 pub mod ToldLaws
-pub mod PlacedLaws
+pub mod StartedLaws

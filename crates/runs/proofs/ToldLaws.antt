@@ -11,7 +11,7 @@ use Rattle.meaning.specs.Tree.{Tree, Rooted}
 use Rattle.sizes.specs.Balanced.{Balanced}
 use Rattle.sizes.specs.Runs.{Starts}
 use Rattle.sizes.proofs.RunsInWords.{told-starts}
-use Rattle.runs.specs.Told.{Told, Placeable}
+use Rattle.runs.specs.Told.{Told, Startable}
 
 -- such starts show sizes that the rules allow
 pub told-runs : {s : Sheet} {f first : ℕ → ℕ} → Tree s → Rooted s → Balanced s f → Told s f first → Starts s f first
@@ -23,9 +23,9 @@ told-runs {s} {f} {first} t r b w =
         compare-eq g 1 (λ i. rw i (le-of-eq (sym (w .root)))) (λ n. absurd (omega (arith, r .rest g q (omega arith))))
 
 -- stores to the tables leave them long enough
-pub placeable-kept : {groups : List ℕ} {n : ℕ} {sizes firsts ends firsts' ends' : List ℕ} → Placeable groups n sizes firsts ends
-    → length firsts' ≡ length firsts → length ends' ≡ length ends → Placeable groups n sizes firsts' ends'
-placeable-kept w d e = record {
+pub startable-kept : {groups : List ℕ} {n : ℕ} {sizes firsts ends firsts' ends' : List ℕ} → Startable groups n sizes firsts ends
+    → length firsts' ≡ length firsts → length ends' ≡ length ends → Startable groups n sizes firsts' ends'
+startable-kept w d e = record {
   grown = w .grown;
   sizes-long = w .sizes-long;
   firsts-long = omega arith;

@@ -1,4 +1,4 @@
--- Starts in document 01's words, for given sizes: what `place_runs` leaves in its table.
+-- Starts in document 01's words, for given sizes: what `start_runs` leaves in its table.
 use Prim.Native.Nat.{ℕ, _+_, _*_, _≤_}
 use mathlib.Core.Path.{_≡_}
 use mathlib.Core.List.{List}
@@ -19,8 +19,8 @@ pub record Told (s : Sheet) (size first : ℕ → ℕ) : Type 0 where
 abbrev pub runLimit : ℕ
 runLimit = 1 + sizeLimit * groupCapacity
 
--- the tables that `place_runs` takes: lent long enough, the sizes balanced and not too large
-pub record Placeable (groups : List ℕ) (n : ℕ) (sizes firsts ends : List ℕ) : Type 0 where
+-- the tables that `start_runs` takes: lent long enough, the sizes balanced and not too large
+pub record Startable (groups : List ℕ) (n : ℕ) (sizes firsts ends : List ℕ) : Type 0 where
   pub grown : Tabled groups n
   pub sizes-long : n ≤ length sizes
   pub firsts-long : n ≤ length firsts

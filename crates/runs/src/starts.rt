@@ -9,8 +9,8 @@ ghost use Rattle.meaning.specs.Sheet.{Son};
 ghost use Rattle.tables.specs.Modes.{disjointMode, coverMode, sameMode};
 ghost use Rattle.tables.specs.Numbers.{numberIn};
 ghost use Rattle.tables.specs.SheetIn.{sheetIn};
-ghost use Rattle.runs.specs.Placed.{startBy, StartIs, Placed};
-ghost use Rattle.runs.specs.Told.{runLimit, Placeable, Told};
+ghost use Rattle.runs.specs.Started.{startBy, StartIs, Started};
+ghost use Rattle.runs.specs.Told.{runLimit, Startable, Told};
 
 // The start of a son with `own` members under a group of this mode, start and size.
 fn start_under(mode: u16, first: u32, ended: u32, size: u32, own: u32) -> u32
@@ -42,9 +42,9 @@ fn son_start(
     p: GroupNo,
     g: GroupNo,
 ) -> u32
-    requires { ⌜ Placeable (now groups) size (now sizes) (now firsts) (now ends) ⌝ }
+    requires { ⌜ Startable (now groups) size (now sizes) (now firsts) (now ends) ⌝ }
     requires { ⌜ (1 ≤ p .0) × (p .0 < g .0) × (g .0 ≤ size) × Son (sheetIn (now groups) size) (p .0) (g .0) ⌝ }
-    requires { ⌜ Placed (sheetIn (now groups) size) (numberIn (now sizes)) (numberIn (now firsts)) (numberIn (now ends))
+    requires { ⌜ Started (sheetIn (now groups) size) (numberIn (now sizes)) (numberIn (now firsts)) (numberIn (now ends))
         (g .0 - 1) ⌝ }
     ensures { λ r. ⌜ StartIs (sheetIn (now (groups .entry)) size) (numberIn (now (sizes .entry))) (numberIn (now
         (firsts .entry))) (numberIn (now (ends .entry))) (p .0) (g .0) r ⌝ }
@@ -60,7 +60,7 @@ fn son_start(
     )
 }
 
-fn place_son(
+fn start_son(
     groups: &[u16],
     size: u16,
     sizes: &[u32],
@@ -68,11 +68,11 @@ fn place_son(
     ends: &mut [u32],
     g: GroupNo,
 )
-    requires { ⌜ Placeable (now groups) size (now sizes) (now firsts) (now ends) ⌝ }
+    requires { ⌜ Startable (now groups) size (now sizes) (now firsts) (now ends) ⌝ }
     requires { ⌜ (2 ≤ g .0) × (g .0 ≤ size) ⌝ }
-    requires { ⌜ Placed (sheetIn (now groups) size) (numberIn (now sizes)) (numberIn (now firsts)) (numberIn (now ends))
+    requires { ⌜ Started (sheetIn (now groups) size) (numberIn (now sizes)) (numberIn (now firsts)) (numberIn (now ends))
         (g .0 - 1) ⌝ }
-    ensures { λ _. ⌜ Placed (sheetIn (now (groups .entry)) size) (numberIn (now (sizes .entry))) (numberIn (now
+    ensures { λ _. ⌜ Started (sheetIn (now (groups .entry)) size) (numberIn (now (sizes .entry))) (numberIn (now
         (firsts .exit))) (numberIn (now (ends .exit))) (g .0) ⌝ }
 {
     let p = parent_group(groups, size, g);
@@ -84,8 +84,8 @@ fn place_son(
     ends[j - 1] = first + sizes[i - 1];
 }
 
-pub fn place_runs(groups: &[u16], size: u16, sizes: &[u32], firsts: &mut [u32], ends: &mut [u32])
-    requires { ⌜ Placeable (now groups) size (now sizes) (now firsts) (now ends) ⌝ }
+pub fn start_runs(groups: &[u16], size: u16, sizes: &[u32], firsts: &mut [u32], ends: &mut [u32])
+    requires { ⌜ Startable (now groups) size (now sizes) (now firsts) (now ends) ⌝ }
     ensures { λ _. ⌜ Told (sheetIn (now (groups .entry)) size) (numberIn (now (sizes .entry))) (numberIn (now
         (firsts .exit))) ⌝ }
 {
@@ -94,6 +94,6 @@ pub fn place_runs(groups: &[u16], size: u16, sizes: &[u32], firsts: &mut [u32], 
     let mut i: u16 = 1;
     while i < size {
         i += 1;
-        place_son(groups, size, sizes, firsts, ends, GroupNo(i));
+        start_son(groups, size, sizes, firsts, ends, GroupNo(i));
     }
 }

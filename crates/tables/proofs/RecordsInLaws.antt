@@ -6,11 +6,11 @@ use lib.ListN.{length, getD, drop}
 use Rattle.laws.proofs.TabulateLaws.{length-tabulate, getD-tabulate}
 use Rattle.tables.specs.RecordsIn.{recordsIn}
 
-module _ {A : Type 0} (value : List ℕ → A) (s places : List ℕ) (n : ℕ) where
-  pub length-recordsIn : length (recordsIn value s places n) ≡ n
+module _ {A : Type 0} (value : List ℕ → A) (s offsets : List ℕ) (n : ℕ) where
+  pub length-recordsIn : length (recordsIn value s offsets n) ≡ n
   unfolding recordsIn
-  length-recordsIn = length-tabulate (λ i. value (drop (getD places i 0) s)) n
+  length-recordsIn = length-tabulate (λ i. value (drop (getD offsets i 0) s)) n
 
-  pub getD-recordsIn : (i : ℕ) (d : A) → i < n → getD (recordsIn value s places n) i d ≡ value (drop (getD places i 0) s)
+  pub getD-recordsIn : (i : ℕ) (d : A) → i < n → getD (recordsIn value s offsets n) i d ≡ value (drop (getD offsets i 0) s)
   unfolding recordsIn
-  getD-recordsIn i d l = getD-tabulate (λ i. value (drop (getD places i 0) s)) n i d l
+  getD-recordsIn i d l = getD-tabulate (λ i. value (drop (getD offsets i 0) s)) n i d l

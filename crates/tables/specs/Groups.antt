@@ -23,9 +23,9 @@ groupIn t g = record {
 unfoldable pub groupsIn : List ℕ → ℕ → List GroupRecord
 groupsIn t n = tabulate (groupIn t) n
 
--- places of a table by group: group numbers start at 1, and place 0 is for none
-abbrev pub groupPlaces : ℕ
-groupPlaces = groupCapacity + 1
+-- the length of a table that is reached by group numbers: these start at 1, and 0 is for none
+abbrev pub groupNumbers : ℕ
+groupNumbers = groupCapacity + 1
 
 -- the fields of group g in a table of groups
 abbrev pub parentIn : List ℕ → ℕ → ℕ

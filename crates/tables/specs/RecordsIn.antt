@@ -4,6 +4,6 @@ use mathlib.Core.List.{List}
 use lib.ListN.{getD, drop}
 use Rattle.laws.specs.Tabulate.{tabulate}
 
--- the first n records of one sort, which stand at these places of the bytes s
+-- the first n records of one sort, which stand at these offsets of the bytes s
 unfoldable pub recordsIn : {A : Type 0} → (List ℕ → A) → List ℕ → List ℕ → ℕ → List A
-recordsIn value s places n = tabulate (λ i. value (drop (getD places i 0) s)) n
+recordsIn value s offsets n = tabulate (λ i. value (drop (getD offsets i 0) s)) n

@@ -1,8 +1,8 @@
 // The limits of a sheet that hold in every edition, and the lengths of the tables that hold any sheet.
 ghost use Prim.Native.Nat.{_*_};
 
-// Places by a group's number, 0 for none.
-pub const GROUP_PLACES: usize = GROUP_CAPACITY + 1;
+// The length of a table that is reached by group numbers, 0 for none.
+pub const GROUP_NUMBERS: usize = GROUP_CAPACITY + 1;
 
 // The limits of the format that hold in every edition: most names and claims of a sheet, most names in one list of a claim, the
 // greatest lo and the greatest mode.
@@ -27,16 +27,16 @@ pub const GROUP_FIELDS: usize = 4;
 
 pub const CLAIM_SLOTS: usize = 4;
 
-// The lengths of the tables that hold any sheet: groups, names, places of labels, claims, places of claims' names.
+// The lengths of the tables that hold any sheet: groups, names, offsets of labels, claims, offsets of claims' names.
 pub const GROUP_TABLE: usize = GROUP_FIELDS * GROUP_CAPACITY;
 
 pub const NAME_TABLE: usize = NAMES as usize;
 
 pub const LABEL_TABLE: usize = NAMES as usize;
 
-pub const CLAIM_TABLE: usize = CLAIM_SLOTS * PLACE_TABLE;
+pub const CLAIM_TABLE: usize = CLAIM_SLOTS * OFFSET_TABLE;
 
-pub const PLACE_TABLE: usize = CLAIMS as usize;
+pub const OFFSET_TABLE: usize = CLAIMS as usize;
 
 // the last kind of a claim
 pub const LAST_CLAIM: u16 = 7;

@@ -60,12 +60,12 @@ groups-none-taken word before w m t =
 module _ {before left g : ℕ} (w : LowestGroup before left g) where
   lowest-bit : wordBit left before g ≡ 1
   lowest-bit =
-      let e : g - 1 - before ≡ w .place = omega arith in
+      let e : g - 1 - before ≡ w .lowBit = omega arith in
       rw (le-leb (before + 1) g (omega arith), e) (w .lowest .set)
 
   rest-bit : wordBit (bitAnd left (left - 1)) before g ≡ 0
   rest-bit =
-      let e : g - 1 - before ≡ w .place = omega arith in
+      let e : g - 1 - before ≡ w .lowBit = omega arith in
       rw (le-leb (before + 1) g (omega arith), e) (w .lowest .cleared)
 
   other-bits : (h : ℕ) → (h ≡ g → ⊥) → wordBit (bitAnd left (left - 1)) before h ≡ wordBit left before h

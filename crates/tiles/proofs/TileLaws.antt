@@ -47,16 +47,16 @@ word-put t k m word z a b c =
     }
 
 -- the first k words of a row are put
-pub bits-none : (b : List ℕ) (place m : ℕ) (t : List ℕ) → MemberPut (firstBits b place 0) m t t
-bits-none b place m t =
+pub bits-none : (b : List ℕ) (offset m : ℕ) (t : List ℕ) → MemberPut (firstBits b offset 0) m t t
+bits-none b offset m t =
     record { put = put-none (tileDigit t) (λ g i. rw (le-ltb (g - 1) (wordBits * 0) (omega arith)) (split (eqb i m) (λ e. rw e) (λ e. rw e))) }
 
-pub bits-more : {b : List ℕ} {place k m word : ℕ} {t u v : List ℕ} → MemberPut (firstBits b place k) m t u → WordAt b place k word
-    → word < 2 ^ 64 → WordPut word (wordBits * k) m u v → MemberPut (firstBits b place (k + 1)) m t v
-bits-more {b} {place} {k} {m} {word} p w l q =
+pub bits-more : {b : List ℕ} {offset k m word : ℕ} {t u v : List ℕ} → MemberPut (firstBits b offset k) m t u → WordAt b offset k word
+    → word < 2 ^ 64 → WordPut word (wordBits * k) m u v → MemberPut (firstBits b offset (k + 1)) m t v
+bits-more {b} {offset} {k} {m} {word} p w l q =
     record { put = put-then (p .put) (q .put) (λ g i x y o. split (eqb i m) (λ e. rw e (step g x)) (λ e. rw e (omega arith))) }
   where
-    step : (g : ℕ) → 1 ≤ g → max (firstBits b place k g) (wordBit word (wordBits * k) g) ≡ firstBits b place (k + 1) g
+    step : (g : ℕ) → 1 ≤ g → max (firstBits b offset k g) (wordBit word (wordBits * k) g) ≡ firstBits b offset (k + 1) g
     step g x =
         compare-le (wordBits * k + 1) g
         (λ o. compare-le (wordBits * (k + 1)) (g - 1)

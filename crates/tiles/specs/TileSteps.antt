@@ -22,7 +22,7 @@ unfoldable pub tileDigit : List ℕ → ℕ → ℕ → ℕ
 tileDigit t g i = digit (getD t (wordBits * ((g - 1) / wordBits) + i) 0) ((g - 1) % wordBits)
 
 -- the bits of one member, in a tile: those of a word that comes after `before` groups; of the first k words of the bytes from a
--- place on, and of a row
+-- offset on, and of a row
 abbrev pub ofMember : ℕ → (ℕ → ℕ) → ℕ → ℕ → ℕ
 ofMember m f g i = cond (eqb i m) (f g) 0
 
@@ -36,17 +36,17 @@ abbrev pub WordPut : ℕ → ℕ → ℕ → List ℕ → List ℕ → Type 0
 WordPut word before = MemberPut (wordBit word before)
 
 abbrev pub firstBits : List ℕ → ℕ → ℕ → ℕ → ℕ
-firstBits b place k g = cond (ltb (g - 1) (wordBits * k)) (bitAt b place (g - 1)) 0
+firstBits b offset k g = cond (ltb (g - 1) (wordBits * k)) (bitAt b offset (g - 1)) 0
 
 abbrev pub RowPut : Edition → List ℕ → ℕ → ℕ → List ℕ → List ℕ → Type 0
-RowPut ed b place = MemberPut (firstBits b place (rowWords ed))
+RowPut ed b offset = MemberPut (firstBits b offset (rowWords ed))
 
 -- group g is the lowest set digit of a word whose digits are the groups after `before`
 pub record LowestGroup (before word g : ℕ) : Type 0 where
-  pub place : ℕ
-  pub within : place < wordBits
-  pub numbered : g ≡ before + place + 1
-  pub lowest : Lowest word place (bitAnd word (word - 1))
+  pub lowBit : ℕ
+  pub within : lowBit < wordBits
+  pub numbered : g ≡ before + lowBit + 1
+  pub lowest : Lowest word lowBit (bitAnd word (word - 1))
 
 abbrev pub GroupPut : ℕ → ℕ → ℕ → List ℕ → List ℕ → Type 0
 GroupPut h w m = MembersPut (ofMember m (λ g. bit (eqb g h))) w
@@ -71,7 +71,7 @@ abbrev pub allDigits : List ℕ → List ℕ → ℕ → ℕ → ℕ → ℕ
 allDigits c t w g i = max (columnDigit c g i) (ofWord w (tileDigit t) g i)
 
 -- from columns c and tile t behind w words to columns d and tile u behind v words: the digits are the same, and the last of so
--- many members has its place in the tile
+-- many members is in the tile
 pub record RoomMade (words members : ℕ) (c t : List ℕ) (w : ℕ) (d u : List ℕ) (v : ℕ) : Type 0 where
   pub same : (g i : ℕ) → 1 ≤ g → g ≤ wordBits * words → i < rowLimit → allDigits d u v g i ≡ allDigits c t w g i
   pub begun : wordBits * v < members

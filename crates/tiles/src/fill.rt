@@ -39,7 +39,7 @@ fn group_words(size: u16) -> u16
 }
 
 // The columns of so many groups, of the rows of a register that was read, and how many members they have: the reader walks the rows
-// again, finds each at its place, and tells which go on with the member before.
+// again, finds each at its offset, and tells which go on with the member before.
 pub fn fill_columns(
     register: &[u8],
     edition: u16,

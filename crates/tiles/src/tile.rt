@@ -71,7 +71,7 @@ fn put_transposed(
     }
 }
 
-// the groups of a sample of a tile's members, of the 64 groups whose words begin at a place
+// the groups of a sample of a tile's members, of the 64 groups whose words begin at an index
 fn sampled(tile: &[u64], at: usize) -> u64
     requires { ⌜ at + wordBits ≤ length (now tile) ⌝ }
 {
@@ -149,20 +149,20 @@ fn put_word(tile: &mut [u64], k: u16, i: usize, word: u64)
 }
 
 // One of the rows of member i of a tile. It has two words or four, put one after another: a loop over so few costs more.
-pub fn put_row(register: &[u8], edition: u16, place: usize, i: usize, tile: &mut [u64])
-    requires { ⌜ (place + membershipBytes (editionOf edition) ≤ length (now register)) × ((i < wordBits) × (groupCapacity ≤ length (now tile))) ⌝ }
-    ensures { λ _. ⌜ RowPut (editionOf edition) (now (register .entry)) place i (now (tile .entry)) (now (tile .exit)) ⌝ }
+pub fn put_row(register: &[u8], edition: u16, offset: usize, i: usize, tile: &mut [u64])
+    requires { ⌜ (offset + membershipBytes (editionOf edition) ≤ length (now register)) × ((i < wordBits) × (groupCapacity ≤ length (now tile))) ⌝ }
+    ensures { λ _. ⌜ RowPut (editionOf edition) (now (register .entry)) offset i (now (tile .entry)) (now (tile .exit)) ⌝ }
 {
-    put_word(tile, 0, i, word_at(register, place, 0));
-    put_word(tile, 1, i, word_at(register, place, 1));
+    put_word(tile, 0, i, word_at(register, offset, 0));
+    put_word(tile, 1, i, word_at(register, offset, 1));
     if row_words(edition) <= 2 {
         return;
     }
-    put_word(tile, 2, i, word_at(register, place, 2));
-    put_word(tile, 3, i, word_at(register, place, 3));
+    put_word(tile, 2, i, word_at(register, offset, 2));
+    put_word(tile, 3, i, word_at(register, offset, 3));
 }
 
-// How many tiles are put, where the last of so many members is to be in the tile behind them: a tile that has no place left for it is put.
+// How many tiles are put, where the last of so many members is to be in the tile behind them: a tile that has no room left for it is put.
 pub fn make_room(
     tile: &mut [u64],
     words: u16,

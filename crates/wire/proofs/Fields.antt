@@ -15,7 +15,7 @@ use Rattle.wire.specs.SheetFormat.{u16s}
 use Rattle.wire.specs.Encoding.{Bytes, encodeRecord}
 use Rattle.wire.proofs.Sorts.{framed-of, Framed}
 
--- places counted from further on
+-- offsets counted from further on
 pub u16-drop : (k : ℕ) (b : List ℕ) (i : ℕ) → u16At (drop k b) i ≡ u16At b (k + i)
 unfolding u16At
 u16-drop k b i =

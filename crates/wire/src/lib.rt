@@ -1,5 +1,5 @@
-// The wire format: bytes, records, places, field ranges and labels of sheets, rows of registers, records of replies.
-// `specs/` is the format written down, which readers and writers cite, and that it loses nothing (`RoundTrip..`).
+// The wire format: bytes, records, field ranges and labels of sheets, rows of registers, lengths of replies.
+// `specs/` is the format written down, which readers and writers cite; `proofs/RoundTrip..` show that it loses nothing.
 // Document 01, "Records of a sheet", "Registers", "Replies" and "Turned back, in checking order"; document 02, cards 1, 2, 4 and 5.
 pub mod bytes;
 pub mod edition;

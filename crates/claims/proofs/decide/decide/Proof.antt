@@ -8,11 +8,11 @@ use Rattle.claims.proofs.decide.decide.Tie as tie
 judge-requires : tie.Need-judge-requires
 judge-requires c κs = search needs
 
-slice-aggregate-place-runs : tie.Need-slice-aggregate-place-runs
-slice-aggregate-place-runs c = search needs
+slice-aggregate-start-runs : tie.Need-slice-aggregate-start-runs
+slice-aggregate-start-runs c = search needs
 
-place-runs-requires : tie.Need-place-runs-requires
-place-runs-requires c κs =
+start-runs-requires : tie.Need-start-runs-requires
+start-runs-requires c κs =
     let c4 = c .before .before .before .before in
     let c11 = c4 .before .before .before .before .before .before .before in
     let s = c11 .before .before .before .before .before .before .before .before .before .before in
@@ -52,7 +52,7 @@ returns c =
     let w = s .pre .0 .grown in
     let j = c16 .judge in
     let d = j .ensures .0 .found (c9 .if1 .taken) in
-    let t = rw (j .ensures .1) at (c .before .before .before .before .place-runs .ensures) in
+    let t = rw (j .ensures .1) at (c .before .before .before .before .start-runs .ensures) in
     (decided-shown (c .verdict-on .ensures _ _) (showing-shows (w .tree) (w .rooted) d t), j .ensures .1)
 
 verdict-on-requires-2 : tie.Need-verdict-on-requires-2
@@ -77,8 +77,8 @@ decide-spec =
     tie.close
     (tie.spec
     judge-requires
-    slice-aggregate-place-runs
-    place-runs-requires
+    slice-aggregate-start-runs
+    start-runs-requires
     verdict-on-requires
     same-length
     same-length-2

@@ -12,10 +12,10 @@ use Rattle.labels.proofs.used.used_before.Statement.{statement}
 use Rattle.labels.proofs.used.used_before.Tie as tie
 
 abbrev Inv-loop : tie.InvT-loop
-Inv-loop s places n at j₀ j = (j ≤ n) × (used (recordsIn nameOf s places j) (nameOf (drop at s) .label) ≡ false)
+Inv-loop s offsets n at j₀ j = (j ≤ n) × (used (recordsIn nameOf s offsets j) (nameOf (drop at s) .label) ≡ false)
 
 abbrev μ-loop : tie.MeasureT-loop
-μ-loop s places n at j₀ j = n - j
+μ-loop s offsets n at j₀ j = n - j
 
 loop-holds : tie.Need-loop-holds Inv-loop μ-loop
 loop-holds c = (search needs, used-none _ _ _)

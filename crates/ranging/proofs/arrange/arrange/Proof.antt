@@ -8,8 +8,8 @@ use Rattle.ranging.proofs.arrange.arrange.Tie as tie
 size-groups-requires : tie.Need-size-groups-requires
 size-groups-requires c κs = search needs
 
-place-runs-requires : tie.Need-place-runs-requires
-place-runs-requires c κs =
+start-runs-requires : tie.Need-start-runs-requires
+start-runs-requires c κs =
     let sized = c .before .before .before .before .before .before .before in
     let s = sized .before .before .before .before .before .before .before .before in
     table-placeable (s .before .pre .0) _ (sized .size-groups .ensures) _ _
@@ -31,14 +31,14 @@ returns c =
     let sized = placed .before .before .before .before .before .before .before .before in
     let s = sized .before .before .before .before .before .before .before .before in
     table-arranged (s .before .pre .0) (sized .size-groups .last .1 .1 .1 .1 .0) (sized .size-groups .ensures) _
-    (placed .place-runs .ensures)
+    (placed .start-runs .ensures)
 
 pub arrange-spec : {M : Type 1} → statement M
 arrange-spec =
     tie.close
     (tie.spec
     size-groups-requires
-    place-runs-requires
+    start-runs-requires
     same-length
     same-length-2
     same-length-3

@@ -21,12 +21,12 @@ use Rattle.reading.proofs.load.load_claims.Statement.{statement}
 use Rattle.reading.proofs.load.load_claims.Tie as tie
 
 abbrev Inv-loop : tie.InvT-loop
-Inv-loop s from count names first claims₀ places₀ at₀ i₀ claims places at i = (i ≤ count) ×
-    ((at ≤ length s) × (((length claims ≡ length claims₀) × (length places ≡ length places₀)) ×
-    (Left (claimTests names) claimOf s from count first i at (claimsIn s claims places i) × AllHeld s names claims places i)))
+Inv-loop s from count names first claims₀ places₀ at₀ i₀ claims offsets at i = (i ≤ count) ×
+    ((at ≤ length s) × (((length claims ≡ length claims₀) × (length offsets ≡ length places₀)) ×
+    (Left (claimTests names) claimOf s from count first i at (claimsIn s claims offsets i) × AllHeld s names claims offsets i)))
 
 abbrev μ-loop : tie.MeasureT-loop
-μ-loop s from count names first claims₀ places₀ at₀ i₀ claims places at i = count - i
+μ-loop s from count names first claims₀ places₀ at₀ i₀ claims offsets at i = count - i
 
 -- the place of the loop's head, the bytes and the number of names, seen from after a record was taken; and where that was
 abbrev head : tie.After-known-told Inv-loop μ-loop → tie.At-loop Inv-loop μ-loop
@@ -55,8 +55,8 @@ taken : (c : tie.After-known-told Inv-loop μ-loop) →
 taken c = answered-record (asked (c .before .before .before)) (c .before .answer .given .1)
 
 -- the tables have room for it
-room : (c : tie.After-put-claim-arg2 Inv-loop μ-loop) → let l = head (told c) .loop in ClaimRoom (l .claims) (l .places) (l .i)
-room c = record { numbers = omega arith; place = omega arith }
+room : (c : tie.After-put-claim-arg2 Inv-loop μ-loop) → let l = head (told c) .loop in ClaimRoom (l .claims) (l .offsets) (l .i)
+room c = record { numbers = omega arith; offset = omega arith }
 
 -- what follows it
 next : (c : tie.After-claim-bytes Inv-loop μ-loop) → let l = head (told (c .before .before .before .before .before .before)) .loop in

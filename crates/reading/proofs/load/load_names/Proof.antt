@@ -35,7 +35,7 @@ Inv-loop s from count edition groups names₀ labels₀ seen₀ at₀ i₀ names
 abbrev μ-loop : tie.MeasureT-loop
 μ-loop s from count edition groups names₀ labels₀ seen₀ at₀ i₀ names labels seen at i = count - i
 
--- the places of the loop's head, of its test and of the entry, seen from after a record was taken; and where that was
+-- the offsets of the loop's head, of its test and of the entry, seen from after a record was taken; and where that was
 abbrev head : tie.After-known-told Inv-loop μ-loop → tie.At-loop Inv-loop μ-loop
 head c = c .before .before .before .before .before
 

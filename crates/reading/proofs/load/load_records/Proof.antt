@@ -19,7 +19,7 @@ use borrow.Author.Needs.{needs}
 use Rattle.reading.proofs.load.load_records.Statement.{statement}
 use Rattle.reading.proofs.load.load_records.Tie as tie
 
--- the places of the three stages and of the entry, seen from after each stage
+-- the offsets of the three stages and of the entry, seen from after each stage
 abbrev groups-read : tie.After-known-told → tie.After-load-groups
 groups-read c = c .before .before .before .before .before
 
@@ -153,7 +153,7 @@ load-claims-requires : tie.Need-load-claims-requires
 load-claims-requires c κs =
     let pre = entry (groups-told (c .before .before .before .before)) .pre .1 in
     let limits = pre .0 in
-    (claims-room (c .before .before .before .before), (limits .fewClaims, (omega arith, (pre .1 .claimRoom, pre .1 .placeRoom))))
+    (claims-room (c .before .before .before .before), (limits .fewClaims, (omega arith, (pre .1 .claimRoom, pre .1 .offsetRoom))))
 
 enum-known-c : tie.Need-enum-known-c
 enum-known-c c = search needs

@@ -13,7 +13,7 @@ use borrow.Author.Needs.{needs}
 use Rattle.reading.proofs.load.load_sheet.Statement.{statement}
 use Rattle.reading.proofs.load.load_sheet.Tie as tie
 
--- the places where the head was taken and of the entry
+-- the offsets where the head was taken and of the entry
 abbrev told : tie.After-load-records-arg5 → tie.After-known-told
 told c = c .before .before .before .before .before .before .before .before
 

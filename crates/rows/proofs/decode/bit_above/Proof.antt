@@ -12,11 +12,11 @@ use Rattle.rows.proofs.decode.bit_above.Statement.{statement}
 use Rattle.rows.proofs.decode.bit_above.Tie as tie
 
 abbrev Inv-loop : tie.InvT-loop
-Inv-loop register edition place groups k₀ k-end k =
-    (k-end ≡ rowWords (editionOf edition)) × (groups / wordBits ≤ k) × Above groups 0 (wordBits * k) (bitAt register place) false
+Inv-loop register edition offset groups k₀ k-end k =
+    (k-end ≡ rowWords (editionOf edition)) × (groups / wordBits ≤ k) × Above groups 0 (wordBits * k) (bitAt register offset) false
 
 abbrev μ-loop : tie.MeasureT-loop
-μ-loop register edition place groups k₀ k-end k = k-end - k
+μ-loop register edition offset groups k₀ k-end k = k-end - k
 
 row-words-requires : tie.Need-row-words-requires Inv-loop μ-loop
 row-words-requires c κs = search needs

@@ -1,5 +1,5 @@
 -- `rows::read::read_rows` meets its contract. Invariant: the reading that is left after `row` rows is the whole reading, `at` is
--- the place after these rows, and `last` the key of the last member of them.
+-- the offset after these rows, and `last` the key of the last member of them.
 use borrow.Author.Needs.{needs}
 use Prim.Native.Nat.{_-_, _*_, _≤_}
 use mathlib.Core.Path.{_≡_, sym, _∙_}

@@ -1,5 +1,5 @@
 -- `reader::next` meets its contract: a walk of its MIR, by hand. The reader is taken apart, and `row_at` is called on
--- the slice, the edition, the place and the key; all that the proof knows of `row_at` is that it meets its contract.
+-- the slice, the edition, the offset and the key; all that the proof knows of `row_at` is that it meets its contract.
 -- The reader is Copy: what it owns is had twice, one copy is kept whole for the exit, and of the other what `bytes`
 -- owns goes to `row_at`, beside the lifetime's token, which comes back.
 use mathlib.Core.Path.{_≡_, refl}

@@ -1,4 +1,4 @@
--- `reader::row_of` meets its contract: a walk of its MIR, by hand. A reader is made of the slice, the edition, the place and the key passed,
+-- `reader::row_of` meets its contract: a walk of its MIR, by hand. A reader is made of the slice, the edition, the offset and the key passed,
 -- in a local, and handed to `next`; all that the proof knows of `next` is that it meets its contract.
 -- A `&[u8]` is Copy: what it owns is had twice, once for the exit and once in the reader.
 use mathlib.Core.Path.{_≡_, refl}

@@ -1,5 +1,5 @@
 -- `son_start` meets its contract.
-use Rattle.runs.proofs.PlacedLaws.{start-room, start-is}
+use Rattle.runs.proofs.StartedLaws.{start-room, start-is}
 use borrow.Author.Needs.{needs}
 use Rattle.runs.proofs.starts.son_start.Statement.{statement}
 use Rattle.runs.proofs.starts.son_start.Tie as tie

@@ -4,7 +4,7 @@ use mathlib.Core.Path.{_≡_}
 use native.Mathlib.Omega.{arith}
 use borrow.Author.Tests.{eq-eqb, ne-eqb}
 use Rattle.tables.specs.Modes.{disjointMode, coverMode, sameMode}
-use Rattle.runs.specs.Placed.{startBy}
+use Rattle.runs.specs.Started.{startBy}
 use borrow.Author.Needs.{needs}
 use Rattle.runs.proofs.starts.start_under.Statement.{statement}
 use Rattle.runs.proofs.starts.start_under.Tie as tie

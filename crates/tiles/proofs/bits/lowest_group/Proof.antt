@@ -19,7 +19,7 @@ add-t6 c = search needs
 returns : tie.Need-returns
 returns c =
     let l = c .lowest-of .ensures in
-    record { place = _; within = l .0; numbered = refl; lowest = l .1 }
+    record { lowBit = _; within = l .0; numbered = refl; lowest = l .1 }
 
 pub lowest-group-spec : {M : Type 1} → statement M
 lowest-group-spec = tie.close (tie.spec lowest-of-requires cast-t4 add-t5 add-t6 returns)

@@ -1,5 +1,5 @@
 -- `columns::fill::fill_columns` meets its contract. Invariant: the reader has reached row `row`, and the rows before it are
--- put. Each row stands at its place, so that the walk ends behind the last one only.
+-- put. Each row stands at its offset, so that the walk ends behind the last one only.
 use borrow.Author.Needs.{needs}
 use native.Mathlib.Omega.{arith}
 use Prim.Native.Nat.{ℕ, _-_, _*_, _≤_}

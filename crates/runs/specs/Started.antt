@@ -1,4 +1,4 @@
--- Placing the groups one after another: the starts up to a group are right, and with each group stands where the last of
+-- Starting the groups one after another: the starts up to a group are right, and with each group stands where the last of
 -- its sons so far ended.
 use Prim.Native.Nat.{ℕ, _+_, _-_, min, suc, _*_, _≤_}
 use mathlib.Core.Path.{_≡_}
@@ -13,8 +13,8 @@ use Rattle.runs.specs.Told.{runLimit}
 unfoldable pub startBy : Bool → Bool → Bool → ℕ → ℕ → ℕ → ℕ → ℕ
 startBy e d c a w z y = cond e a (cond d w (cond c (min w (a + z - y)) a))
 
--- the groups up to i are placed
-pub record Placed (s : Sheet) (f first end : ℕ → ℕ) (i : ℕ) : Type 0 where
+-- the groups up to i have their starts
+pub record Started (s : Sheet) (f first end : ℕ → ℕ) (i : ℕ) : Type 0 where
   pub root : first 1 ≡ 1
   pub son : (p g : ℕ) → Son s p g → g ≤ i → first g ≡ firstOf s first f p g
   pub last : (p : ℕ) → Group s p → p ≤ i → end p ≡ ended s first f p (suc i)

@@ -1,4 +1,4 @@
--- `place_runs` meets its contract.
+-- `start_runs` meets its contract.
 use Prim.Native.Nat.{_+_, _-_, _≤_, _<_}
 use mathlib.Core.Path.{_≡_, refl, _∙_}
 use native.Mathlib.Omega.{arith}
@@ -8,16 +8,16 @@ use lib.Seq.{getD-set-same}
 use Rattle.tables.specs.SheetIn.{sheetIn}
 use Rattle.tables.proofs.SheetInLaws.{size-in}
 use Rattle.tables.specs.Numbers.{numberIn}
-use Rattle.runs.proofs.ToldLaws.{placeable-kept}
-use Rattle.runs.specs.Placed.{Placed}
-use Rattle.runs.proofs.PlacedLaws.{placed-root, placed-all}
-use Rattle.runs.proofs.starts.place_runs.Statement.{statement}
-use Rattle.runs.proofs.starts.place_runs.Tie as tie
+use Rattle.runs.proofs.ToldLaws.{startable-kept}
+use Rattle.runs.specs.Started.{Started}
+use Rattle.runs.proofs.StartedLaws.{started-root, started-all}
+use Rattle.runs.proofs.starts.start_runs.Statement.{statement}
+use Rattle.runs.proofs.starts.start_runs.Tie as tie
 
 abbrev Inv-loop : tie.InvT-loop
 Inv-loop groups size sizes firsts₀ ends₀ i₀ firsts ends i =
     (1 ≤ i) × (i ≤ size) × (length firsts ≡ length firsts₀) × (length ends ≡ length ends₀)
-    × Placed (sheetIn groups size) (numberIn sizes) (numberIn firsts) (numberIn ends) i
+    × Started (sheetIn groups size) (numberIn sizes) (numberIn firsts) (numberIn ends) i
 
 abbrev μ-loop : tie.MeasureT-loop
 μ-loop groups size sizes firsts₀ ends₀ i₀ firsts ends i = size - i
@@ -42,7 +42,7 @@ loop-holds c =
       omega (arith, size-in (s .args .groups .now) (s .args .size)),
       refl,
       refl,
-      placed-root (w .grown .tree) (w .grown .rooted) (w .balanced) (w .top) (getD-set-same (s .args .firsts .now) 0 1 0
+      started-root (w .grown .tree) (w .grown .rooted) (w .balanced) (w .top) (getD-set-same (s .args .firsts .now) 0 1 0
           (omega arith))
           (getD-set-same (s .args .ends .now) 0 1 0 (omega arith)),
     )
@@ -50,19 +50,19 @@ loop-holds c =
 add-i : tie.Need-add-i Inv-loop μ-loop
 add-i c = search needs
 
-place-son-requires : tie.Need-place-son-requires Inv-loop μ-loop
-place-son-requires c κs =
+start-son-requires : tie.Need-start-son-requires Inv-loop μ-loop
+start-son-requires c κs =
     let c8 = c .before .before .before .before .before .before .before .before in
     let i = c .before .before .before .loop .inv in
     let n = c .before .before .before .loop .i in
     let e : n + 1 - 1 ≡ n = omega arith in
-    (placeable-kept (c8 .pre) (i .2 ∙ simp length-set) (i .3 ∙ simp length-set), ((omega arith, omega arith), rw e (i .4)))
+    (startable-kept (c8 .pre) (i .2 ∙ simp length-set) (i .3 ∙ simp length-set), ((omega arith, omega arith), rw e (i .4)))
 
 loop-less : tie.Need-loop-less Inv-loop μ-loop
 loop-less c = search needs
 
 loop-again : tie.Need-loop-again Inv-loop μ-loop
-loop-again c = (omega arith, omega arith, search needs, search needs, c .before .before .before .before .place-son .ensures)
+loop-again c = (omega arith, omega arith, search needs, search needs, c .before .before .before .before .start-son .ensures)
 
 same-length : tie.Need-same-length Inv-loop μ-loop
 same-length c = c .before .loop .inv .2 ∙ simp length-set
@@ -77,10 +77,10 @@ returns c =
     let i = c .before .loop .inv in
     let e : c .before .loop .i ≡ sheetIn (s .args .groups .now) (s .args .size) .size =
     omega (arith, size-in (s .args .groups .now) (s .args .size)) in
-    placed-all (w .grown .tree) (w .grown .rooted) (w .balanced) (w .top) (rw e at (i .4))
+    started-all (w .grown .tree) (w .grown .rooted) (w .balanced) (w .top) (rw e at (i .4))
 
-pub place-runs-spec : {M : Type 1} → statement M
-place-runs-spec =
+pub start-runs-spec : {M : Type 1} → statement M
+start-runs-spec =
     tie.close
     (tie.spec
     Inv-loop
@@ -89,7 +89,7 @@ place-runs-spec =
     slice-write-ends
     loop-holds
     add-i
-    place-son-requires
+    start-son-requires
     loop-less
     loop-again
     same-length

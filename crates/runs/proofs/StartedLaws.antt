@@ -1,4 +1,4 @@
--- Laws of placing groups one after another.
+-- Laws of giving starts to groups one after another.
 use Prim.Native.Nat.{ℕ, _+_, _≤_, zero, suc, _<_, _*_, _-_}
 use mathlib.Core.Path.{_≡_, ap, refl, sym, _∙_}
 use mathlib.Core.Bool.{Bool, true, false}
@@ -21,10 +21,10 @@ use Rattle.tables.specs.SheetIn.{sizeLimit, sheetIn, Tabled}
 use Rattle.tables.specs.Numbers.{numberIn}
 use Rattle.tables.proofs.SheetInLaws.{few-groups, disjoint-in, cover-in, same-in}
 use Rattle.runs.specs.Told.{Told, runLimit}
-use Rattle.runs.specs.Placed.{startBy, Placed, StartIs}
+use Rattle.runs.specs.Started.{startBy, Started, StartIs}
 
 -- one more group, g, a son of p: what changes in the two tables
-pub record Placing (s : Sheet) (f first end first' end' : ℕ → ℕ) (p g : ℕ) : Type 0 where
+pub record Starting (s : Sheet) (f first end first' end' : ℕ → ℕ) (p g : ℕ) : Type 0 where
   pub start : first' g ≡ startBy (s .same p) (s .disjoint p) (s .cover p) (first p) (end p) (f p) (f g)
   pub firsts : (h : ℕ) → 1 ≤ h → (h ≡ g → ⊥) → first' h ≡ first h
   pub own : end' g ≡ first' g
@@ -90,8 +90,8 @@ module _ {s : Sheet} {f : ℕ → ℕ} (t : Tree s) (r : Rooted s) (b : Balanced
   size-limit g q = omega (arith, size-most t r b g g (le-refl g) q)
 
   -- the root alone
-  pub placed-root : {first end : ℕ → ℕ} → first 1 ≡ 1 → end 1 ≡ 1 → Placed s f first end 1
-  placed-root {first} {end} e o = record {
+  pub started-root : {first end : ℕ → ℕ} → first 1 ≡ 1 → end 1 ≡ 1 → Started s f first end 1
+  started-root {first} {end} e o = record {
     root = e;
     son = λ p g k l. absurd (let one : g ≡ 1 = omega (arith, k .group .first) in omega (
       arith,
@@ -107,9 +107,9 @@ module _ {s : Sheet} {f : ℕ → ℕ} (t : Tree s) (r : Rooted s) (b : Balanced
   }
 
   -- one more group
-  pub placed-more : {first end first' end' : ℕ → ℕ} (p i : ℕ) → Son s p (suc i) → Placed s f first end i
-      → Placing s f first end first' end' p (suc i) → Placed s f first' end' (suc i)
-  placed-more {first} {end} {first'} {end'} p i k w v =
+  pub started-more : {first end first' end' : ℕ → ℕ} (p i : ℕ) → Son s p (suc i) → Started s f first end i
+      → Starting s f first end first' end' p (suc i) → Started s f first' end' (suc i)
+  started-more {first} {end} {first'} {end'} p i k w v =
       let g : ℕ = suc i in
       let q = son-parent t k in
       let below : p < suc i = omega (arith, t .before (suc i) (k .group)) in
@@ -148,12 +148,12 @@ module _ {s : Sheet} {f : ℕ → ℕ} (t : Tree s) (r : Rooted s) (b : Balanced
             (λ o. rw (v .ends h (j .first) n o) (omega (arith, w .close h j (omega arith)))));
       }
 
-  pub placed-all : {first end : ℕ → ℕ} → Placed s f first end (s .size) → Told s f first
-  placed-all w = record { root = w .root; son = λ p g k. w .son p g k (k .group .last) }
+  pub started-all : {first end : ℕ → ℕ} → Started s f first end (s .size) → Told s f first
+  started-all w = record { root = w .root; son = λ p g k. w .son p g k (k .group .last) }
 
 -- one more son, in a table of groups
 module _ {t : List ℕ} {n : ℕ} {f first end : ℕ → ℕ} (h : Tabled t n) (b : Balanced (sheetIn t n) f) (top : f 1 ≤ sizeLimit)
-    (p g : ℕ) (k : Son (sheetIn t n) p g) (w : Placed (sheetIn t n) f first end (g - 1)) where
+    (p g : ℕ) (k : Son (sheetIn t n) p g) (w : Started (sheetIn t n) f first end (g - 1)) where
   abbrev s : Sheet
   s = sheetIn t n
 
@@ -187,12 +187,12 @@ module _ {t : List ℕ} {n : ℕ} {f first end : ℕ → ℕ} (h : Tabled t n) (
   )
 
 -- the stores for one more group
-pub placed-by : {s : Sheet} {f : ℕ → ℕ} (firsts ends : List ℕ) (p g x : ℕ) → Tree s → Rooted s → Balanced s f → f 1 ≤ sizeLimit
-    → s .size ≤ length firsts → s .size ≤ length ends → Son s p g → Placed s f (numberIn firsts) (numberIn ends) (g - 1)
+pub started-by : {s : Sheet} {f : ℕ → ℕ} (firsts ends : List ℕ) (p g x : ℕ) → Tree s → Rooted s → Balanced s f → f 1 ≤ sizeLimit
+    → s .size ≤ length firsts → s .size ≤ length ends → Son s p g → Started s f (numberIn firsts) (numberIn ends) (g - 1)
     → StartIs s f (numberIn firsts) (numberIn ends) p g x
-    → Placed s f (numberIn (set firsts (g - 1) x)) (numberIn (set (set ends (g - 1) x) (p - 1) (x + f g))) g
-placed-by firsts ends p zero x tr r b top u v k w z = absurd (omega (arith, k .group .first))
-placed-by {s} {f} firsts ends p (suc i) x tr r b top u v k w z =
+    → Started s f (numberIn (set firsts (g - 1) x)) (numberIn (set (set ends (g - 1) x) (p - 1) (x + f g))) g
+started-by firsts ends p zero x tr r b top u v k w z = absurd (omega (arith, k .group .first))
+started-by {s} {f} firsts ends p (suc i) x tr r b top u v k w z =
     let e : suc i - 1 ≡ i = omega arith in
     let q = son-parent tr k in
     let first = q .first in
@@ -202,7 +202,7 @@ placed-by {s} {f} firsts ends p (suc i) x tr r b top u v k w z =
     let at : getD (set firsts i x) i 0 ≡ x = getD-set-same firsts i x 0 (omega arith) in
     let long : i < length (set ends i x) = simp length-set (omega arith) in
     rw e
-    (placed-more tr r b top p i k (rw e at w)
+    (started-more tr r b top p i k (rw e at w)
     (record {
       start = rw (e, at) (z .start);
       firsts = λ h a n. getD-set-other firsts i (h - 1) x 0 (λ o. n (omega arith));

@@ -1,11 +1,11 @@
--- `place_son` meets its contract.
+-- `start_son` meets its contract.
 use native.Mathlib.Omega.{arith}
 use lib.ListN.{length-set}
 use Rattle.tables.proofs.SheetInLaws.{size-in}
-use Rattle.runs.proofs.PlacedLaws.{placed-by}
+use Rattle.runs.proofs.StartedLaws.{started-by}
 use borrow.Author.Needs.{needs}
-use Rattle.runs.proofs.starts.place_son.Statement.{statement}
-use Rattle.runs.proofs.starts.place_son.Tie as tie
+use Rattle.runs.proofs.starts.start_son.Statement.{statement}
+use Rattle.runs.proofs.starts.start_son.Tie as tie
 
 parent-group-requires : tie.Need-parent-group-requires
 parent-group-requires c κs = search needs
@@ -70,13 +70,13 @@ returns c =
     let s = c6 .before .before .before .before .before in
     let t = s .pre .0 .grown in
     let long = size-in (s .args .groups .now) (s .args .size) in
-    placed-by (s .args .firsts .now) (s .args .ends .now) (c6 .parent-group .result .0) (s .args .g .0)
+    started-by (s .args .firsts .now) (s .args .ends .now) (c6 .parent-group .result .0) (s .args .g .0)
     (c .before .before .before .son-start .result)
     (t .tree) (t .rooted) (s .pre .0 .balanced) (s .pre .0 .top) (omega arith) (omega arith) (c6 .parent-group .ensures .0)
     (s .pre .1 .1) (c .before .before .before .son-start .ensures)
 
-pub place-son-spec : {M : Type 1} → statement M
-place-son-spec =
+pub start-son-spec : {M : Type 1} → statement M
+start-son-spec =
     tie.close
     (tie.spec
     parent-group-requires
