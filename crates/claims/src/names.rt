@@ -1,4 +1,5 @@
 // From names to groups. The numbers of a claim's names stand in the sheet's bytes; the table of names has what each means.
+use questions::places::put_listed;
 use tables::names::Meant;
 use tables::names::NameNo;
 use tables::names::meant_by;
@@ -30,7 +31,7 @@ fn add_meant(list: &mut [u16], k: usize, m: Meant) -> usize
     match m {
         Meant::Empty => k,
         Meant::Group(g) => {
-            list[k] = g.0;
+            put_listed(list, k, g);
             k + 1
         }
     }

@@ -1,11 +1,11 @@
-// A place: a member in all groups of one list and in none of another. A list of groups is a table of their numbers, read
-// through `group_at`, and how many of them it has.
+// A place: a member in all groups of one list and in none of another. A list of groups is a table of their numbers, filled by
+// `put_listed` and read through `group_at`, and how many of them it has.
 use choosing::choose::choose;
 use tables::groups::GroupNo;
 use tables::limits::GROUP_CAPACITY;
 ghost use mathlib.Core.Path.{_≡_};
 ghost use Prim.Native.Nat.{_<_, _≤_};
-ghost use lib.ListN.{length, getD, take};
+ghost use lib.ListN.{length, getD, set, take};
 ghost use mathlib.Core.List.{[], _∷_};
 ghost use Rattle.tables.specs.SheetIn.{sheetIn};
 ghost use Rattle.choosing.specs.Chosen.{Asking};
@@ -21,6 +21,13 @@ pub fn group_at(list: &[u16], i: usize) -> GroupNo
     ensures { λ r. ⌜ r .0 ≡ getD (now (list .entry)) i 0 ⌝ }
 {
     GroupNo(list[i])
+}
+
+pub fn put_listed(list: &mut [u16], i: usize, g: GroupNo)
+    requires { ⌜ i < length (now list) ⌝ }
+    ensures { λ _. ⌜ now (list .exit) ≡ set (now (list .entry)) i (g .0) ⌝ }
+{
+    list[i] = g.0;
 }
 
 // the flag without one of its two: to be in the group (true) or out of it (false)

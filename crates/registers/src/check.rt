@@ -23,7 +23,7 @@ ghost use Prim.Native.Nat.{_*_, _≤_, _+_, _<_};
 ghost use lib.ListN.{length};
 ghost use Rattle.wire.specs.Edition.{editionOf};
 ghost use Rattle.wire.specs.RegisterFormat.{readRegister};
-ghost use Rattle.tables.specs.Groups.{modeIn, groupNumbers};
+ghost use Rattle.tables.specs.Groups.{groupFields, modeIn, groupNumbers};
 ghost use Rattle.tables.specs.SheetIn.{sheetIn, Tabled};
 ghost use Rattle.columns.specs.Columns.{columnSets};
 ghost use Rattle.sons.specs.SonLists.{keptSons};
@@ -51,7 +51,7 @@ fn join_asked(
     some: &mut [u64],
     two: &mut [u64],
 )
-    requires { ⌜ (1 ≤ g .0) × ((4 * (g .0) ≤ length (now groups)) × Joinable (now columns) words (now starts) (now order) (g .0) (now some) (now two)) ⌝ }
+    requires { ⌜ (1 ≤ g .0) × ((groupFields * (g .0) ≤ length (now groups)) × Joinable (now columns) words (now starts) (now order) (g .0) (now some) (now two)) ⌝ }
     ensures { λ _. ⌜ JoinedFor (modeIn (now (groups .entry)) (g .0)) (severalSons (now (starts .entry)) (g .0)) (keptSons (now (starts .entry)) (now (order .entry)) (g .0)) (now (columns .entry)) words (now (some .exit)) (now (two .exit)) ⌝ }
 {
     if asks_sons(mode_of(groups, g), several_sons(starts, g)) {

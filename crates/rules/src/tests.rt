@@ -13,7 +13,7 @@ ghost use mathlib.Core.Path.{_≡_};
 ghost use Prim.Native.Nat.{_+_, _*_, _≤_, _<_, _-_};
 ghost use lib.ListN.{length, getD};
 ghost use lib.Bits.{bitAnd};
-ghost use Rattle.tables.specs.Groups.{parentIn};
+ghost use Rattle.tables.specs.Groups.{groupFields, parentIn};
 ghost use Rattle.columns.specs.Columns.{blockMembers};
 ghost use Rattle.sons.specs.SonSteps.{severalSons};
 ghost use Rattle.rules.specs.Asked.{WordAsked, BlockAsked};
@@ -22,7 +22,7 @@ ghost use Rattle.rules.specs.RuleTests.{mayBreak, MembersPassing, member
 
 // whether one of the rules 1 to 4 can be broken at a group with the parent p
 pub fn may_break(groups: &[u16], starts: &[u32], g: GroupNo, p: GroupNo, rule: u16) -> bool
-    requires { ⌜ (g .0 + 1 < length (now starts)) × ((1 ≤ g .0) × ((4 * (g .0) ≤ length (now groups)) × ((p .0 < g .0) × (p .0 ≡ parentIn (now groups) (g .0))))) ⌝ }
+    requires { ⌜ (g .0 + 1 < length (now starts)) × ((1 ≤ g .0) × ((groupFields * (g .0) ≤ length (now groups)) × ((p .0 < g .0) × (p .0 ≡ parentIn (now groups) (g .0))))) ⌝ }
     ensures { λ r. ⌜ r ≡ mayBreak (now (groups .entry)) (severalSons (now (starts .entry)) (g .0)) (g .0) rule ⌝ }
 {
     if rule == 1 {
@@ -97,7 +97,7 @@ pub fn block_breaks(
 
 // whether a group's count breaks rule 5 or rule 6
 pub fn count_breaks(groups: &[u16], counts: &[u32], g: GroupNo, rule: u16) -> bool
-    requires { ⌜ (1 ≤ g .0) × ((4 * (g .0) ≤ length (now groups)) × (g .0 < length (now counts))) ⌝ }
+    requires { ⌜ (1 ≤ g .0) × ((groupFields * (g .0) ≤ length (now groups)) × (g .0 < length (now counts))) ⌝ }
     ensures { λ r. ⌜ r ≡ countBreaks (now (groups .entry)) (getD (now (counts .entry)) (g .0) 0) (g .0) rule ⌝ }
 {
     let n = count_of(counts, g);

@@ -27,15 +27,22 @@ groupsIn t n = tabulate (groupIn t) n
 abbrev pub groupNumbers : ℕ
 groupNumbers = groupCapacity + 1
 
--- the fields of group g in a table of groups
+-- where lo and hi of group g stand in the table
+abbrev pub loAt : ℕ → ℕ
+loAt g = groupFields * (g - 1) + 1
+
+abbrev pub hiAt : ℕ → ℕ
+hiAt g = groupFields * (g - 1) + 2
+
+-- the fields of group g
 abbrev pub parentIn : List ℕ → ℕ → ℕ
-parentIn t g = getD t (4 * (g - 1)) 0
+parentIn t g = groupIn t (g - 1) .parent
 
 abbrev pub loIn : List ℕ → ℕ → ℕ
-loIn t g = getD t (4 * (g - 1) + 1) 0
+loIn t g = groupIn t (g - 1) .lo
 
 abbrev pub hiIn : List ℕ → ℕ → ℕ
-hiIn t g = getD t (4 * (g - 1) + 2) 0
+hiIn t g = groupIn t (g - 1) .hi
 
 abbrev pub modeIn : List ℕ → ℕ → ℕ
-modeIn t g = getD t (4 * (g - 1) + 3) 0
+modeIn t g = groupIn t (g - 1) .mode

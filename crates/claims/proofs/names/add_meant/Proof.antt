@@ -15,11 +15,8 @@ enum-told c = search needs
 enum-known-m : tie.Need-enum-known-m
 enum-known-m c = search needs
 
-mul-list : tie.Need-mul-list
-mul-list c = search needs
-
-slice-write-list : tie.Need-slice-write-list
-slice-write-list c = search needs
+put-listed-requires : tie.Need-put-listed-requires
+put-listed-requires c κs = search needs
 
 add-result : tie.Need-add-result
 add-result c = search needs
@@ -35,10 +32,11 @@ same-length c = search needs
 
 returns-2 : tie.Need-returns-2
 returns-2 c =
-    let s = c .before .before .before in
-    let e = c .before .m .given .1 in (
+    let told = c .before .before .before .before .before in
+    let s = told .before .before .before in
+    let e = told .m .given .1 in (
       omega arith,
-      rw (e, among-one _ (rw e at (s .pre .1)), add-one) (take-suc-set _ _ _ (s .pre .0)),
+      rw (e, c .before .before .put-listed .ensures, among-one _ (rw e at (s .pre .1)), add-one) (take-suc-set _ _ _ (s .pre .0)),
     )
 
 pub add-meant-spec : {M : Type 1} → statement M
@@ -47,8 +45,7 @@ add-meant-spec =
     (tie.spec
     enum-told
     enum-known-m
-    mul-list
-    slice-write-list
+    put-listed-requires
     add-result
     returns
     same-length
