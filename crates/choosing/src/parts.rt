@@ -72,7 +72,7 @@ fn eq_has(a: Span, b: Span, r: u32) -> bool
     r <= smaller(a.most, b.most)
 }
 
-pub fn join_has(k: Kind, a: Span, b: Span, r: u32) -> bool
+fn join_has(k: Kind, a: Span, b: Span, r: u32) -> bool
     ensures { λ x. ⌜ (x ≡ true) ↔ In r (join (kindHeld k) (spanHeld a) (spanHeld b)) ⌝ }
 {
     match k {

@@ -43,7 +43,7 @@ pub fn some_fit(groups: &[u16], size: u16) -> bool
 }
 
 // whether the root's interval, as measured, has a number: whether some sets fit
-pub fn possible(spans: &[u32]) -> bool
+fn possible(spans: &[u32]) -> bool
     requires { ⌜ pairFields ≤ length (now spans) ⌝ }
     ensures { λ r. ⌜ ((s : Sheet) (z : ℕ → Bool → sizes.Span) → Tree s → Rooted s → Measured s free z
         → pairIn (now (spans .entry)) 1 false ≡ z 1 false → (r ≡ true) ↔ Possible s) ⌝ }

@@ -87,7 +87,7 @@ fn join_son(groups: &[u16], size: u16, g: GroupNo, sum: Pair, z: Pair) -> Pair
 }
 
 // Measures group g and all groups below it.
-pub fn measure_group(
+fn measure_group(
     groups: &[u16],
     size: u16,
     flags: &[u8],

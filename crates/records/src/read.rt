@@ -6,7 +6,6 @@ use crate::record::Name;
 use crate::record::Record;
 use claim_records::body::body_refusal;
 use claim_records::body::take_claim;
-use claim_records::claim::Claim;
 use labels::allowed::label_allowed;
 use tables::groups::GroupNo;
 use tables::limits::BOUND;

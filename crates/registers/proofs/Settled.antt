@@ -1,18 +1,12 @@
 -- What is said of the check's answer leaves one answer for every sheet and register.
 use Prim.Native.Nat.{ℕ}
-use mathlib.Core.Path.{_≡_, sym, _∙_, refl, ap}
-use mathlib.Core.List.{List}
+use mathlib.Core.Path.{_≡_, sym, _∙_}
 use native.Mathlib.Omega.{arith}
-use Rattle.registers.specs.declared.check.Check.{Check}
 use Rattle.laws.proofs.Cases.{compare-le, compare-eq}
-use Rattle.wire.specs.Record.{Reading, read, refused}
-use Rattle.wire.specs.RegisterFormat.{Row}
 use Rattle.meaning.specs.Sheet.{Sheet}
 use Rattle.meaning.specs.Sets.{Sets}
 use Rattle.meaning.specs.Fits.{Fits}
 use Rattle.meaning.specs.Rule.{Rule, FirstBroken, ruleNumber, Answered}
-use Rattle.meaning.specs.OfRecords.{listedSets}
-use Rattle.registers.specs.Checked.{GroupRule, checkGives, Checked}
 
 -- of two first broken groups neither is below the other, and so for their rules
 first-group : {X : Type 0} (s : Sheet) (A : Sets X) (g h : ℕ) (q r : Rule) → FirstBroken s A g q → FirstBroken s A h r → g ≡ h
@@ -42,17 +36,3 @@ answered-once s A g n h m v w =
         let same = first-group s A g h (a .0) (b .0) (a .2) (b .2) in
         let rule = first-rule s A h (a .0) (b .0) (rw same at (a .2)) (b .2) in
         (same, a .1 ∙ rule ∙ sym (b .1))
-
-names-eq : {a b : GroupRule} → a .group ≡ b .group → a .rule ≡ b .rule → a ≡ b
-names-eq {a} {b} x y = same (a .group) (b .group) (a .rule) (b .rule) x y
-  where
-    same : (g h n m : ℕ) → g ≡ h → n ≡ m → _≡_ {A = GroupRule} (record { group = g; rule = n }) (record { group = h; rule = m })
-    same g h n m x y = rw (x, y)
-
-pub checked-once : (s : Sheet) (d : Reading (List Row)) (r q : Check) → Checked s d r → Checked s d q → checkGives r ≡ checkGives q
-checked-once s (read rows) r q v w =
-    let a = v .answer rows refl in
-    let b = w .answer rows refl in
-    let e = answered-once s (listedSets rows) _ _ _ _ (a .answered) (b .answered) in
-    a .gives ∙ ap read (names-eq (e .0) (e .1)) ∙ sym (b .gives)
-checked-once s (refused n k) r q v w = v .refusal n k refl ∙ sym (w .refusal n k refl)

@@ -23,7 +23,7 @@ pub struct Pair {
     pub inn: Span,
 }
 
-pub fn lap_pairs(a: Pair, z: Pair) -> Pair
+fn lap_pairs(a: Pair, z: Pair) -> Pair
     requires { ⌜ RoomBoth (pairOf a) × RoomBoth (pairOf z) ⌝ }
     ensures { λ r. ⌜ AlikeBoth (pairOf r) (fold.joined sizes.lap (pairOf a) (pairOf z)) ⌝ }
 {
@@ -34,7 +34,7 @@ pub fn lap_pairs(a: Pair, z: Pair) -> Pair
     }
 }
 
-pub fn add_pairs(a: Pair, z: Pair) -> Pair
+fn add_pairs(a: Pair, z: Pair) -> Pair
     requires { ⌜ RoomBoth (pairOf a) × RoomBoth (pairOf z) ⌝ }
     ensures { λ r. ⌜ AlikeBoth (pairOf r) (fold.joined sizes.add (pairOf a) (pairOf z)) ⌝ }
 {

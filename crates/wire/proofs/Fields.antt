@@ -56,10 +56,6 @@ u32-le32 x c h =
         → x % 256 + 256 * (y % 256) + 65536 * (z % 256) + 16777216 * (w % 256) ≡ x
     four x y z w e f g h = omega arith
 
-pub length-le32 : (x : ℕ) (c : List ℕ) → length (le32 x ++ c) ≡ 4 + length c
-unfolding le32
-length-le32 x c = omega arith
-
 pub length-le16 : (x : ℕ) (c : List ℕ) → length (le16 x ++ c) ≡ 2 + length c
 unfolding le16
 length-le16 x c = omega arith

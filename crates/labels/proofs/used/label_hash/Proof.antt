@@ -1,5 +1,5 @@
 -- `label_hash` meets its contract. The invariant: the bytes that are left, after those with the hash so far, have the label's hash.
-use Prim.Native.Nat.{_+_, _-_, _≤_, _<_}
+use Prim.Native.Nat.{_-_, _≤_, _<_}
 use mathlib.Core.Path.{_≡_, sym, _∙_}
 use borrow.Author.Needs.{needs}
 use native.Mathlib.Omega.{arith}

@@ -1,5 +1,5 @@
 -- `used_label` meets its contract: a label whose hash was not seen was not used before.
-use mathlib.Core.Path.{sym, _∙_}
+use mathlib.Core.Path.{sym}
 use borrow.Author.Needs.{needs}
 use native.Mathlib.Omega.{arith}
 use denote.Ref.{now}
