@@ -4,17 +4,17 @@ use Prim.Native.Nat.{ℕ, _+_, _-_, _*_, _/_, _%_, _<_, max, _≤_}
 use mathlib.Core.Path.{_≡_}
 use mathlib.Core.Bool.{cond}
 use mathlib.Core.List.{List}
-use lib.ListN.{getD}
+use lib.ListN.{length, getD}
 use lib.Dec.{eqb, leb, ltb}
 use lib.Bits.{bitAnd}
 use Rattle.laws.specs.Sum.{bit}
 use Rattle.laws.specs.Digit.{digit}
 use Rattle.laws.specs.Lowest.{Lowest}
 use Rattle.wire.specs.Limits.{rowLimit}
+use Rattle.wire.specs.Capacity.{groupCapacity}
 use Rattle.wire.specs.Edition.{Edition}
-use Rattle.meaning.specs.OfRecords.{members}
 use Rattle.rows.specs.RowsRead.{wordBits, bitAt, rowWords}
-use Rattle.columns.specs.Columns.{columnDigit}
+use Rattle.columns.specs.Columns.{columnWords, columnsLength, columnDigit}
 use Rattle.columns.specs.ColumnSteps.{Put, MembersPut, ofWord}
 
 -- a tile has word k of its member i at 64 * k + i; the word's digits are the member's bits in 64 groups
@@ -65,6 +65,16 @@ firstGroups t k g j = cond (ltb (g - 1) (wordBits * k)) (tileDigit t g j) 0
 
 abbrev pub TilePut : List ℕ → ℕ → ℕ → List ℕ → List ℕ → Type 0
 TilePut t k = MembersPut (firstGroups t k)
+
+-- what it asks to put the first `words` words of a tile's members as word w of the columns: all are within the tables, and there are two
+-- tables to transpose in
+pub record TileRoom (words w : ℕ) (tile columns transposed spare : List ℕ) : Type 0 where
+  pub first : wordBits * words ≤ length tile
+  pub groups : wordBits * words ≤ groupCapacity
+  pub word : w < columnWords
+  pub columns-long : columnsLength ≤ length columns
+  pub transposed-long : wordBits ≤ length transposed
+  pub spare-long : wordBits ≤ length spare
 
 -- the digits of columns, and of a tile that is to be their word w
 abbrev pub allDigits : List ℕ → List ℕ → ℕ → ℕ → ℕ → ℕ

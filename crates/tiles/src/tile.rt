@@ -20,7 +20,7 @@ ghost use Rattle.wire.specs.Limits.{rowLimit};
 ghost use Rattle.rows.specs.RowsRead.{wordBits};
 ghost use Rattle.columns.specs.ColumnSteps.{MembersPut, Cleared};
 ghost use Rattle.columns.specs.Columns.{columnWords, columnsLength};
-ghost use Rattle.tiles.specs.TileSteps.{ColumnsPut, ofMember, firstGroups, TilePut, WordPut, RowPut, RoomMade};
+ghost use Rattle.tiles.specs.TileSteps.{ColumnsPut, ofMember, firstGroups, TilePut, TileRoom, WordPut, RowPut, RoomMade};
 
 // the transposed words of 64 members, as word w of the columns of 64 groups, `before` groups being before these
 fn put_columns(transposed: &[u64], before: u16, w: usize, columns: &mut [u64])
@@ -62,7 +62,7 @@ fn put_transposed(
     transposed: &mut [u64],
     spare: &mut [u64],
 )
-    requires { ⌜ (wordBits * words ≤ length (now tile)) × ((wordBits * words ≤ groupCapacity) × ((w < columnWords) × ((columnsLength ≤ length (now columns)) × ((wordBits ≤ length (now transposed)) × (wordBits ≤ length (now spare)))))) ⌝ }
+    requires { ⌜ TileRoom words w (now tile) (now columns) (now transposed) (now spare) ⌝ }
     ensures { λ _. ⌜ TilePut (now (tile .entry)) words w (now (columns .entry)) (now (columns .exit)) ⌝ }
 {
     for k in 0..words {
@@ -103,7 +103,7 @@ fn put_words(
     transposed: &mut [u64],
     spare: &mut [u64],
 )
-    requires { ⌜ (wordBits * words ≤ length (now tile)) × ((wordBits * words ≤ groupCapacity) × ((w < columnWords) × ((columnsLength ≤ length (now columns)) × ((wordBits ≤ length (now transposed)) × (wordBits ≤ length (now spare)))))) ⌝ }
+    requires { ⌜ TileRoom words w (now tile) (now columns) (now transposed) (now spare) ⌝ }
     ensures { λ _. ⌜ TilePut (now (tile .entry)) words w (now (columns .entry)) (now (columns .exit)) ⌝ }
 {
     if few_groups(tile, words) {
@@ -132,7 +132,7 @@ pub fn put_tile(
     transposed: &mut [u64],
     spare: &mut [u64],
 )
-    requires { ⌜ (groupCapacity ≤ length (now tile)) × ((wordBits * words ≤ groupCapacity) × ((w < columnWords) × ((columnsLength ≤ length (now columns)) × ((wordBits ≤ length (now transposed)) × (wordBits ≤ length (now spare)))))) ⌝ }
+    requires { ⌜ (groupCapacity ≤ length (now tile)) × TileRoom words w (now tile) (now columns) (now transposed) (now spare) ⌝ }
     ensures { λ _. ⌜ TilePut (now (tile .entry)) words w (now (columns .entry)) (now (columns .exit)) × Cleared groupCapacity (now (tile .exit)) ⌝ }
 {
     put_words(tile, words, w, columns, transposed, spare);
@@ -172,8 +172,8 @@ pub fn make_room(
     transposed: &mut [u64],
     spare: &mut [u64],
 ) -> usize
-    requires { ⌜ (groupCapacity ≤ length (now tile)) × ((wordBits * words ≤ groupCapacity) × ((members ≤ rowLimit) × ((wordBits * tiles < members) × ((members ≤ wordBits * tiles + wordBits + 1)
-        × ((columnsLength ≤ length (now columns)) × ((wordBits ≤ length (now transposed)) × (wordBits ≤ length (now spare)))))))) ⌝ }
+    requires { ⌜ (groupCapacity ≤ length (now tile)) × ((members ≤ rowLimit) × ((wordBits * tiles < members)
+        × ((members ≤ wordBits * tiles + wordBits + 1) × TileRoom words tiles (now tile) (now columns) (now transposed) (now spare)))) ⌝ }
     ensures { λ r. ⌜ RoomMade words members (now (columns .entry)) (now (tile .entry)) tiles (now (columns .exit)) (now (tile .exit)) r ⌝ }
 {
     if members <= TILE_MEMBERS * tiles + TILE_MEMBERS {

@@ -5,6 +5,7 @@ use native.Mathlib.Omega.{arith}
 use Prim.Native.Nat.{ℕ, _-_, _*_, _≤_}
 use mathlib.Core.Path.{_≡_, refl, _∙_}
 use lib.ListN.{length, length-replicate}
+use Rattle.wire.specs.Limits.{rowLimit}
 use Rattle.wire.specs.Capacity.{groupCapacity}
 use Rattle.wire.specs.Edition.{editionOf, rowBytes}
 use Rattle.wire.specs.MemberKey.{keyMember}
@@ -95,13 +96,32 @@ make-room-requires c κs =
     let f = r .before .before in
     let l = f .before .before .loop in
     let p = l .inv .1 .1 .1 .1 .1 .1 .1 in
-    let wanted = room-wanted (found r) p (w .with-row .ensures) in (
+    let wanted = room-wanted (found r) p (w .with-row .ensures) in
+    let most : w .with-row .result ≤ rowLimit =
+        omega (
+          arith,
+          with-row-most (r .r .given .0 .0 .joined) (l .members),
+          w .with-row .ensures,
+          members-within _ _ (l .row) (p .filled .number),
+          f .before .loop-test .taken,
+          f .before .before .before .before .before .before .pre .1 .0,
+        ) in (
       search needs,
       (
-        p .within-groups,
+        most,
         (
-          omega (arith, with-row-most (r .r .given .0 .0 .joined) (l .members), w .with-row .ensures, members-within _ _ (l .row) (p .filled .number), f .before .loop-test .taken, f .before .before .before .before .before .before .pre .1 .0),
-          (wanted .0, (wanted .1, (rw (l .inv .1 .1 .1 .0) (f .before .before .before .before .before .before .pre .1 .1 .1 .0), (search needs, search needs)))),
+          wanted .0,
+          (
+            wanted .1,
+            record {
+              first = search (needs, p .within-groups);
+              groups = p .within-groups;
+              word = omega (arith, wanted .0, most);
+              columns-long = rw (l .inv .1 .1 .1 .0) (f .before .before .before .before .before .before .pre .1 .1 .1 .0);
+              transposed-long = search needs;
+              spare-long = search needs;
+            },
+          ),
         ),
       ),
     )
@@ -199,13 +219,14 @@ put-tile-requires c κs =
     let l = a .loop in
     let p = l .inv .1 .1 .1 .1 .1 .1 .1 in (
       search needs,
-      (
-        p .within-groups,
-        (
-          tiles-within p (omega (arith, members-within _ _ (l .row) (p .filled .number), l .inv .0, a .before .before .before .before .pre .1 .0)),
-          (search needs, (search needs, search needs)),
-        ),
-      ),
+      record {
+        first = search (needs, p .within-groups);
+        groups = p .within-groups;
+        word = tiles-within p (omega (arith, members-within _ _ (l .row) (p .filled .number), l .inv .0, a .before .before .before .before .pre .1 .0));
+        columns-long = search needs;
+        transposed-long = search needs;
+        spare-long = search needs;
+      },
     )
 
 same-length-3 : tie.Need-same-length-3 Inv-loop μ-loop

@@ -15,7 +15,7 @@ add-if1 c = search needs
 returns : tie.Need-returns
 returns c =
     let s = c .before .before .before .before .before in
-    record { same = λ g i a b l. refl; begun = s .pre .1 .1 .1 .0; within = omega (arith, c .if1 .taken) }
+    record { same = λ g i a b l. refl; begun = s .pre .1 .1 .0; within = omega (arith, c .if1 .taken) }
 
 put-tile-requires : tie.Need-put-tile-requires
 put-tile-requires c κs = search needs
@@ -39,7 +39,7 @@ returns-2 : tie.Need-returns-2
 returns-2 c =
     let p = c .before .before .before .before .before .before .before .before in
     let s = p .before .before .before .before .before .before .before .before .before .before in
-    room-made (s .pre .1 .0) (p .put-tile .ensures .0) (p .put-tile .ensures .1) (omega arith)
+    room-made (s .pre .1 .1 .1 .1 .groups) (p .put-tile .ensures .0) (p .put-tile .ensures .1) (omega arith)
 
 pub make-room-spec : {M : Type 1} → statement M
 make-room-spec =
