@@ -1,7 +1,8 @@
 -- Laws of claims through their names: a claim that the tables hold is the one that is written down.
 use Prim.Native.Nat.{ℕ, _≤_, zero, suc, _+_, _*_, _<_, _-_}
 use mathlib.Core.Path.{_≡_, refl, _∙_, sym}
-use mathlib.Core.List.{List, List·Memᴰ, List·Memᴰ·not-nil, List·Memᴰ·cases-cons, Memᴰ·of-map, [], _∷_, map, List·Memᴰ·head, List·Memᴰ·tail, _++_}
+use mathlib.Core.List.{List, List·Memᴰ, List·Memᴰ·not-nil, List·Memᴰ·cases-cons, Memᴰ·of-map, [], _∷_, map, List·Memᴰ·head}
+use mathlib.Core.List.{List·Memᴰ·tail, _++_}
 use mathlib.Core.List.{append-assoc, append-nil}
 use mathlib.Core.Logic.{⊎-elim}
 use native.Mathlib.Omega.{arith}

@@ -78,7 +78,8 @@ pub record WordsTo (f : ℕ → ℕ) (w : ℕ) (t u : List ℕ) : Type 0 where
 pub words-to-none : (f : ℕ → ℕ) (t : List ℕ) → WordsTo f 0 t t
 words-to-none f t = record { done = λ v l. absurd (omega arith); left = λ v l. refl }
 
-pub words-to-more : {f : ℕ → ℕ} {w : ℕ} {t u : List ℕ} (x : ℕ) → WordsTo f w t u → w < length u → x ≡ f w → WordsTo f (w + 1) t (set u w x)
+pub words-to-more : {f : ℕ → ℕ} {w : ℕ} {t u : List ℕ} (x : ℕ) → WordsTo f w t u → w < length u → x ≡ f w
+    → WordsTo f (w + 1) t (set u w x)
 words-to-more {f} {w} {t} {u} x c l e =
     record {
       done = λ v o.

@@ -6,7 +6,8 @@ use Rattle.wire.specs.Capacity.{groupCapacity}
 use Rattle.columns.specs.ColumnSteps.{Put}
 
 -- what is put in two steps, or not at all
-pub put-as : {n : ℕ} {f h d e : ℕ → ℕ → ℕ} → ((g i : ℕ) → 1 ≤ g → g ≤ groupCapacity → i < n → f g i ≡ h g i) → Put n f d e → Put n h d e
+pub put-as : {n : ℕ} {f h d e : ℕ → ℕ → ℕ} → ((g i : ℕ) → 1 ≤ g → g ≤ groupCapacity → i < n → f g i ≡ h g i)
+    → Put n f d e → Put n h d e
 put-as x p = record { each = λ g i a b l. p .each g i a b l ∙ (rw (x g i a b l)) }
 
 pub put-none : {n : ℕ} {f : ℕ → ℕ → ℕ} (d : ℕ → ℕ → ℕ) → ((g i : ℕ) → f g i ≡ 0) → Put n f d d

@@ -84,7 +84,8 @@ members-joined [] r e l = absurd (omega (arith, ap (λ m. m .number) e))
 members-joined (q ∷ []) r e l = rw (one-true (q .member) (r .member) (ap memberKey e)) (ap (λ m. m ∷ []) (sym e))
 members-joined (q ∷ (p ∷ rs)) r e l = rw (members-joined (p ∷ rs) r e l)
 
-pub members-new : (rs : List Row) (r : Row) → precedes (lastMember rs) (r .member) ≡ true → members (rs ++ (r ∷ [])) ≡ members rs ++ (r .member ∷ [])
+pub members-new : (rs : List Row) (r : Row) → precedes (lastMember rs) (r .member) ≡ true → members (rs ++ (r ∷ []))
+    ≡ members rs ++ (r .member ∷ [])
 unfolding members lastMember
 members-new [] r l = refl
 members-new (q ∷ []) r l = rw (one-false (q .member) (r .member) (λ e. omega (arith, precedes-true (q .member) (r .member) l)))

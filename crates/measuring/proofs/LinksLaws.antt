@@ -161,7 +161,8 @@ count-some s p (suc n) e =
 
 -- no son, one son, or more, by the last son and the one before it
 pub count-by : (s : Sheet) (p a b : ℕ) → a ≡ sonBelow s p (suc (s .size)) → b ≡ sonBelow s p a
-    → (a ≡ 0 → sonCount s p ≡ 0) × ((a ≡ 0 → ⊥) → b ≡ 0 → sonCount s p ≡ 1) × ((a ≡ 0 → ⊥) → (b ≡ 0 → ⊥) → 1 < sonCount s p)
+    → (a ≡ 0 → sonCount s p ≡ 0) × ((a ≡ 0 → ⊥) → b ≡ 0 → sonCount s p ≡ 1)
+    × ((a ≡ 0 → ⊥) → (b ≡ 0 → ⊥) → 1 < sonCount s p)
 unfolding sons
 count-by s p a b d e = (
   λ z. count-none s p (suc (s .size)) (sym d ∙ z),

@@ -131,7 +131,8 @@ module _ {s : Sheet} (b : Bool) (t r : List ℕ) where
   pub left-way-found : {sizes marks : List ℕ} {x : Bool} (n i : ℕ) → i < n → n ≤ length t
       → Tried s (brokenKind b) (getD t i 0 ∷ []) r sizes marks x → x ≡ true → Tried s (brokenKind b) (take n t) r sizes marks true
   left-way-found {sizes} {marks} n i l k w e =
-      witnessed-yes (through-one (λ l. Way l r (brokenKind b)) (λ l i o w. left-one (broken-one b) w) (λ i o. PlaceShown s i o sizes marks) t n i l k (w .found e))
+      witnessed-yes (through-one (λ l. Way l r (brokenKind b)) (λ l i o w. left-one (broken-one b) w) (λ i o. PlaceShown s i o sizes marks) t n i l k
+      (w .found e))
 
 -- the right list of kind 6
 module _ {s : Sheet} (l t : List ℕ) where

@@ -51,7 +51,8 @@ fn size_of(
     g: GroupNo,
 ) -> u32
     requires { ⌜ (1 ≤ p .0) × (p .0 < g .0) × (groupFields * (g .0) ≤ length (now groups))
-        × (pairFields * (g .0) ≤ length (now spans)) × (pairFields * (g .0) ≤ length (now after)) × (g .0 ≤ length (now sizes)) × (g .0 ≤ length (now left)) ⌝ }
+        × (pairFields * (g .0) ≤ length (now spans)) × (pairFields * (g .0) ≤ length (now after)) × (g .0 ≤ length (now sizes))
+        × (g .0 ≤ length (now left)) ⌝ }
     ensures { λ r. ⌜ r ≡ sizeBy (sameMode (groupIn (now (groups .entry)) (p .0 - 1) .mode))
         (disjointMode (groupIn (now (groups .entry)) (p .0 - 1) .mode))
         (coverMode (groupIn (now (groups .entry)) (p .0 - 1) .mode))

@@ -42,12 +42,14 @@ tallied-refused s d n k t e =
     record { counts = λ rows f. absurd (let z : _≡_ {A = ℕ} 0 1 = cc in omega arith); kept = λ m j f. refl }
 
 -- no digit is set from member n on
-pub others-none : {size : ℕ} {rs : List Row} {t : List ℕ} {n : ℕ} → ColumnsFilled size rs n t → (g i : ℕ) → 1 ≤ g → g ≤ size → n ≤ i → i < rowLimit
+pub others-none : {size : ℕ} {rs : List Row} {t : List ℕ} {n : ℕ} → ColumnsFilled size rs n t → (g i : ℕ) → 1 ≤ g → g ≤ size
+    → n ≤ i → i < rowLimit
     → columnDigit t g i ≡ 0
 others-none {rs = rs} {n = n} f g i a c o l = f .each g i a c l ∙ (rw (le-ltb i (length (members rs)) (omega (arith, f .number))))
 
 -- the counts that were read off are those of the sets
-pub columns-counted : {size : ℕ} {rs : List Row} {t u : List ℕ} {n words : ℕ} (s : Sheet) → s .size ≤ size → ColumnsFilled size rs n t → WordsFor n words
+pub columns-counted : {size : ℕ} {rs : List Row} {t u : List ℕ} {n words : ℕ} (s : Sheet) → s .size ≤ size → ColumnsFilled size rs n t
+    → WordsFor n words
     → ColumnsCounted t (s .size) words u → Counted s (columnSets t n) u
 columns-counted {t = t} {n = n} {words = words} s z f w c =
     record {
@@ -86,7 +88,8 @@ module _ (s : Sheet) {size : ℕ} (z : s .size ≤ size) (ed : Edition) (groups 
             record {
               names = v .names;
               gives = v .gives;
-              answered = answered-agree s (columnSets t n) (listedSets rs) y (columns-agree rs same) (columns-distinct t n) (distinct-of-readable ed groups b rs e) _ _ (v .answered);
+              answered = answered-agree s (columnSets t n) (listedSets rs) y (columns-agree rs same) (columns-distinct t n)
+                  (distinct-of-readable ed groups b rs e) _ _ (v .answered);
             };
       }
 

@@ -103,7 +103,8 @@ module _ {t : List ℕ} {n : ℕ} {c : List ℕ} {members : ℕ} {starts order c
     rules-member l to m d =
         rules-more (sheetIn t n) (columnSets c members) g k r
         (λ q e v.
-        let x = member-of (sheetIn t n) (T .tree) c members words some two g f (G .others) group (severalSons starts g) (two-sons (G .sons) group) joined q (omega arith) v .1 in
+        let x = member-of (sheetIn t n) (T .tree) c members words some two g f (G .others) group (severalSons starts g)
+        (two-sons (G .sons) group) joined q (omega arith) v .1 in
         members-clash e (parent-in t n g group) d (x .0) (omega arith) (x .2))
 
     -- the rule cannot be broken at the group
@@ -111,7 +112,8 @@ module _ {t : List ℕ} {n : ℕ} {c : List ℕ} {members : ℕ} {starts order c
     rules-not l d =
         rules-more (sheetIn t n) (columnSets c members) g k r
         (λ q e v.
-        let x = member-of (sheetIn t n) (T .tree) c members words some two g f (G .others) group (severalSons starts g) (two-sons (G .sons) group) joined q (omega arith) v .0 in
+        let x = member-of (sheetIn t n) (T .tree) c members words some two g f (G .others) group (severalSons starts g)
+        (two-sons (G .sons) group) joined q (omega arith) v .0 in
         true-not-false _ x (sym (may-is T g a b (severalSons starts g) q (omega arith)) ∙ (rw e d)))
 
     -- the count does not break the rule

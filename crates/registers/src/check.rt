@@ -51,8 +51,10 @@ fn join_asked(
     some: &mut [u64],
     two: &mut [u64],
 )
-    requires { ⌜ (1 ≤ g .0) × ((groupFields * (g .0) ≤ length (now groups)) × Joinable (now columns) words (now starts) (now order) (g .0) (now some) (now two)) ⌝ }
-    ensures { λ _. ⌜ JoinedFor (modeIn (now (groups .entry)) (g .0)) (severalSons (now (starts .entry)) (g .0)) (keptSons (now (starts .entry)) (now (order .entry)) (g .0)) (now (columns .entry)) words (now (some .exit)) (now (two .exit)) ⌝ }
+    requires { ⌜ (1 ≤ g .0) × ((groupFields * (g .0) ≤ length (now groups))
+        × Joinable (now columns) words (now starts) (now order) (g .0) (now some) (now two)) ⌝ }
+    ensures { λ _. ⌜ JoinedFor (modeIn (now (groups .entry)) (g .0)) (severalSons (now (starts .entry)) (g .0))
+        (keptSons (now (starts .entry)) (now (order .entry)) (g .0)) (now (columns .entry)) words (now (some .exit)) (now (two .exit)) ⌝ }
 {
     if asks_sons(mode_of(groups, g), several_sons(starts, g)) {
         join_sons(columns, words, starts, order, g, some, two);
@@ -114,7 +116,8 @@ pub fn check_register(
 ) -> Check
     requires { ⌜ Tabled (now groups) size × (groupNumbers ≤ length (now counts)) ⌝ }
     ensures { λ r. ⌜ Checked (sheetIn (now (groups .entry)) size) (readRegister (editionOf edition) size (now (register .entry))) r
-        × Tallied (sheetIn (now (groups .entry)) size) (readRegister (editionOf edition) size (now (register .entry))) (now (counts .entry)) (now (counts .exit)) ⌝ }
+        × Tallied (sheetIn (now (groups .entry)) size) (readRegister (editionOf edition) size (now (register .entry))) (now (counts .entry))
+        (now (counts .exit)) ⌝ }
 {
     let mut starts = [0u32; SON_STARTS];
     let mut order = [0u16; SONS];

@@ -53,7 +53,8 @@ pub record MembersSeen (f : ℕ → Bool) (from to all : ℕ) : Type 0 where
 pub members-seen-none : (f : ℕ → Bool) (from : ℕ) → MembersSeen f from from 0
 members-seen-none f from = record { some = λ e. absurd (omega arith); none = λ e i a b. absurd (omega arith) }
 
-pub members-seen-more : {f : ℕ → Bool} {from w all word : ℕ} → MembersSeen f from (wordBits * w) all → from ≤ wordBits * w → MembersPassing f w word
+pub members-seen-more : {f : ℕ → Bool} {from w all word : ℕ} → MembersSeen f from (wordBits * w) all → from ≤ wordBits * w
+    → MembersPassing f w word
     → word < 2 ^ 64 → MembersSeen f from (wordBits * (w + 1)) (bitOr all word)
 members-seen-more {f} {from} {w} {all} {word} s o p l =
     record {

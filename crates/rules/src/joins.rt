@@ -24,7 +24,8 @@ fn clear(words: usize, some: &mut [u64], two: &mut [u64])
 
 // the column of one son more
 fn join_column(columns: &[u64], son: GroupNo, words: usize, some: &mut [u64], two: &mut [u64])
-    requires { ⌜ (son .0 ≤ groupCapacity) × ((words ≤ columnWords) × ((columnsLength ≤ length (now columns)) × ((words ≤ length (now some)) × (words ≤ length (now two))))) ⌝ }
+    requires { ⌜ (son .0 ≤ groupCapacity) × ((words ≤ columnWords)
+        × ((columnsLength ≤ length (now columns)) × ((words ≤ length (now some)) × (words ≤ length (now two))))) ⌝ }
     ensures { λ _. ⌜ ColumnJoined (now (columns .entry)) (son .0) words (now (some .entry)) (now (two .entry)) (now (some .exit)) (now (two .exit)) ⌝ }
 {
     for w in 0..words {
@@ -46,7 +47,8 @@ pub fn join_sons(
 )
     requires { ⌜ SonsReadable (now starts) (now order) (g .0)
         × ((words ≤ columnWords) × ((columnsLength ≤ length (now columns)) × ((words ≤ length (now some)) × (words ≤ length (now two))))) ⌝ }
-    ensures { λ _. ⌜ Joined (keptSons (now (starts .entry)) (now (order .entry)) (g .0)) (now (columns .entry)) words (now (some .exit)) (now (two .exit)) ⌝ }
+    ensures { λ _. ⌜ Joined (keptSons (now (starts .entry)) (now (order .entry)) (g .0)) (now (columns .entry)) words (now (some .exit))
+        (now (two .exit)) ⌝ }
 {
     clear(words, some, two);
     let i = g.0 as usize;

@@ -22,7 +22,8 @@ ghost use Rattle.rules.specs.RuleTests.{mayBreak, MembersPassing, member
 
 // whether one of the rules 1 to 4 can be broken at a group with the parent p
 pub fn may_break(groups: &[u16], starts: &[u32], g: GroupNo, p: GroupNo, rule: u16) -> bool
-    requires { ⌜ (g .0 + 1 < length (now starts)) × ((1 ≤ g .0) × ((groupFields * (g .0) ≤ length (now groups)) × ((p .0 < g .0) × (p .0 ≡ parentIn (now groups) (g .0))))) ⌝ }
+    requires { ⌜ (g .0 + 1 < length (now starts)) ×
+        ((1 ≤ g .0) × ((groupFields * (g .0) ≤ length (now groups)) × ((p .0 < g .0) × (p .0 ≡ parentIn (now groups) (g .0))))) ⌝ }
     ensures { λ r. ⌜ r ≡ mayBreak (now (groups .entry)) (severalSons (now (starts .entry)) (g .0)) (g .0) rule ⌝ }
 {
     if rule == 1 {
@@ -86,7 +87,8 @@ pub fn block_breaks(
     p: GroupNo,
 ) -> bool
     requires { ⌜ BlockAsked (now columns) (now some) (now two) b (g .0) (p .0) ⌝ }
-    ensures { λ r. ⌜ SomeMember (memberBreaks rule (now (columns .entry)) (now (some .entry)) (now (two .entry)) (g .0) (p .0)) (blockMembers * b) (blockMembers * (b + 1)) r ⌝ }
+    ensures { λ r. ⌜ SomeMember (memberBreaks rule (now (columns .entry)) (now (some .entry)) (now (two .entry)) (g .0) (p .0)) (blockMembers * b)
+        (blockMembers * (b + 1)) r ⌝ }
 {
     let mut broken = 0u64;
     for k in 0..BLOCK_WORDS {

@@ -90,7 +90,8 @@ module _ {before left g : ℕ} (w : LowestGroup before left g) where
         };
       }
     where
-      step : (h : ℕ) → max (wordBit word before h - wordBit left before h) (bit (eqb h g)) ≡ wordBit word before h - wordBit (bitAnd left (left - 1)) before h
+      step : (h : ℕ) → max (wordBit word before h - wordBit left before h) (bit (eqb h g))
+          ≡ wordBit word before h - wordBit (bitAnd left (left - 1)) before h
       step h =
           compare-eq h g
           (λ e. rw (e, eq-eqb g g refl, lowest-bit, rest-bit)

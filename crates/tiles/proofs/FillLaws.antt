@@ -50,7 +50,8 @@ member-put f m w c a b p =
     }
 
 -- the digits stay the members' where room is made, and where the last tile is put
-filled-room : {rs : List Row} {words n w v m : ℕ} {c t d u : List ℕ} → TilesFilled (wordBits * words) rs n c t w → RoomMade words m c t w d u v → TilesFilled (wordBits * words) rs n d u v
+filled-room : {rs : List Row} {words n w v m : ℕ} {c t d u : List ℕ} → TilesFilled (wordBits * words) rs n c t w → RoomMade words m c t w d u v
+    → TilesFilled (wordBits * words) rs n d u v
 filled-room f r = record { number = f .number; each = λ g i a b l. r .same g i a b l ∙ f .each g i a b l }
 
 pub filled-columns : (words : ℕ) {rs : List Row} {size n w : ℕ} {c t d : List ℕ} → size ≤ wordBits * words → wordBits * words ≤ groupCapacity
@@ -62,7 +63,8 @@ filled-columns words {w = w} {t = t} y z f p =
     }
 
 -- the columns of no row
-filled-none : (groups : ℕ) → groups ≤ groupCapacity → (ed : Edition) (b c t : List ℕ) (w : ℕ) → Empty c → Cleared groupCapacity t → TilesFilled groups (rowsBefore ed b 0) 0 c t w
+filled-none : (groups : ℕ) → groups ≤ groupCapacity → (ed : Edition) (b c t : List ℕ) (w : ℕ) → Empty c → Cleared groupCapacity t
+    → TilesFilled groups (rowsBefore ed b 0) 0 c t w
 unfolding columnDigit rowsBefore members
 filled-none groups z ed b c t w e x =
     record {
@@ -113,7 +115,8 @@ module _ {ed : Edition} {b : List ℕ} {row : ℕ} {v : RowFound} (s : Stands ed
   members-some e =
       split (v .joined) (λ j. rw j (omega (arith, o .some (rw (is-joined j) (s .some))))) (λ j. rw j (omega arith))
 
-  filled-more : {groups n m w : ℕ} {c t u : List ℕ} → groups ≤ groupCapacity → TilesFilled groups rs n c t w → m ≡ cond (v .joined) n (n + 1) → wordBits * w < m → m ≤ wordBits * w + wordBits
+  filled-more : {groups n m w : ℕ} {c t u : List ℕ} → groups ≤ groupCapacity → TilesFilled groups rs n c t w → m
+      ≡ cond (v .joined) n (n + 1) → wordBits * w < m → m ≤ wordBits * w + wordBits
       → RowPut ed b (v .bits) (m - 1 - wordBits * w) t u → TilesFilled groups (rowsBefore ed b (row + 1)) m c u w
   filled-more {groups} {n} {m} {w} {c} z f e x y q =
       let p = member-put (firstBits b (v .bits) (rowWords ed)) (m - 1) w c (omega arith) (omega arith) q in
@@ -144,7 +147,8 @@ pub record RowsPut (ed : Edition) (b : List ℕ) (words row n : ℕ) (c t : List
   pub begun : 1 ≤ n → wordBits * w < n
   pub within : n ≤ wordBits * w + wordBits
 
-pub rows-put-none : (ed : Edition) (b : List ℕ) (words : ℕ) → wordBits * words ≤ groupCapacity → (c t : List ℕ) → Empty c → Cleared groupCapacity t → RowsPut ed b words 0 0 c t 0
+pub rows-put-none : (ed : Edition) (b : List ℕ) (words : ℕ) → wordBits * words ≤ groupCapacity → (c t : List ℕ) → Empty c
+    → Cleared groupCapacity t → RowsPut ed b words 0 0 c t 0
 unfolding rowsBefore
 rows-put-none ed b words z c t e x =
     record {
@@ -157,11 +161,13 @@ rows-put-none ed b words z c t e x =
     }
 
 -- a column has a word for the tile
-pub tiles-within : {ed : Edition} {b : List ℕ} {words row n w : ℕ} {c t : List ℕ} → RowsPut ed b words row n c t w → n ≤ rowLimit → w < columnWords
+pub tiles-within : {ed : Edition} {b : List ℕ} {words row n w : ℕ} {c t : List ℕ} → RowsPut ed b words row n c t w → n ≤ rowLimit
+    → w < columnWords
 tiles-within {n = n} p l = compare-le 1 n (λ o. omega (arith, p .begun o)) (λ o. omega (arith, p .from))
 
 -- room is wanted for the member of one row more, and with room the row is put
-module _ {ed : Edition} {b : List ℕ} {row : ℕ} {v : RowFound} (s : Stands ed b row v) {words n m w : ℕ} {c t : List ℕ} (p : RowsPut ed b words row n c t w)
+module _ {ed : Edition} {b : List ℕ} {row : ℕ} {v : RowFound} (s : Stands ed b row v) {words n m w : ℕ} {c t : List ℕ}
+    (p : RowsPut ed b words row n c t w)
     (e : m ≡ cond (v .joined) n (n + 1)) where
   pub room-wanted : (wordBits * w < m) × (m ≤ wordBits * w + wordBits + 1)
   room-wanted =

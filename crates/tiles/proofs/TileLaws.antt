@@ -34,7 +34,14 @@ word-put t k m word z a b c =
             compare-eq (wordBits * ((g - 1) / wordBits) + i) (wordBits * k + m)
             (λ e. let s : i ≡ m = omega arith in
             let q : (g - 1) % wordBits ≡ g - 1 - wordBits * k = omega arith in
-            rw (e, getD-set-same t (wordBits * k + m) (bitOr (getD t (wordBits * k + m) 0) word) 0 (omega arith), eq-eqb i m s, le-leb (wordBits * k + 1) g (omega arith), q)
+            rw (
+              e,
+              getD-set-same t (wordBits * k + m) (bitOr (getD t (wordBits * k + m) 0) word) 0 (omega arith),
+              eq-eqb i m s,
+              le-leb
+                  (wordBits * k + 1) g (omega arith),
+              q,
+            )
             (digit-or (getD t (wordBits * k + m) 0) word (g - 1 - wordBits * k)))
             (λ e. rw (getD-set-other t (wordBits * k + m) (wordBits * ((g - 1) / wordBits) + i) (bitOr (getD t (wordBits * k + m) 0) word) 0 e)
             (compare-eq i m
@@ -120,13 +127,20 @@ columns-put-more l before n {w} p q =
 pub tile-put-none : (t : List ℕ) (w : ℕ) (c : List ℕ) → MembersPut (firstGroups t 0) w c c
 unfolding firstGroups
 tile-put-none t w c =
-    record { put = put-none (columnDigit c) (λ g i. rw (le-ltb (g - 1) (wordBits * 0) (omega arith)) (split (eqb (i / wordBits) w) (λ e. rw e) (λ e. rw e))) }
+    record {
+      put = put-none (columnDigit c) (λ g i. rw (le-ltb (g - 1) (wordBits * 0) (omega arith))
+          (split (eqb (i / wordBits) w) (λ e. rw e) (λ e. rw e)));
+    }
 
-pub tile-put-more : (t : List ℕ) {l : List ℕ} (k : ℕ) {w : ℕ} {c d e : List ℕ} → MembersPut (firstGroups t k) w c d → Transposed t (wordBits * k) l
+pub tile-put-more : (t : List ℕ) {l : List ℕ} (k : ℕ) {w : ℕ} {c d e : List ℕ} → MembersPut (firstGroups t k) w c d
+    → Transposed t (wordBits * k) l
     → ColumnsPut l (wordBits * k) wordBits w d e → MembersPut (firstGroups t (k + 1)) w c e
 unfolding firstGroups nextGroups tileDigit
 tile-put-more t {l} k {w} p x q =
-    record { put = put-then (p .put) (q .put) (λ g i a b o. split (eqb (i / wordBits) w) (λ e. rw e (step g (i % wordBits) a (omega arith))) (λ e. rw e (omega arith))) }
+    record {
+      put = put-then (p .put) (q .put) (λ g i a b o. split (eqb (i / wordBits) w) (λ e. rw e (step g (i % wordBits) a (omega arith)))
+          (λ e. rw e (omega arith)));
+    }
   where
     step : (g j : ℕ) → 1 ≤ g → j < wordBits → max (firstGroups t k g j) (nextGroups l (wordBits * k) wordBits g j) ≡ firstGroups t (k + 1) g j
     step g j a o =
@@ -134,9 +148,24 @@ tile-put-more t {l} k {w} p x q =
         (λ y. compare-le g (wordBits * k + wordBits)
         (λ z. let q : (g - 1) / wordBits ≡ k = omega arith in
         let r : (g - 1) % wordBits ≡ g - 1 - wordBits * k = omega arith in
-        rw (le-leb (wordBits * k + 1) g y, le-leb g (wordBits * k + wordBits) z, le-ltb (g - 1) (wordBits * k) (omega arith), lt-ltb (g - 1) (wordBits * (k + 1)) (omega arith), q, r, x .each (g - 1 - wordBits * k) j (omega arith) o)
+        rw (
+          le-leb (wordBits * k + 1) g y,
+          le-leb g (wordBits * k + wordBits) z,
+          le-ltb (g - 1) (wordBits * k) (omega arith),
+          lt-ltb (g - 1)
+              (wordBits * (k + 1)) (omega arith),
+          q,
+          r,
+          x .each (g - 1 - wordBits * k) j (omega arith) o,
+        )
         (omega arith))
-        (λ z. rw (le-leb (wordBits * k + 1) g y, lt-leb g (wordBits * k + wordBits) z, le-ltb (g - 1) (wordBits * k) (omega arith), le-ltb (g - 1) (wordBits * (k + 1)) (omega arith))
+        (λ z. rw (
+          le-leb (wordBits * k + 1) g y,
+          lt-leb g (wordBits * k + wordBits) z,
+          le-ltb (g - 1) (wordBits * k) (omega arith),
+          le-ltb (g - 1)
+              (wordBits * (k + 1)) (omega arith),
+        )
         (omega arith)))
         (λ y. rw (lt-leb (wordBits * k + 1) g y, lt-ltb (g - 1) (wordBits * k) (omega arith), lt-ltb (g - 1) (wordBits * (k + 1)) (omega arith)) (omega arith))
 
@@ -157,7 +186,8 @@ member-none t w m c =
           (λ e. rw e (split (eqb (i % wordBits) m) (λ x. rw x) (λ x. rw x))) (λ e. rw e)));
     }
 
-pub member-more : (t : List ℕ) (k m : ℕ) {w word : ℕ} {c d e : List ℕ} → MemberGroups t k w m c d → word ≡ getD t (wordBits * k + m) 0 → word < 2 ^ 64
+pub member-more : (t : List ℕ) (k m : ℕ) {w word : ℕ} {c d e : List ℕ} → MemberGroups t k w m c d → word ≡ getD t (wordBits * k + m) 0
+    → word < 2 ^ 64
     → GroupsPut word (wordBits * k) w m d e → MemberGroups t (k + 1) w m c e
 unfolding firstGroups tileDigit
 member-more t k m {w} {word} p x z q =
@@ -186,11 +216,13 @@ pub members-none : (t : List ℕ) (k w : ℕ) (c : List ℕ) → FirstMembers t 
 members-none t k w c =
     record { put = put-none (columnDigit c) (λ g i. rw (le-ltb (i % wordBits) 0 (omega arith)) (split (eqb (i / wordBits) w) (λ e. rw e) (λ e. rw e))) }
 
-pub members-more : (t : List ℕ) (k m : ℕ) {w : ℕ} {c d e : List ℕ} → FirstMembers t k m w c d → MemberGroups t k w m d e → FirstMembers t k (m + 1) w c e
+pub members-more : (t : List ℕ) (k m : ℕ) {w : ℕ} {c d e : List ℕ} → FirstMembers t k m w c d → MemberGroups t k w m d e
+    → FirstMembers t k (m + 1) w c e
 members-more t k m {w} p q =
     record { put = put-then (p .put) (q .put) (λ g i a b o. split (eqb (i / wordBits) w) (λ e. rw e (step g (i % wordBits))) (λ e. rw e (omega arith))) }
   where
-    step : (g j : ℕ) → max (cond (ltb j m) (firstGroups t k g j) 0) (cond (eqb j m) (firstGroups t k g m) 0) ≡ cond (ltb j (m + 1)) (firstGroups t k g j) 0
+    step : (g j : ℕ) → max (cond (ltb j m) (firstGroups t k g j) 0) (cond (eqb j m) (firstGroups t k g m) 0)
+        ≡ cond (ltb j (m + 1)) (firstGroups t k g j) 0
     step g j =
         compare-eq j m
         (λ e. rw (eq-eqb j m e, le-ltb j m (omega arith), lt-ltb j (m + 1) (omega arith), e) (omega arith))

@@ -47,7 +47,8 @@ pub fn fill_columns(
     rows: usize,
     columns: &mut [u64],
 ) -> usize
-    requires { ⌜ (size ≤ groupCapacity) × ((rows ≤ rowLimit) × (RowsReadable (editionOf edition) (now register) rows × ((columnsLength ≤ length (now columns)) × Empty (now columns)))) ⌝ }
+    requires { ⌜ (size ≤ groupCapacity) × ((rows ≤ rowLimit)
+        × (RowsReadable (editionOf edition) (now register) rows × ((columnsLength ≤ length (now columns)) × Empty (now columns)))) ⌝ }
     ensures { λ n. ⌜ ColumnsFilled size (rowsBefore (editionOf edition) (now (register .entry)) rows) n (now (columns .exit)) ⌝ }
 {
     let mut tile = [0u64; TILE];

@@ -24,7 +24,8 @@ ghost use Rattle.tiles.specs.TileSteps.{ColumnsPut, ofMember, firstGroup
 
 // the transposed words of 64 members, as word w of the columns of 64 groups, `before` groups being before these
 fn put_columns(transposed: &[u64], before: u16, w: usize, columns: &mut [u64])
-    requires { ⌜ (before + wordBits ≤ groupCapacity) × ((w < columnWords) × ((wordBits ≤ length (now transposed)) × (columnsLength ≤ length (now columns)))) ⌝ }
+    requires { ⌜ (before + wordBits ≤ groupCapacity)
+        × ((w < columnWords) × ((wordBits ≤ length (now transposed)) × (columnsLength ≤ length (now columns)))) ⌝ }
     ensures { λ _. ⌜ ColumnsPut (now (transposed .entry)) before wordBits w (now (columns .entry)) (now (columns .exit)) ⌝ }
 {
     for j in 0..TILE_MEMBERS {
@@ -34,7 +35,8 @@ fn put_columns(transposed: &[u64], before: u16, w: usize, columns: &mut [u64])
 
 // the bits of member i of a tile, word by word
 fn put_member(tile: &[u64], words: u16, w: usize, i: usize, columns: &mut [u64])
-    requires { ⌜ (wordBits * words ≤ length (now tile)) × ((wordBits * words ≤ groupCapacity) × ((w < columnWords) × ((i < wordBits) × (columnsLength ≤ length (now columns))))) ⌝ }
+    requires { ⌜ (wordBits * words ≤ length (now tile))
+        × ((wordBits * words ≤ groupCapacity) × ((w < columnWords) × ((i < wordBits) × (columnsLength ≤ length (now columns))))) ⌝ }
     ensures { λ _. ⌜ MembersPut (ofMember i (λ g. firstGroups (now (tile .entry)) words g i)) w (now (columns .entry)) (now (columns .exit)) ⌝ }
 {
     for k in 0..words {
@@ -45,7 +47,8 @@ fn put_member(tile: &[u64], words: u16, w: usize, i: usize, columns: &mut [u64])
 
 // a tile as word w of the columns, member by member
 fn put_members(tile: &[u64], words: u16, w: usize, columns: &mut [u64])
-    requires { ⌜ (wordBits * words ≤ length (now tile)) × ((wordBits * words ≤ groupCapacity) × ((w < columnWords) × (columnsLength ≤ length (now columns)))) ⌝ }
+    requires { ⌜ (wordBits * words ≤ length (now tile))
+        × ((wordBits * words ≤ groupCapacity) × ((w < columnWords) × (columnsLength ≤ length (now columns)))) ⌝ }
     ensures { λ _. ⌜ TilePut (now (tile .entry)) words w (now (columns .entry)) (now (columns .exit)) ⌝ }
 {
     for i in 0..TILE_MEMBERS {

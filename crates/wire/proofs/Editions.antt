@@ -46,7 +46,8 @@ pub record Editions : Type 0 where
       × (rowRefusal edition2 256 40 34 31 128 0 ≡ 0)
 
 pub editions : Editions
-unfolding refusal framed headTests editionNumber editionOf groupLimit labelLimit membershipBytes rowKind rowLength nameTests nameOf labelByte labelBytes sameLabel used rowTests u16At u32At isSide sideNumber sideOf precedes memberOf rowOf clearAbove inGroup digit
+unfolding refusal framed headTests editionNumber editionOf groupLimit labelLimit membershipBytes rowKind rowLength nameTests nameOf labelByte
+    labelBytes sameLabel used rowTests u16At u32At isSide sideNumber sideOf precedes memberOf rowOf clearAbove inGroup digit
 editions =
     record {
       numbers = (refl, refl, refl, refl);

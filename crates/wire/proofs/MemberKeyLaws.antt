@@ -62,8 +62,10 @@ one-by-key m n =
     let t = side-few (n .side) in
     compare-eq (m .number) (n .number)
     (λ e. compare-eq (sideNumber (m .side)) (sideNumber (n .side))
-    (λ o. rw (eq-eqb (m .number) (n .number) e, eq-eqb (sideNumber (m .side)) (sideNumber (n .side)) o) (sym (eq-eqb (memberKey m) (memberKey n) (omega arith))))
-    (λ o. rw (eq-eqb (m .number) (n .number) e, ne-eqb (sideNumber (m .side)) (sideNumber (n .side)) o) (sym (ne-eqb (memberKey m) (memberKey n) (λ z. omega arith)))))
+    (λ o. rw (eq-eqb (m .number) (n .number) e, eq-eqb (sideNumber (m .side)) (sideNumber (n .side)) o)
+    (sym (eq-eqb (memberKey m) (memberKey n) (omega arith))))
+    (λ o. rw (eq-eqb (m .number) (n .number) e, ne-eqb (sideNumber (m .side)) (sideNumber (n .side)) o)
+    (sym (ne-eqb (memberKey m) (memberKey n) (λ z. omega arith)))))
     (λ e. rw (ne-eqb (m .number) (n .number) e) (sym (ne-eqb (memberKey m) (memberKey n) (λ z. omega arith))))
 
 pub one-true : (m n : Member) → memberKey m ≡ memberKey n → oneMember m n ≡ true

@@ -51,7 +51,8 @@ loop-again : tie.Need-loop-again Inv-loop μ-loop
 loop-again c = let a = c .before .before .before .before .before .before .before .before .args in (
   search needs,
   sym (within-pass (now (a .s)) (a .names) (a .at) (a .n) _ (omega arith) _
-      (c .before .before .before .before .u16-at .ensures) (c .before .before .if1 .left) (c .if2 .left)) ∙ c .before .before .before .before .before .before .loop .inv .1,
+      (c .before .before .before .before .u16-at .ensures) (c .before .before .if1 .left) (c .if2 .left))
+      ∙ c .before .before .before .before .before .before .loop .inv .1,
 )
 
 returns-3 : tie.Need-returns-3 Inv-loop μ-loop

@@ -24,7 +24,13 @@ abbrev μ-loop : tie.MeasureT-loop
 μ-loop sheet from n names list₀ k₀ i₀ list k i = n - i
 
 loop-holds : tie.Need-loop-holds Inv-loop μ-loop
-loop-holds c = (omega arith, omega arith, refl, let s = c .before .before .before in meant-first (s .args .sheet .now) (s .args .from) (s .args .n) (s .args .names .now))
+loop-holds c = (
+  omega arith,
+  omega arith,
+  refl,
+  let s =
+      c .before .before .before in meant-first (s .args .sheet .now) (s .args .from) (s .args .n) (s .args .names .now),
+)
 
 cast-name-at : tie.Need-cast-name-at Inv-loop μ-loop
 cast-name-at c = search needs

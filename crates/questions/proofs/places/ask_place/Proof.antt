@@ -49,7 +49,8 @@ returns c =
     let outs = take (a .n) (a .outs .now) in
     place-judged _ (a .ins .now) (a .m) outs (w .tree) (w .rooted)
     (listed-in (omega (arith, size-in (a .groups .now) (a .size))) (s .pre .1 .0))
-    (λ g q d. place-flags ins outs (c12 .bar-all .ensures) (c9 .bar-all2 .ensures) g (q .first) (omega (arith, q .last, size-in (a .groups .now) (a .size), w .small)) d)
+    (λ g q d. place-flags ins outs (c12 .bar-all .ensures) (c9 .bar-all2 .ensures) g (q .first)
+    (omega (arith, q .last, size-in (a .groups .now) (a .size), w .small)) d)
     (c4 .choose .ensures)
 
 pub ask-place-spec : {M : Type 1} → statement M

@@ -99,7 +99,8 @@ returns : tie.Need-returns Inv-loop μ-loop
 unfolding passedAs
 returns c = let q = answered-refusal (asked (c .before .before .before)) (c .before .enum-told .given .1) (c .refusal-of .ensures _ _ 0) in
     record {
-      reads = left-stop _ _ _ _ _ _ _ _ _ (c .before .before .before .before .before .loop .inv .1 .1 .1 .0) (c .before .before .before .before .loop-test .taken) _ _
+      reads = left-stop _ _ _ _ _ _ _ _ _ (c .before .before .before .before .before .loop .inv .1 .1 .1 .0)
+          (c .before .before .before .before .loop-test .taken) _ _
           (claim-alone _ _ _ ∙ q .0) (q .1);
       held = λ at e. never-read e;
     }

@@ -58,7 +58,8 @@ asked c = c .read-name .ensures
 
 -- a record was handed up
 taken : (c : tie.After-known-told Inv-loop μ-loop) →
-    Handed (nameTests (editionOf (entry c .args .edition)) (entry c .args .groups) []) (λ b. name (nameOf b)) (bytes c) (head c .loop .at) (c .before .answer .given .0 .0)
+    Handed (nameTests (editionOf (entry c .args .edition)) (entry c .args .groups) []) (λ b. name (nameOf b)) (bytes c) (head c .loop .at)
+    (c .before .answer .given .0 .0)
 taken c = answered-record (asked (c .before .before .before)) (c .before .answer .given .1)
 
 room : (c : tie.After-known-told Inv-loop μ-loop) → let at = head c .loop .at in
@@ -208,13 +209,15 @@ loop-again c = let e = same (c .before .before .before .before .before .before .
           (simp length-set (l .inv .1 .1 .0 .0), simp length-set (l .inv .1 .1 .0 .1)),
           (
             name-again (l .labels) _ _ (l .inv .1 .1 .1 .0) (turn (told (c .before)) .loop-test .taken) k t
-                (c .before .before .before .before .before .before .before .before .rec .given .1) (w .0) (sym (u .ensures .0) ∙ c .before .before .if1 .left),
+                (c .before .before .before .before .before .before .before .before .rec .given .1) (w .0)
+                (sym (u .ensures .0) ∙ c .before .before .if1 .left),
             (
               grouped-more (bytes (told (c .before))) (l .labels) (l .i) (l .at) k (l .names) _ (omega (arith, p .1))
                   (l .inv .1 .1 .1 .1 .0) (c .before .number-meant .ensures ∙ e .0),
               (
                 pass-more (bytes (told (c .before))) (l .labels) (l .i) (l .at) k
-                    (nameTests (editionOf (entry (told (c .before)) .args .edition)) (entry (told (c .before)) .args .groups) []) (l .inv .1 .1 .1 .1 .1 .0) (t .pass),
+                    (nameTests (editionOf (entry (told (c .before)) .args .edition)) (entry (told (c .before)) .args .groups) [])
+                    (l .inv .1 .1 .1 .1 .1 .0) (t .pass),
                 (
                   u .kept .1 .1 .1 .1 .0 ∙ l .inv .1 .1 .1 .1 .1 .1 .0,
                   seen-more (bytes (told (c .before))) (l .labels) (l .i) (l .at) k (u .last .1 .1 .1 .1 .0) (u .ensures .1 .0) (u .ensures .1 .1),

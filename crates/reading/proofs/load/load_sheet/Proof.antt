@@ -72,7 +72,8 @@ returns-3 : tie.Need-returns-3
 returns-3 c =
     let r = c .before .before .before .before .before .before .before .before .before .before in
     record {
-      reads = r .load-records .ensures .reads ∙ head-goes (taken (told (r .before))) (r .before .before .before .before .before .before .before .rec .given .1);
+      reads = r .load-records .ensures .reads ∙ head-goes (taken (told (r .before)))
+          (r .before .before .before .before .before .before .before .rec .given .1);
       held = r .load-records .ensures .held;
     }
 

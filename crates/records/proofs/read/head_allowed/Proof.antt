@@ -30,7 +30,13 @@ group-limit-requires : tie.Need-group-limit-requires
 group-limit-requires c κs = search needs
 
 returns-3 : tie.Need-returns-3
-returns-3 c = simp (known (c .before .before .before), le-leb _ _ (c .before .before .if2 .left), ← c .before .group-limit .ensures, lt-leb _ _ (c .if3 .taken))
+returns-3 c = simp (
+  known (c .before .before .before),
+  le-leb _ _ (c .before .before .if2 .left),
+  ← c .before .group-limit .ensures,
+  lt-leb _ _
+      (c .if3 .taken),
+)
 
 returns-4 : tie.Need-returns-4
 returns-4 c = simp (

@@ -74,7 +74,14 @@ returns-3 c = λ gs e.
     let l = lead (c .before .before .before .before .before) in
     let a = c .before .before .before .before .before .before .before .before .before .args in
     let s = now (a .s) in
-    answer-refused (λ z. omega arith) (simp (l .0, l .1 .0, l .1 .1, read-at s (a .at) 6 _ (c .before .before .before .u16-at2 .ensures), lt-leb _ _ (c .if3 .taken)))
+    answer-refused (λ z. omega arith) (simp (
+      l .0,
+      l .1 .0,
+      l .1 .1,
+      read-at s (a .at) 6 _ (c .before .before .before .u16-at2 .ensures),
+      lt-leb _ _
+          (c .if3 .taken),
+    ))
 
 returns-4 : tie.Need-returns-4
 unfolding refusal groupTests
@@ -96,7 +103,8 @@ parent-allowed-requires : tie.Need-parent-allowed-requires
 parent-allowed-requires c κs = search needs
 
 -- the last test is the one that is left
-past : (c : tie.After-parent-allowed) → let a = c .before .before .before .before .before .before .before .before .before .before .before .args in (gs : List GroupRecord) → length gs + 1 ≡ a .number .0 →
+past : (c : tie.After-parent-allowed) → let a = c .before .before .before .before .before .before .before .before .before .before .before .args in
+    (gs : List GroupRecord) → length gs + 1 ≡ a .number .0 →
     refusal (groupTests gs (drop (a .at) (now (a .s)))) ≡ cond (c .parent-allowed .result) 0 5
 unfolding refusal groupTests
 past c gs e =

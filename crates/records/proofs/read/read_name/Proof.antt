@@ -45,7 +45,8 @@ returns c = answer-refused (λ z. omega arith) (frame-refused (c .before .before
 
 returns-2 : tie.Need-returns-2
 unfolding refusal nameTests
-returns-2 c = let l = led (c .before) in answer-refused (λ z. omega arith) (simp (l .frame, led-kind l, whole-length _ _ _ (l .whole), lt-leb _ _ (c .if2 .taken)))
+returns-2 c = let l = led (c .before) in answer-refused (λ z. omega arith)
+    (simp (l .frame, led-kind l, whole-length _ _ _ (l .whole), lt-leb _ _ (c .if2 .taken)))
 
 label-limit-requires : tie.Need-label-limit-requires
 label-limit-requires c κs = search needs
@@ -124,7 +125,8 @@ returns-6 c = let l = led (c .before .before .before .before .before .before .be
       le-leb _ _ (short (c .before .before .before .before .before)),
       label-at s (a .at),
       l .whole .says,
-      sym (c .before .before .before .before .label-allowed .ensures) ∙ not-false (c .before .before .before .before .label-allowed .result) (c .before .before .before .if4 .left),
+      sym (c .before .before .before .before .label-allowed .ensures)
+          ∙ not-false (c .before .before .before .before .label-allowed .result) (c .before .before .before .if4 .left),
       group,
       le-leb _ _ (c .before .if5 .left),
     ))

@@ -22,14 +22,20 @@ use Rattle.registers.proofs.check.check_register.Tie as tie
 
 -- the rows are read
 rows-read : (c : tie.After-rows)
-    → read (rowsBefore (editionOf (c .before .before .before .before .before .before .before .before .before .before .before .args .edition)) (c .before .before .before .before .before .before .before .before .before .before .before .args .register .now) (c .rows .given .0 .0))
-    ≡ readRegister (editionOf (c .before .before .before .before .before .before .before .before .before .before .before .args .edition)) (c .before .before .before .before .before .before .before .before .before .before .before .args .size)
+    → read (rowsBefore (editionOf (c .before .before .before .before .before .before .before .before .before .before .before .args .edition))
+    (c .before .before .before .before .before .before .before .before .before .before .before .args .register .now) (c .rows .given .0 .0))
+    ≡ readRegister (editionOf (c .before .before .before .before .before .before .before .before .before .before .before .args .edition))
+    (c .before .before .before .before .before .before .before .before .before .before .before .args .size)
     (c .before .before .before .before .before .before .before .before .before .before .before .args .register .now)
 rows-read c = rw (c .rows .given .1) at (c .before .before .read-rows .ensures)
 
 -- the counts are those of the columns
 counted : (c : tie.After-count-groups)
-    → Counted (sheetIn (c .before .before .before .before .before .before .before .before .before .before .before .before .before .before .before .before .before .before .before .args .groups .now) (c .before .before .before .before .before .before .before .before .before .before .before .before .before .before .before .before .before .before .before .args .size)) (columnSets (c .before .before .before .before .before .fill-columns .last .1 .1 .1 .1 .0) (c .before .before .before .before .before .fill-columns .result))
+    → Counted (sheetIn (c .before .before .before .before .before .before .before .before .before .before .before .before .before .before .before
+    .before .before .before .before .args .groups .now)
+    (c .before .before .before .before .before .before .before .before .before .before .before .before .before .before .before .before .before
+    .before .before .args .size)) (columnSets (c .before .before .before .before .before .fill-columns .last .1 .1 .1 .1 .0)
+    (c .before .before .before .before .before .fill-columns .result))
     (c .count-groups .last .1 .1 .1 .0)
 counted c =
     let w = c .before .before in
@@ -62,8 +68,10 @@ slice-aggregate-fill-columns c = search needs
 
 fill-columns-requires : tie.Need-fill-columns-requires
 fill-columns-requires c κs =
-    let r = rows-read (c .before .before) in
-    (c .before .before .before .before .before .before .before .before .before .before .before .before .before .pre .0 .small, (rows-most _ _ _ _ r, (rows-readable _ _ _ _ r, (le-refl columnsLength, record { each = zeros columnsLength }))))
+    let r = rows-read (c .before .before) in (
+      c .before .before .before .before .before .before .before .before .before .before .before .before .before .pre .0 .small,
+      (rows-most _ _ _ _ r, (rows-readable _ _ _ _ r, (le-refl columnsLength, record { each = zeros columnsLength }))),
+    )
 
 slice-aggregate-count-groups : tie.Need-slice-aggregate-count-groups
 slice-aggregate-count-groups c = search needs

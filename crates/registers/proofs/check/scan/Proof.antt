@@ -243,7 +243,8 @@ returns-2 c =
     let p = start s .pre in
     scan-member (p .0) (p .1) _ _ (s .before .scan .inv .0) (omega arith) (s .before .before .blocks-for .ensures)
     (joining l .join-asked .ensures) (l .loop .inv .1 .1 .1) (s .before .scan .inv .1 .1 .1 .1 .1) (l .loop .inv .0) _ refl
-    (m .before .if1 .taken) (blockMembers * r .before .loop2 .b) (blockMembers * (r .before .loop2 .b + 1)) (omega (arith, r .loop2-test .taken)) (sym (m .may-break .ensures) ∙ r .before .before .if2 .taken) _
+    (m .before .if1 .taken) (blockMembers * r .before .loop2 .b) (blockMembers * (r .before .loop2 .b + 1)) (omega (arith, r .loop2-test .taken))
+    (sym (m .may-break .ensures) ∙ r .before .before .if2 .taken) _
     (rw (← q .parent-of .ensures) (c .before .block-breaks .ensures)) (c .if3 .taken)
 
 same-length-5 : tie.Need-same-length-5 Inv-loop2 μ-loop2 Inv-loop μ-loop Inv-scan μ-scan

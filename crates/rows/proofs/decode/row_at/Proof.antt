@@ -39,8 +39,11 @@ returns-3 c =
     (λ e. omega (arith, c .if3 .taken, c .before .before .u32-at .ensures, c .before .row-frame .ensures, e)))
 
 row-framed-requires : tie.Need-row-framed-requires
-row-framed-requires c κs =
-    (omega (arith, c .before .before .before .before .before .row-bytes .ensures), omega (arith, c .if3 .left, c .before .before .u32-at .ensures, c .before .row-frame .ensures))
+row-framed-requires c κs = (
+  omega (arith, c .before .before .before .before .before .row-bytes .ensures),
+  omega
+      (arith, c .if3 .left, c .before .before .u32-at .ensures, c .before .row-frame .ensures),
+)
 
 returns-4 : tie.Need-returns-4
 returns-4 c = search needs

@@ -29,7 +29,8 @@ is-side-requires c κs = search needs
 
 -- the row's fields; its side is one of the two; it names somebody
 fields : (c : tie.After-u16-at)
-    → RowFields (editionOf (c .before .before .before .args .edition)) (c .before .before .before .args .register .now) (c .before .before .before .args .at) (c .before .u32-at .result) (c .u16-at .result)
+    → RowFields (editionOf (c .before .before .before .args .edition)) (c .before .before .before .args .register .now)
+    (c .before .before .before .args .at) (c .before .u32-at .result) (c .u16-at .result)
 fields c =
     let k = c .before .before in
     record {

@@ -21,13 +21,15 @@ abbrev μ-loop : tie.MeasureT-loop
 
 -- the list ends within the table, and a row has a bit for each of its groups
 within : (c : tie.After-start-at2 Inv-loop μ-loop)
-    → c .start-at2 .result ≤ length (c .before .before .before .before .before .before .before .before .before .before .before .before .before .before .before .args .order .now)
+    → c .start-at2 .result ≤ length (c .before .before .before .before .before .before .before .before .before .before .before .before .before
+    .before .before .args .order .now)
 within c =
     rw (c .start-at2 .ensures, add-one)
     (c .before .before .before .before .before .before .before .before .before .before .before .before .before .before .before .pre .0 .within)
 
 group : (c : tie.In-loop Inv-loop μ-loop)
-    → getD (c .before .before .before .before .before .before .before .before .before .before .before .before .before .before .before .before .before .args .order .now)
+    → getD (c .before .before .before .before .before .before .before .before .before .before .before .before .before .before .before .before .before
+    .args .order .now)
     (c .before .loop .k) 0 ≤ groupCapacity
 group c =
     let u = c .before .before in

@@ -19,23 +19,28 @@ use Rattle.tiles.proofs.fill.fill_columns.Statement.{statement}
 use Rattle.tiles.proofs.fill.fill_columns.Tie as tie
 
 abbrev Inv-loop : tie.InvT-loop
-Inv-loop register edition size rows columns₀ tile₀ transposed₀ spare₀ words at₀ last₀ members₀ tiles₀ row₀ columns tile transposed spare at last members tiles row =
+Inv-loop register edition size rows columns₀ tile₀ transposed₀ spare₀ words at₀ last₀ members₀ tiles₀ row₀ columns tile transposed
+    spare at last members tiles row =
     (row ≤ rows) × ((at ≡ rowBytes (editionOf edition) * row) × ((keyMember last ≡ lastMember (rowsBefore (editionOf edition) register row))
     × ((length columns ≡ length columns₀) × ((length tile ≡ groupCapacity) × ((length transposed ≡ wordBits) × ((length spare ≡ wordBits)
     × RowsPut (editionOf edition) register words row members columns tile tiles))))))
 
 abbrev μ-loop : tie.MeasureT-loop
-μ-loop register edition size rows columns₀ tile₀ transposed₀ spare₀ words at₀ last₀ members₀ tiles₀ row₀ columns tile transposed spare at last members tiles row =
+μ-loop register edition size rows columns₀ tile₀ transposed₀ spare₀ words at₀ last₀ members₀ tiles₀ row₀ columns tile transposed
+    spare at last members tiles row =
     rows - row
 
 -- the reader has reached a row that is known to be readable
 known : (c : tie.After-row-of Inv-loop μ-loop)
-    → RowsReadable (editionOf (c .before .before .before .before .before .before .args .edition)) (c .before .before .before .before .before .before .args .register .now) (c .before .before .before .before .before .before .args .rows)
+    → RowsReadable (editionOf (c .before .before .before .before .before .before .args .edition))
+    (c .before .before .before .before .before .before .args .register .now) (c .before .before .before .before .before .before .args .rows)
 known c = c .before .before .before .before .before .before .pre .1 .1 .0
 
 -- and hands it up
 found : (c : tie.After-r Inv-loop μ-loop)
-    → Stands (editionOf (c .before .before .before .before .before .before .before .before .args .edition)) (c .before .before .before .before .before .before .before .before .args .register .now) (c .before .before .before .before .loop .row) (c .r .given .0 .0)
+    → Stands (editionOf (c .before .before .before .before .before .before .before .before .args .edition))
+    (c .before .before .before .before .before .before .before .before .args .register .now) (c .before .before .before .before .loop .row)
+    (c .r .given .0 .0)
 found c =
     let f = c .before .before in
     let l = f .before .before .loop in
@@ -59,7 +64,8 @@ loop-holds c = (
             length-replicate {A = ℕ} _ 0,
             (
               length-replicate {A = ℕ} _ 0,
-              rows-put-none _ _ _ (c .group-words .ensures .1) _ _ (c .before .before .before .pre .1 .1 .1 .1) (record { each = λ w l. zeros groupCapacity w }),
+              rows-put-none _ _ _ (c .group-words .ensures .1) _ _ (c .before .before .before .pre .1 .1 .1 .1)
+                  (record { each = λ w l. zeros groupCapacity w }),
             ),
           ),
         ),
@@ -78,7 +84,13 @@ with-row-requires : tie.Need-with-row-requires Inv-loop μ-loop
 with-row-requires c κs =
     let f = c .before .before .before in
     let l = f .before .before .loop in
-    omega (arith, members-within _ _ (l .row) (l .inv .1 .1 .1 .1 .1 .1 .1 .filled .number), f .before .loop-test .taken, f .before .before .before .before .before .before .pre .1 .0)
+    omega (
+      arith,
+      members-within _ _ (l .row) (l .inv .1 .1 .1 .1 .1 .1 .1 .filled .number),
+      f .before .loop-test .taken,
+      f .before .before .before
+          .before .before .before .pre .1 .0,
+    )
 
 slice-aggregate-make-room : tie.Need-slice-aggregate-make-room Inv-loop μ-loop
 slice-aggregate-make-room c = search needs
@@ -98,14 +110,14 @@ make-room-requires c κs =
     let p = l .inv .1 .1 .1 .1 .1 .1 .1 in
     let wanted = room-wanted (found r) p (w .with-row .ensures) in
     let most : w .with-row .result ≤ rowLimit =
-        omega (
-          arith,
-          with-row-most (r .r .given .0 .0 .joined) (l .members),
-          w .with-row .ensures,
-          members-within _ _ (l .row) (p .filled .number),
-          f .before .loop-test .taken,
-          f .before .before .before .before .before .before .pre .1 .0,
-        ) in (
+    omega (
+      arith,
+      with-row-most (r .r .given .0 .0 .joined) (l .members),
+      w .with-row .ensures,
+      members-within _ _ (l .row) (p .filled .number),
+      f .before .loop-test .taken,
+      f .before .before .before .before .before .before .pre .1 .0,
+    ) in (
       search needs,
       (
         most,
@@ -198,7 +210,17 @@ loop-again c =
           s .last,
           (
             m .make-room .kept .1 .1 .1 .1 .0 ∙ l .inv .1 .1 .1 .0,
-            (search needs, (search needs, (search needs, rows-put-more s (l .inv .1 .1 .1 .1 .1 .1 .1) (w .with-row .ensures) (m .make-room .ensures) (p .put-row .ensures)))),
+            (
+              search needs,
+              (
+                search needs,
+                (
+                  search needs,
+                  rows-put-more s (l .inv .1 .1 .1 .1 .1 .1 .1) (w .with-row .ensures) (m .make-room .ensures)
+                      (p .put-row .ensures),
+                ),
+              ),
+            ),
           ),
         ),
       ),

@@ -37,7 +37,8 @@ returns c =
     let p2 = r .before .before .before in
     let p1 = p2 .before .before .before .before .before in
     let s = p1 .before .before .before .before .before in
-    let two = bits-more (bits-more (bits-none (s .args .register .now) (s .args .offset) (s .args .i) (s .args .tile .now)) (p1 .before .word-at .ensures) (search needs) (p1 .put-word .ensures)) (p2 .before .word-at2 .ensures) (search needs) (p2 .put-word2 .ensures) in
+    let two = bits-more (bits-more (bits-none (s .args .register .now) (s .args .offset) (s .args .i) (s .args .tile .now))
+    (p1 .before .word-at .ensures) (search needs) (p1 .put-word .ensures)) (p2 .before .word-at2 .ensures) (search needs) (p2 .put-word2 .ensures) in
     rw (words-two (editionOf (s .args .edition)) (omega (arith, r .row-words .ensures))) two
 
 word-at-requires-3 : tie.Need-word-at-requires-3
@@ -51,7 +52,8 @@ put-word-requires-3 c κs = search needs
 
 word-at-requires-4 : tie.Need-word-at-requires-4
 word-at-requires-4 c κs =
-    let s = c .before .before .before .before .before .before .before .before .before .before .before .before .before .before .before .before .before .before .before .before in
+    let s = c .before .before .before .before .before .before .before .before .before .before .before .before .before .before .before .before .before
+    .before .before .before in
     let ed = editionOf (s .args .edition) in
     omega (arith, words-bytes ed, words-four ed (omega (arith, c .before .before .before .before .before .before .before .row-words .ensures)), s .pre .0)
 
@@ -70,9 +72,11 @@ returns-2 c =
     let p2 = r .before .before .before in
     let p1 = p2 .before .before .before .before .before in
     let s = p1 .before .before .before .before .before in
-    let two = bits-more (bits-more (bits-none (s .args .register .now) (s .args .offset) (s .args .i) (s .args .tile .now)) (p1 .before .word-at .ensures) (search needs) (p1 .put-word .ensures)) (p2 .before .word-at2 .ensures) (search needs) (p2 .put-word2 .ensures) in
+    let two = bits-more (bits-more (bits-none (s .args .register .now) (s .args .offset) (s .args .i) (s .args .tile .now))
+    (p1 .before .word-at .ensures) (search needs) (p1 .put-word .ensures)) (p2 .before .word-at2 .ensures) (search needs) (p2 .put-word2 .ensures) in
     let three = bits-more two (p3 .before .word-at3 .ensures) (search needs) (p3 .put-word3 .ensures) in
-    rw (words-four (editionOf (s .args .edition)) (omega (arith, e .if1 .left, r .row-words .ensures))) (bits-more three (p4 .before .word-at4 .ensures) (search needs) (p4 .put-word4 .ensures))
+    rw (words-four (editionOf (s .args .edition)) (omega (arith, e .if1 .left, r .row-words .ensures)))
+    (bits-more three (p4 .before .word-at4 .ensures) (search needs) (p4 .put-word4 .ensures))
 
 pub put-row-spec : {M : Type 1} → statement M
 put-row-spec =
