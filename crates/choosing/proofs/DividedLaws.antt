@@ -114,7 +114,7 @@ divided-all t w e o = record {
   bits = λ g q. w .bits g (q .first) (q .last);
 }
 
--- the same of spans that are equal in each state
+-- a division of spans is one of spans that are equal in each state
 pub divisible-alike : (q : Kind) {a b z y : Bool → Span} (r : ℕ) (c : Bool) → AlikeBoth a b → AlikeBoth z y → Divisible q b y r c
     → Divisible q a z r c
 divisible-alike q r c e f w = (w .0, w .1, w .2, rw (e (w .0), f (w .1)) (w .3))

@@ -22,7 +22,7 @@ fn same_by_u64(s: &[u8], a: usize, b: usize, n: usize) -> bool
     bytes::u64_at(s, a + last) == bytes::u64_at(s, b + last)
 }
 
-// the same, for four to eight bytes: the first four and the last four
+// whether the n bytes at two offsets are the same, for four to eight bytes: the first four and the last four
 fn same_by_u32(s: &[u8], a: usize, b: usize, n: usize) -> bool
     requires { ⌜ (4 ≤ n) × ((n ≤ 8) × ((a + n ≤ length (now s)) × (b + n ≤ length (now s)))) ⌝ }
     ensures { λ r. ⌜ r ≡ sameLabel (take n (drop a (now (s .entry)))) (take n (drop b (now (s .entry)))) ⌝ }
@@ -34,7 +34,7 @@ fn same_by_u32(s: &[u8], a: usize, b: usize, n: usize) -> bool
     bytes::u32_at(s, a + last) == bytes::u32_at(s, b + last)
 }
 
-// the same, for any n: by fields of eight bytes, of four, or byte by byte
+// whether the n bytes at two offsets are the same, for any n: by fields of eight bytes, of four, or byte by byte
 fn same_bytes(s: &[u8], a: usize, b: usize, n: usize) -> bool
     requires { ⌜ (a + n ≤ length (now s)) × (b + n ≤ length (now s)) ⌝ }
     ensures { λ r. ⌜ r ≡ sameLabel (take n (drop a (now (s .entry)))) (take n (drop b (now (s .entry)))) ⌝ }

@@ -63,7 +63,7 @@ fn ask_left(
     ask_place(groups, size, &one, 1, right, n, sizes, marks)
 }
 
-// the same for some group of the left list
+// whether some sets that fit have a member in some group of the left list that is in some group of the right list too (true), or in none
 fn ask_lefts(
     shared: bool,
     groups: &[u16],

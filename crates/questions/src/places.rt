@@ -46,7 +46,7 @@ fn bar(flags: &mut [u8], d: bool, g: GroupNo)
     flags[i - 1] = without(flags[i - 1], d);
 }
 
-// the same for all groups of a list
+// the member may not be in any group of a list (true), or out of any (false)
 fn bar_all(flags: &mut [u8], d: bool, list: &[u16], n: usize)
     requires { ⌜ Listed (now list) n (length (now flags)) ⌝ }
     ensures { λ _. ⌜ Barred (now (flags .entry)) d (take n (now (list .entry))) (now (flags .exit)) ⌝ }

@@ -58,7 +58,7 @@ abbrev pub replaced : List ℕ → Records → Records
 replaced out d =
     record { edition = d .edition; groups = replacedFrom out 1 (d .groups); names = d .names; claims = d .claims }
 
--- The same in the sheet's bytes: the record of group g stands behind the head and g - 1 groups, its lo 6 bytes into it, its hi 8.
+-- The replaced sheet in bytes: the record of group g stands behind the head and g - 1 groups, its lo 6 bytes into it, its hi 8.
 abbrev pub groupPlace : ℕ → ℕ
 groupPlace g = headBytes + groupBytes * (g - 1)
 

@@ -99,7 +99,7 @@ pub record Loads (r : Loaded) (whole : Reading Records) (s groups names labels c
   pub reads : goesOn (loadedAs r) (λ h. read (recordsOf h s groups labels claims offsets)) ≡ whole
   pub held : Then (loadedAs r) (λ h. Held h s names labels claims offsets)
 
--- the same of the groups alone, with some tables of names and claims
+-- the contract of loading the groups alone: some tables of names and claims go with them
 pub record LoadsTree (r : Loaded) (whole : Reading Records) (s groups : List ℕ) : Type 0 where
   pub names : List ℕ
   pub labels : List ℕ

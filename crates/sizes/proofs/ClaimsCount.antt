@@ -58,7 +58,7 @@ narrowLo-sizes {s} {f} g k q = (
       (w .0 .most),
 )
 
--- the same for a choice
+-- a choice under a narrowed bound
 pub narrowHi-choice : {s : Sheet} {may : ℕ → Bool → Bool} {f : ℕ → ℕ} {M : ℕ → Bool} (g k : ℕ) → Group s g
     → Choice (narrowHi s g k) may f M ↔ (Choice s may f M × (f g + bit (M g) ≤ k))
 narrowHi-choice {s} g k q = (

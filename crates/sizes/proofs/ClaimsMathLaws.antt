@@ -290,7 +290,7 @@ breakable-size t g lo hi q = (
       (v .0, v .1, count-breaks (v .0) g lo (w .0 g) hi (q .first) (v .2 g q) (w .2)),
 )
 
--- the same as sizes under a narrowed bound
+-- counts below lo and above hi, as sizes under a narrowed bound
 abbrev pub Low : Sheet → ℕ → ℕ → Type 0
 Low s g lo = (1 ≤ lo) × ((f : ℕ → ℕ) × Sizes (narrowHi s g (lo - 1)) f)
 

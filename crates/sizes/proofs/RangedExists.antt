@@ -22,7 +22,7 @@ pub record Down (s : Sheet) {A : Type 0} (top : A) (F : (ℕ → A) → ℕ → 
   pub root : h 1 ≡ top
   pub son : (p g : ℕ) → Son s p g → h g ≡ F h p g
 
--- the same by recursion, with d left
+-- what `Down` gives, by recursion, with d left
 unfoldable down : Sheet → {A : Type 0} → A → ((ℕ → A) → ℕ → ℕ → A) → ℕ → ℕ → A
 down s top F zero g = top
 down s top F (suc d) g = cond (eqb g 1) top (F (down s top F d) (s .parent g) g)

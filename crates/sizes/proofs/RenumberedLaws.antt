@@ -45,7 +45,7 @@ renumbered-says (separate l r) A w = λ i k. rw (← union-renumbered A l i, ←
 pub renumbered-breaks : {X : Type 0} {s : Sheet} (c : Claim) {A : Sets X} → Fits s A → Breaks c A → Breakable s c
 renumbered-breaks c {A} f n = (renumbered A, renumbered-fits f, λ w. n (renumbered-says c A w))
 
--- The same of sets with a member in every left set and in no right set.
+-- Renumbered sets have a member in every left set and in no right set where the sets do.
 pub renumbered-fills : {X : Type 0} {s : Sheet} {l r : List ℕ} {A : Sets X} {i : ℕ} → Fits s A → Fills A l r i → Fillable s l r
 renumbered-fills {l = l} {r = r} {A = A} {i = i} f w = (
   renumbered A,

@@ -14,7 +14,7 @@ Witness (somePlace l r) A = (i : ℕ) × Fills A l r i
 abbrev pub HasWitness : Sheet → Question → Type 0
 HasWitness s q = (A : Sets ℕ) × Fits s A × Witness q A
 
--- the same with the number of that member
+-- sets that answer a question, with the number of the member that does
 abbrev pub WitnessAt : {X : Type 0} → Question → Sets X → ℕ → Type 0
 WitnessAt (allSay c) A i = Breaks c A
 WitnessAt (somePlace l r) A i = Fills A l r i

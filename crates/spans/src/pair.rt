@@ -127,7 +127,7 @@ fn own_in(lo: u16, hi: u16) -> Span
     }
 }
 
-// the same where the flag lets the member be out of the group (1) and in it (2), none where it does not
+// a group's own bounds in both states, where the flag lets the member be out of the group (1) and in it (2), none where it does not
 pub fn own_pair(lo: u16, hi: u16, flag: u8) -> Pair
     ensures { λ r. ⌜ AlikeBoth (pairOf r) (λ c. cond (mayFlag flag c) (fold.ownTo lo (endOf noEnd hi) c) sizes.none) ⌝ }
 {

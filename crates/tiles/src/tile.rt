@@ -56,7 +56,7 @@ fn put_members(tile: &[u64], words: u16, w: usize, columns: &mut [u64])
     }
 }
 
-// the same, 64 groups at a time
+// a tile as word w of the columns, 64 groups at a time
 fn put_transposed(
     tile: &[u64],
     words: u16,
