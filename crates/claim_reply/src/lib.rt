@@ -1,5 +1,5 @@
 // The reply to `sheet_claim` under a sheet that was read: the verdict, with sets where some answer the claim, or a refusal.
-// `specs/ClaimReply` writes the operation down.
+// `specs/ClaimReply` writes the operation down, `specs/Asked` what the tables hold, `specs/Settled` what the contract leaves open.
 // Document 01, "Meaning", "The arrangement" (denials), "Replies", refusals 8, 9 and 14; document 02, card 1.
 use claim_records::claim::Claim;
 use claim_records::claim::claim_in;
