@@ -14,6 +14,9 @@ use tables::groups::GroupNo;
 use tables::groups::hi_of;
 use tables::groups::lo_of;
 use tables::groups::mode_of;
+use tables::modes::is_cover;
+use tables::modes::is_disjoint;
+use tables::modes::is_same;
 ghost use mathlib.Core.Path.{_≡_};
 ghost use Prim.Native.Nat.{_*_, _≤_, _-_};
 ghost use lib.ListN.{length, getD};
@@ -31,15 +34,15 @@ ghost use Rattle.sizes.specs.Span as sizes;
 fn is_shut(mode: u16, son: u16, other: u16) -> bool
     ensures { λ r. ⌜ r ≡ shutBy mode son other ⌝ }
 {
-    if mode / 4 % 2 == 1 {
+    if is_same(mode) {
         if son != 0 {
             if other != 0 {
-                return mode % 2 == 1;
+                return is_disjoint(mode);
             }
             return false;
         }
     }
-    mode / 2 % 2 == 1
+    is_cover(mode)
 }
 
 // the intervals of a group before any son is joined

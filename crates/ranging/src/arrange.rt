@@ -8,6 +8,9 @@ use spans::span::smaller;
 use tables::groups::GroupNo;
 use tables::groups::mode_of;
 use tables::groups::parent_group;
+use tables::modes::is_cover;
+use tables::modes::is_disjoint;
+use tables::modes::is_same;
 ghost use mathlib.Core.Path.{_≡_};
 ghost use Prim.Native.Nat.{_-_, _*_, _≤_, _<_, ℕ};
 ghost use lib.ListN.{length};
@@ -28,11 +31,11 @@ fn size_under(mode: u16, own: Span, whole: u32, rest: u32) -> u32
     ensures { λ r. ⌜ r ≡ sizeBy (sameMode mode) (disjointMode mode) (coverMode mode) (own .least) (topOf (own .most))
         whole rest ⌝ }
 {
-    if mode / 4 % 2 == 1 {
+    if is_same(mode) {
         return whole;
     }
-    if mode / 2 % 2 == 1 {
-        if mode % 2 == 1 {
+    if is_cover(mode) {
+        if is_disjoint(mode) {
             return smaller(own.most, rest);
         }
         return smaller(own.most, whole);

@@ -9,6 +9,9 @@ use tables::groups::hi_of;
 use tables::groups::lo_of;
 use tables::groups::mode_of;
 use tables::limits::NO_END;
+use tables::modes::is_cover;
+use tables::modes::is_disjoint;
+use tables::modes::is_same;
 ghost use mathlib.Core.Path.{_≡_};
 ghost use Prim.Native.Nat.{_+_, _*_, _≤_, _<_, _-_};
 ghost use lib.ListN.{length, getD};
@@ -33,12 +36,12 @@ pub fn may_break(groups: &[u16], starts: &[u32], g: GroupNo, p: GroupNo, rule: u
         if p.0 == 0 {
             return false;
         }
-        return mode_of(groups, p) / 4 % 2 == 1;
+        return is_same(mode_of(groups, p));
     }
     if rule == 3 {
-        return mode_of(groups, g) / 2 % 2 == 1;
+        return is_cover(mode_of(groups, g));
     }
-    if mode_of(groups, g) % 2 == 1 {
+    if is_disjoint(mode_of(groups, g)) {
         return several_sons(starts, g);
     }
     false
@@ -117,10 +120,10 @@ pub fn count_breaks(groups: &[u16], counts: &[u32], g: GroupNo, rule: u16) -> bo
 pub fn asks_sons(mode: u16, several: bool) -> bool
     ensures { λ r. ⌜ r ≡ asksSons mode several ⌝ }
 {
-    if mode / 2 % 2 == 1 {
+    if is_cover(mode) {
         return true;
     }
-    if mode % 2 == 1 {
+    if is_disjoint(mode) {
         return several;
     }
     false

@@ -3,6 +3,9 @@
 use tables::groups::GroupNo;
 use tables::groups::mode_of;
 use tables::groups::parent_group;
+use tables::modes::is_cover;
+use tables::modes::is_disjoint;
+use tables::modes::is_same;
 ghost use mathlib.Core.Path.{_≡_};
 ghost use Prim.Native.Nat.{_+_, _-_, _≤_, _<_};
 ghost use Rattle.meaning.specs.Sheet.{Son};
@@ -17,13 +20,13 @@ fn start_under(mode: u16, first: u32, ended: u32, size: u32, own: u32) -> u32
     requires { ⌜ (own ≤ size) × (first + size ≤ runLimit) × (ended + own ≤ runLimit) ⌝ }
     ensures { λ r. ⌜ r ≡ startBy (sameMode mode) (disjointMode mode) (coverMode mode) first ended size own ⌝ }
 {
-    if mode / 4 % 2 == 1 {
+    if is_same(mode) {
         return first;
     }
-    if mode % 2 == 1 {
+    if is_disjoint(mode) {
         return ended;
     }
-    if mode / 2 % 2 == 1 {
+    if is_cover(mode) {
         if first + size < ended + own {
             return first + size - own;
         }

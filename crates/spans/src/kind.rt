@@ -1,4 +1,6 @@
 // How the sons of a group are joined, by its mode.
+use tables::modes::is_disjoint;
+use tables::modes::is_same;
 ghost use mathlib.Core.Path.{_≡_};
 ghost use Rattle.spans.specs.Held.{kindHeld, modeKind};
 
@@ -13,10 +15,10 @@ pub enum Kind {
 pub fn kind_of(mode: u16) -> Kind
     ensures { λ r. ⌜ kindHeld r ≡ modeKind mode ⌝ }
 {
-    if mode / 4 % 2 == 1 {
+    if is_same(mode) {
         return Kind::Eq;
     }
-    if mode % 2 == 1 {
+    if is_disjoint(mode) {
         return Kind::Add;
     }
     Kind::Lap

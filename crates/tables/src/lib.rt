@@ -3,4 +3,5 @@
 // for each group and of offsets hold. Document 01, "Records of a sheet".
 pub mod groups;
 pub mod limits;
+pub mod modes;
 pub mod names;

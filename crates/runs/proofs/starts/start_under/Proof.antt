@@ -1,27 +1,35 @@
 -- `start_under` meets its contract.
-use Prim.Native.Nat.{ℕ, _+_, _-_, _/_, _%_, min}
 use mathlib.Core.Path.{_≡_}
+use mathlib.Core.Bool.{false}
 use native.Mathlib.Omega.{arith}
-use borrow.Author.Tests.{eq-eqb, ne-eqb}
-use Rattle.tables.specs.Modes.{disjointMode, coverMode, sameMode}
+use Rattle.tables.specs.Modes.{disjointMode, sameMode}
 use Rattle.runs.specs.Started.{startBy}
 use borrow.Author.Needs.{needs}
 use Rattle.runs.proofs.starts.start_under.Statement.{statement}
 use Rattle.runs.proofs.starts.start_under.Tie as tie
 
--- under 'cover' alone
-covered : (m a w z y r : ℕ) → (m / 4 % 2 ≡ 1 → ⊥) → (m % 2 ≡ 1 → ⊥) → m / 2 % 2 ≡ 1 → r ≡ min w (a + z - y)
-    → r ≡ startBy (sameMode m) (disjointMode m) (coverMode m) a w z y
-unfolding startBy
-covered m a w z y r e d c h = rw (ne-eqb _ _ e, ne-eqb _ _ d, eq-eqb _ _ c) h
+is-same-requires : tie.Need-is-same-requires
+is-same-requires c κs = search needs
 
 returns : tie.Need-returns
 unfolding startBy
-returns c = rw (eq-eqb _ _ (c .if1 .taken))
+returns c = rw (← c .before .is-same .ensures, c .if1 .taken)
+
+not-same : (c : tie.Else1) → sameMode (c .before .before .args .mode) ≡ false
+not-same c = rw (← c .before .is-same .ensures) (c .if1 .left)
+
+is-disjoint-requires : tie.Need-is-disjoint-requires
+is-disjoint-requires c κs = search needs
 
 returns-2 : tie.Need-returns-2
 unfolding startBy
-returns-2 c = rw (ne-eqb _ _ (c .before .if1 .left), eq-eqb _ _ (c .if2 .taken))
+returns-2 c = rw (not-same (c .before .before), ← c .before .is-disjoint .ensures, c .if2 .taken)
+
+not-disjoint : (c : tie.Else2) → disjointMode (c .before .before .before .before .args .mode) ≡ false
+not-disjoint c = rw (← c .before .is-disjoint .ensures) (c .if2 .left)
+
+is-cover-requires : tie.Need-is-cover-requires
+is-cover-requires c κs = search needs
 
 add-if4 : tie.Need-add-if4
 add-if4 c = search needs
@@ -36,23 +44,32 @@ sub-result : tie.Need-sub-result
 sub-result c = search needs
 
 returns-3 : tie.Need-returns-3
+unfolding startBy
 returns-3 c =
-    covered _ _ _ _ _ _ (c .before .before .before .if1 .left) (c .before .before .if2 .left) (c .before .if3 .taken) (omega arith)
+    let e = c .before .before in
+    rw (not-same (e .before .before .before), not-disjoint (e .before), ← e .is-cover .ensures, c .before .if3 .taken) (omega arith)
 
 returns-4 : tie.Need-returns-4
+unfolding startBy
 returns-4 c =
-    covered _ _ _ _ _ _ (c .before .before .before .if1 .left) (c .before .before .if2 .left) (c .before .if3 .taken) (omega arith)
+    let e = c .before .before in
+    rw (not-same (e .before .before .before), not-disjoint (e .before), ← e .is-cover .ensures, c .before .if3 .taken) (omega arith)
 
 returns-5 : tie.Need-returns-5
 unfolding startBy
-returns-5 c = rw (ne-eqb _ _ (c .before .before .if1 .left), ne-eqb _ _ (c .before .if2 .left), ne-eqb _ _ (c .if3 .left))
+returns-5 c =
+    let e = c .before in
+    rw (not-same (e .before .before .before), not-disjoint (e .before), ← e .is-cover .ensures, c .if3 .left)
 
 pub start-under-spec : {M : Type 1} → statement M
 start-under-spec =
     tie.close
     (tie.spec
+    is-same-requires
     returns
+    is-disjoint-requires
     returns-2
+    is-cover-requires
     add-if4
     add-if4-2
     add-result
