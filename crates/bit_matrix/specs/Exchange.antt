@@ -18,6 +18,6 @@ fromRow m r c = r / 2 + 32 * (1 - digit m c)
 abbrev pub fromColumn : ℕ → ℕ → ℕ → ℕ → ℕ
 fromColumn s m r c = c + s * (r % 2) - s * (1 - digit m c)
 
--- the first n words of u are exchanged, from words of t from a place on
+-- the first n words of u are exchanged, from words of t from an index on
 pub record Exchanged (s m n : ℕ) (t : List ℕ) (at : ℕ) (u : List ℕ) : Type 0 where
   pub each : (r c : ℕ) → r < n → c < side → digit (getD u r 0) c ≡ digit (getD t (at + fromRow m r c) 0) (fromColumn s m r c)

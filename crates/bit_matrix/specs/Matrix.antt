@@ -9,6 +9,6 @@ use Rattle.laws.specs.Digit.{digit}
 abbrev pub side : ℕ
 side = 64
 
--- from 64 words of t, from a place on, to u: digit c of word r is digit r of word c
+-- from 64 words of t, from an index on, to u: digit c of word r is digit r of word c
 pub record Transposed (t : List ℕ) (at : ℕ) (u : List ℕ) : Type 0 where
   pub each : (r c : ℕ) → r < side → c < side → digit (getD u r 0) c ≡ digit (getD t (at + c) 0) r

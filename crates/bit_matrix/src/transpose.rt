@@ -1,5 +1,5 @@
 // The transpose of a matrix of 64 words. Each exchange puts word i and word i + 32 beside one another, and exchanges the blocks of
-// `s` digits that lie across: after six of them, with s = 32, 16, 8, 4, 2, 1, every digit stands at its place.
+// `s` digits that lie across: after six of them, with s = 32, 16, 8, 4, 2, 1, every digit stands where it belongs.
 ghost use Prim.Native.Nat.{_+_, _≤_, _<_};
 ghost use lib.ListN.{length};
 ghost use Rattle.bit_matrix.specs.Exchange.{Mask, Exchanged};
@@ -34,7 +34,7 @@ fn exchange(from: &[u64], at: usize, to: &mut [u64], s: u32, mask: u64)
     }
 }
 
-// the transpose of the matrix whose rows are the 64 words of `from` from a place on
+// the transpose of the matrix whose rows are the 64 words of `from` from an index on
 pub fn transpose(from: &[u64], at: usize, to: &mut [u64], spare: &mut [u64])
     requires { ⌜ (at + side ≤ length (now from)) × ((side ≤ length (now to)) × (side ≤ length (now spare))) ⌝ }
     ensures { λ _. ⌜ Transposed (now (from .entry)) at (now (to .exit)) ⌝ }

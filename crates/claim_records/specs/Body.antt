@@ -9,7 +9,7 @@ use Rattle.wire.specs.Record.{Test, test, kindOf, refusal}
 use Rattle.wire.specs.SheetFormat.{claimLength, claimFields, claimNames, claimTests, claimOf}
 use Rattle.claim_records.specs.ClaimHeld.{claimKind, claimRecord, ClaimHeld}
 
--- a whole record of that length stands at a place
+-- a whole record of that length stands at an offset
 pub record Whole (s : List ℕ) (at len : ℕ) : Type 0 where
   pub says : u16At s at ≡ len
   pub least : 2 ≤ len
@@ -19,7 +19,7 @@ pub record Whole (s : List ℕ) (at len : ℕ) : Type 0 where
 unfoldable pub claimBody : ℕ → List ℕ → List Test
 claimBody names b = test 3 (claimLength b) ∷ test 4 (claimFields b) ∷ test 5 (claimNames names b) ∷ []
 
--- c is the claim of the record at a place
+-- c is the claim of the record at an offset
 pub record ClaimTaken (s : List ℕ) (at : ℕ) (c : Claim) : Type 0 where
   pub kind : claimKind c ≡ kindOf (drop at s)
   pub carries : claimRecord s c ≡ claimOf (drop at s)

@@ -27,7 +27,7 @@ abbrev pub claimOffset : Claim → ℕ
 claimOffset (claim.Count c) = 0
 claimOffset (claim.Lists l) = l .at
 
--- the claim at the place k of the tables
+-- the claim at index k of the tables
 abbrev pub listsIn : List ℕ → List ℕ → ℕ → Lists
 listsIn claims offsets k = record {
   kind = listRead (listKindOf (getD claims (claimSlots * k) 0));
@@ -50,7 +50,7 @@ claimIn claims offsets k =
 unfoldable pub claimsIn : List ℕ → List ℕ → List ℕ → ℕ → List ClaimRecord
 claimsIn s claims offsets n = tabulate (λ k. claimRecord s (claimIn claims offsets k)) n
 
--- the tables have a place k
+-- the tables have an index k
 pub record ClaimRoom (claims offsets : List ℕ) (k : ℕ) : Type 0 where
   pub numbers : claimSlots * k + 3 < length claims
   pub offset : k < length offsets

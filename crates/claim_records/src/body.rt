@@ -21,7 +21,7 @@ ghost use Rattle.wire.specs.Record.{refusal};
 ghost use Rattle.wire.specs.SheetFormat.{allWithin, u16s, lastClaim};
 ghost use Rattle.claim_records.specs.Body.{Whole, claimBody, ClaimTaken};
 
-// whether the n numbers at a place are all from 1 to `names`
+// whether the n numbers at an offset are all from 1 to `names`
 fn names_allowed(s: &[u8], at: usize, n: u16, names: u16) -> bool
     requires { ⌜ at + 2 * n ≤ length (now s) ⌝ }
     ensures { λ r. ⌜ r ≡ allWithin names (u16s (now (s .entry)) at n) ⌝ }
@@ -110,7 +110,7 @@ pub fn body_refusal(s: &[u8], at: usize, len: u16, kind: u16, names: u16) -> u32
     lists_refusal(s, at, len, names)
 }
 
-// the claim of this kind whose record stands at a place
+// the claim of this kind whose record stands at an offset
 pub fn take_claim(s: &[u8], at: usize, kind: u16) -> Claim
     requires { ⌜ (at + 10 ≤ length (now s)) × ((4 ≤ kind) × ((kind ≤ lastClaim) × (u16At (now s) (at + 2) ≡ kind))) ⌝ }
     ensures { λ r. ⌜ ClaimTaken (now (s .entry)) at r ⌝ }

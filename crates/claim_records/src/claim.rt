@@ -26,7 +26,7 @@ pub enum ListKind {
     Place,
 }
 
-// A claim of these kinds: m left names and then n right names, two bytes each, from the place `at` of the sheet on.
+// A claim of these kinds: m left names and then n right names, two bytes each, from the offset `at` of the sheet on.
 pub struct Lists {
     pub kind: ListKind,
     pub m: u16,
@@ -79,7 +79,7 @@ pub fn claim_bytes(c: Claim) -> usize
     }
 }
 
-// The claim whose table place is k: its kind with name, lo and hi of a count, or with m, n and 0 of lists; and where lists stand.
+// The claim whose index in the tables is k: its kind with name, lo and hi of a count, or with m, n and 0 of lists; and where lists stand.
 pub fn put_claim(claims: &mut [u16], offsets: &mut [usize], k: usize, c: Claim)
     requires { ⌜ ClaimRoom (now claims) (now offsets) k ⌝ }
     ensures { λ _. ⌜ ClaimPut (now (claims .entry)) (now (offsets .entry)) k c (now (claims .exit)) (now (offsets .exit)) ⌝ }
@@ -98,7 +98,7 @@ pub fn put_claim(claims: &mut [u16], offsets: &mut [usize], k: usize, c: Claim)
     }
 }
 
-// the claim whose table place is k
+// the claim whose index in the tables is k
 pub fn claim_in(claims: &[u16], offsets: &[usize], k: usize) -> Claim
     requires { ⌜ ClaimRoom (now claims) (now offsets) k ⌝ }
     ensures { λ r. ⌜ r ≡ claimIn (now (claims .entry)) (now (offsets .entry)) k ⌝ }

@@ -36,7 +36,7 @@ Askable sheet c names size = AskableBy (λ n. ClaimHeld sheet n c) names size
 abbrev pub AskableLists : List ℕ → Lists → List ℕ → ℕ → Type 0
 AskableLists sheet l names size = AskableBy (λ n. ListsHeld sheet n l) names size
 
--- n name numbers stand at the place of the sheet
+-- n name numbers stand at the offset of the sheet
 pub record NamesAt (sheet : List ℕ) (from n : ℕ) (names : List ℕ) : Type 0 where
   pub long : from + 2 * n ≤ length sheet
   pub name : (j : ℕ) → j < n → (1 ≤ u16At sheet (from + 2 * j)) × (u16At sheet (from + 2 * j) ≤ length names)

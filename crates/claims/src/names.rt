@@ -14,7 +14,7 @@ ghost use Rattle.tables.specs.Names.{meantNumber, Numbered};
 ghost use Rattle.questions.specs.Groups.{groupsAmong};
 ghost use Rattle.claims.specs.Named.{meanings, NamesAt};
 
-// the name whose number stands at a place of the sheet
+// the name whose number stands at an offset of the sheet
 fn name_at(sheet: &[u8], at: usize) -> NameNo
     requires { ⌜ at + 1 < length (now sheet) ⌝ }
     ensures { λ r. ⌜ r .0 ≡ u16At (now (sheet .entry)) at ⌝ }
@@ -37,7 +37,7 @@ fn add_meant(list: &mut [u16], k: usize, m: Meant) -> usize
     }
 }
 
-// The groups that the n names at a place of the sheet mean, as a list. How many they are.
+// The groups that the n names at an offset of the sheet mean, as a list. How many they are.
 pub fn groups_meant(sheet: &[u8], from: usize, n: u16, names: &[u16], list: &mut [u16]) -> usize
     requires { ⌜ NamesAt (now sheet) from n (now names) × (n ≤ length (now list)) ⌝ }
     ensures { λ r. ⌜ r ≤ n ⌝ }

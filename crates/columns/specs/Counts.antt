@@ -7,6 +7,6 @@ use Rattle.laws.specs.Sum.{sum}
 use Rattle.rows.specs.RowsRead.{wordBits}
 use Rattle.columns.specs.Columns.{columnDigit}
 
--- place g of the table u is the number of ones of group g's column
+-- entry g of the table u is the number of ones of group g's column
 pub record ColumnsCounted (t : List ℕ) (size words : ℕ) (u : List ℕ) : Type 0 where
   pub each : (g : ℕ) → 1 ≤ g → g ≤ size → getD u g 0 ≡ sum (columnDigit t g) (wordBits * words)

@@ -18,7 +18,7 @@ pub fn count_of(counts: &[u32], g: GroupNo) -> u32
     counts[i]
 }
 
-// a number at a group's place
+// a number at a group's entry
 fn put_count(counts: &mut [u32], g: GroupNo, n: u32)
     requires { ⌜ g .0 < length (now counts) ⌝ }
     ensures { λ _. ⌜ now (counts .exit) ≡ set (now (counts .entry)) (g .0) n ⌝ }

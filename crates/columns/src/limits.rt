@@ -3,7 +3,7 @@ use rows::limits::ROWS;
 use rows::limits::WORD_BITS;
 use tables::limits::GROUP_NUMBERS;
 
-// A column has a bit for each member, of whom there are no more than rows, and the table of columns one column for each place.
+// A column has a bit for each member, of whom there are no more than rows, and the table of columns one column for each group number.
 pub const COLUMN_WORDS: usize = ROWS / WORD_BITS as usize;
 
 // Columns stand so many words apart, a few more than they have: at a power of two apart they would share few sets of a cache.

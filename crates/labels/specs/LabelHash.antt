@@ -17,7 +17,7 @@ hashFrom h (x ∷ l) = hashFrom ((h * 33 + x) % labelHashes) l
 unfoldable pub labelHash : List ℕ → ℕ
 labelHash l = hashFrom 0 l
 
--- in the table `seen`, one number for each hash, the hash of the label of the name at a place is seen
+-- in the table `seen`, one number for each hash, the hash of the label of the name at an offset is seen
 abbrev pub Seen : List ℕ → List ℕ → ℕ → Type 0
 Seen s seen at = 1 ≤ getD seen (labelHash (nameOf (drop at s) .label)) 0
 

@@ -32,7 +32,7 @@ fn both(a: bool, b: bool) -> bool
     false
 }
 
-// Whether the n bytes at a place are bytes of a label. All are looked at: a loop that may end early is not done 16 bytes at a time.
+// Whether the n bytes at an offset are bytes of a label. All are looked at: a loop that may end early is not done 16 bytes at a time.
 pub fn label_allowed(s: &[u8], at: usize, n: u16) -> bool
     requires { ⌜ at + n ≤ length (now s) ⌝ }
     ensures { λ r. ⌜ r ≡ labelBytes (take n (drop at (now (s .entry)))) ⌝ }

@@ -24,7 +24,7 @@ fn used_before(s: &[u8], offsets: &[usize], n: usize, at: usize) -> bool
     false
 }
 
-// the hash of the label of the name at a place: equal labels have the same
+// the hash of the label of the name at an offset: equal labels have the same
 fn label_hash(s: &[u8], at: usize) -> usize
     requires { ⌜ WholeName (now s) at ⌝ }
     ensures { λ r. ⌜ (r ≡ labelHash (nameOf (drop at (now (s .entry))) .label)) × (r < labelHashes) ⌝ }

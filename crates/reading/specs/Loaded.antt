@@ -28,7 +28,7 @@ goesOn (refused n r) next = refused n r
 abbrev pub Then : {A : Type 0} → Reading A → (A → Type 0) → Type 0
 Then {A} x P = (a : A) → x ≡ read a → P a
 
--- the place after some records, or a refusal's number with the record's number
+-- the offset after some records, or a refusal's number with the record's number
 unfoldable pub passedAs : Passed → Reading ℕ
 passedAs (passed.To at) = read at
 passedAs (passed.Refused n r) = refused n r
@@ -46,7 +46,7 @@ AllGrouped s names offsets n = (i : ℕ) → i < n → getD names i 0 ≡ nameOf
 abbrev pub AllHeld : List ℕ → ℕ → List ℕ → List ℕ → ℕ → Type 0
 AllHeld s names claims offsets n = (k : ℕ) → k < n → ClaimHeld s names (claimIn claims offsets k)
 
--- `count` records of one sort from the place `from` on, the first of them numbered `first`, are the list xs, and reading
+-- `count` records of one sort from the offset `from` on, the first of them numbered `first`, are the list xs, and reading
 -- goes on after them; or one is refused
 pub record Goes {A : Type 0} (tests : List A → List ℕ → List Test) (value : List ℕ → A) (s : List ℕ) (from count first : ℕ)
     (r : Passed) (xs : List A) : Type 0 where

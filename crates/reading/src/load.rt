@@ -35,7 +35,7 @@ ghost use Rattle.claim_records.specs.ClaimTable.{claimSlots};
 ghost use Rattle.records.specs.Answers.{headRecord};
 ghost use Rattle.reading.specs.Loaded.{goesOn, passedAs, loadedAs, Goes, NamesGo, ClaimsGo, Loads, Capacity, HeadLimits, LoadsTree};
 
-// The place after the last of some records, or a refusal's number with the record's number.
+// The offset after the last of some records, or a refusal's number with the record's number.
 pub enum Passed {
     To(usize),
     Refused(u32, u32),

@@ -28,11 +28,11 @@ pub data Value : Type 0 where
 abbrev pub headRecord : Head → HeadRecord
 headRecord h = record { edition = editionOf (h .edition); groups = h .groups; names = h .names; claims = h .claims }
 
--- the n bytes from a place on
+-- the n bytes from an offset on
 unfoldable pub bytesFrom : List ℕ → ℕ → ℕ → List ℕ
 bytesFrom s at n = tabulate (λ i. getD s (at + i) 0) n
 
--- document 01's kind of each record and what it carries; the record stands at a place of the bytes s, and a name's label with it
+-- document 01's kind of each record and what it carries; the record stands at an offset of the bytes s, and a name's label with it
 unfoldable pub recordAs : List ℕ → ℕ → Record → ℕ × Value
 recordAs s at (record-of.Head h) = (1, head (headRecord h))
 recordAs s at (record-of.Group g) = (2, group (record { parent = g .parent .0; lo = g .lo; hi = g .hi; mode = g .mode }))
@@ -49,7 +49,7 @@ unfoldable pub refusalIn : {A : Type 0} → Reading A → ℕ
 refusalIn (read x) = 0
 refusalIn (refused n r) = n
 
--- r is what the format gives for the record at a place: the first test that fails, or its kind and its value
+-- r is what the format gives for the record at an offset: the first test that fails, or its kind and its value
 pub record AnswerOf (tests : List ℕ → List Test) (value : List ℕ → Value) (s : List ℕ) (at : ℕ) (r : Answer) : Type 0 where
   pub says : (k : ℕ) → answerAs s at k r ≡ onward (refusal (tests (drop at s))) k (read (kindOf (drop at s), value (drop at s)))
 
@@ -57,13 +57,13 @@ pub record AnswerOf (tests : List ℕ → List Test) (value : List ℕ → Value
 abbrev pub kindIn : ℕ → ℕ → List ℕ → Bool
 kindIn first last b = leb first (kindOf b) && leb (kindOf b) last
 
--- len is the length of the record at a place, 0 where there is none and 1 where its kind is not from `first` to `last`; the
+-- len is the length of the record at an offset, 0 where there is none and 1 where its kind is not from `first` to `last`; the
 -- record ends within the bytes
 pub record FrameAt (s : List ℕ) (at first last len : ℕ) : Type 0 where
   pub says : len ≡ cond (framed (drop at s)) (cond (kindIn first last (drop at s)) (lengthOf (drop at s)) 1) 0
   pub room : len ≤ length s - at - 2
 
--- r answers on the claim at a place, in a sheet of `names` names
+-- r answers on the claim at an offset, in a sheet of `names` names
 pub record ClaimAnswer (names : ℕ) (s : List ℕ) (at : ℕ) (r : Answer) : Type 0 where
   pub answers : AnswerOf (claimTests names []) (λ b. claim (claimOf b)) s at r
   pub held : (c : Claim) → r ≡ answer.Record (record-of.Claim c) → ClaimHeld s names c

@@ -33,7 +33,7 @@ ghost use Rattle.wire.specs.Limits.{nameLimit, claimLimit};
 ghost use Rattle.wire.specs.SheetFormat.{headTests, headOf, parentAllowed, GroupRecord, groupTests, groupOf, nameTests, nameOf};
 ghost use Rattle.records.specs.Answers.{FrameAt, head, AnswerOf, group, name, ClaimAnswer};
 
-// The length of the record at a place, whose kind is to be from `first` to `last`: 0 where it is cut or too short to be one, 1
+// The length of the record at an offset, whose kind is to be from `first` to `last`: 0 where it is cut or too short to be one, 1
 // where it has another kind, each the refusal's number less one.
 fn frame(s: &[u8], at: usize, first: u16, last: u16) -> u16
     requires { ⌜ at ≤ length (now s) ⌝ }

@@ -11,7 +11,7 @@ use Rattle.tables.specs.SheetIn.{sheetIn}
 use Rattle.columns.specs.Columns.{columnWords, columnsLength, columnDigit, columnSets}
 use Rattle.sons.specs.SonLists.{SonsListed}
 
--- place g of the table is the count of group g
+-- entry g of the table is the count of group g
 pub record Counted {X : Type 0} (s : Sheet) (A : Sets X) (t : List ℕ) : Type 0 where
   pub each : (g : ℕ) → Group s g → getD t g 0 ≡ count A g
 
@@ -21,7 +21,7 @@ pub record Gathered (t : List ℕ) (size : ℕ) (c : List ℕ) (n : ℕ) (starts
   pub members : n ≤ rowLimit
   pub others : (g i : ℕ) → Group (sheetIn t size) g → n ≤ i → i < rowLimit → columnDigit c g i ≡ 0
   pub sons : SonsListed (sheetIn t size) starts order
-  pub places : groupNumbers ≤ length u
+  pub long : groupNumbers ≤ length u
   pub counts : Counted (sheetIn t size) (columnSets c n) u
   pub some-words : columnWords ≤ length some
   pub two-words : columnWords ≤ length two

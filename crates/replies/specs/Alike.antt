@@ -7,7 +7,7 @@ use Rattle.wire.specs.Limits.{verdictBytes, shownBytes}
 use Rattle.meaning.specs.Sheet.{Sheet, Group}
 use Rattle.replies.specs.Shown.{shownAt}
 
--- the n bytes from place i on are the same in b and c
+-- the n bytes from offset i on are the same in b and c
 pub record Alike (b c : List ℕ) (i n : ℕ) : Type 0 where
   pub at : (j : ℕ) → i ≤ j → j < i + n → getD b j 0 ≡ getD c j 0
 

@@ -1,4 +1,4 @@
--- A write to n bytes at a place: the length and every other byte stay. Laws of fields read at and beside the place.
+-- A write to n bytes at an offset: the length and every other byte stay.
 use Prim.Native.Nat.{ℕ, _+_, _≤_, _<_}
 use mathlib.Core.Path.{_≡_}
 use mathlib.Core.List.{List}

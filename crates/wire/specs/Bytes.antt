@@ -1,4 +1,4 @@
--- Fields of two and four bytes at a place of a list of bytes, and their encoding: document 01, "All fields are unsigned,
+-- Fields of two and four bytes at an offset of a list of bytes, and their encoding: document 01, "All fields are unsigned,
 -- low byte first."
 use Prim.Native.Nat.{ℕ, _+_, _*_, _/_, _%_}
 use mathlib.Core.List.{List, [], _∷_}

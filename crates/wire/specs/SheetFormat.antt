@@ -116,7 +116,7 @@ nameTests e groups ns b =
 abbrev pub lastClaim : ℕ
 lastClaim = 7
 
--- n fields of two bytes from place i on
+-- n fields of two bytes from offset i on
 unfoldable pub u16s : List ℕ → ℕ → ℕ → List ℕ
 u16s b i zero = []
 u16s b i (suc n) = u16At b i ∷ u16s b (i + 2) n
