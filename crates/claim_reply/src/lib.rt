@@ -7,13 +7,12 @@ use claims::decide::decide;
 use claims::decision::Decision;
 use measuring::fitting::some_fit;
 use records::record::Head;
-use replies::SHOWN_BYTES;
-use replies::VERDICT_BYTES;
-use replies::pairs::pack;
-use replies::put_sets;
-use replies::put_verdict;
-use replies::verdict::verdict_number;
+use replies::give_alone;
+use replies::give_shown;
+use replies::pairs::refuse;
 use tables::limits::GROUP_CAPACITY;
+use wire::refusals::IMPOSSIBLE;
+use wire::refusals::NO_SUCH_CLAIM;
 ghost use mathlib.Core.Path.{_≡_};
 ghost use Rattle.wire.specs.Record.{read};
 ghost use Rattle.wire.specs.SheetFormat.{Records, readSheet};
@@ -53,22 +52,8 @@ fn give_verdict(
         &mut marks,
     );
     match d {
-        Decision::Alone(v) => {
-            if reply.len() < VERDICT_BYTES {
-                return pack(14, 0); // no room for the verdict
-            }
-            put_verdict(reply, verdict_number(v)); // alone
-            pack(0, VERDICT_BYTES as u32)
-        }
-        Decision::Shown(v) => {
-            let bytes = VERDICT_BYTES + SHOWN_BYTES * size as usize;
-            if reply.len() < bytes {
-                return pack(14, 0); // no room for the sets
-            }
-            put_verdict(reply, verdict_number(v)); // with sets
-            put_sets(reply, size, &firsts, &sizes, &marks);
-            pack(0, bytes as u32)
-        }
+        Decision::Alone(v) => give_alone(reply, v),
+        Decision::Shown(v) => give_shown(reply, v, size, &firsts, &sizes, &marks),
     }
 }
 
@@ -88,13 +73,13 @@ pub fn give_claim(
         (reply .exit)))) ⌝ }
 {
     if !some_fit(groups, head.groups) {
-        return pack(8, 0);
+        return refuse(reply, IMPOSSIBLE, 0);
     }
     if claim == 0 {
-        return pack(9, 0); // there is no claim 0
+        return refuse(reply, NO_SUCH_CLAIM, 0); // there is no claim 0
     }
     if (head.claims as u32) < claim {
-        return pack(9, 0);
+        return refuse(reply, NO_SUCH_CLAIM, 0);
     }
     let c = claim_in(claims, offsets, claim as usize - 1);
     give_verdict(sheet, c, names, groups, head.groups, reply)

@@ -52,8 +52,8 @@ showing-shows {firsts = firsts} t r d w =
 
 pub decided-shown : {s : Sheet} {q : Question} {firsts sizes marks : List ℕ} {v : Verdict} → v ≡ verdictOn q true
     → Shows s q firsts sizes marks → Decided s q firsts sizes marks (Shown v)
-decided-shown e w = record { number = rw e; shown = λ o. w; alone = λ o. absurd (true≢false o) }
+decided-shown e w = record { verdict = e; shown = λ o. w; alone = λ o. absurd (true≢false o) }
 
 pub decided-alone : {s : Sheet} {q : Question} {firsts sizes marks : List ℕ} {v : Verdict} → v ≡ verdictOn q false
     → (HasWitness s q → ⊥) → Decided s q firsts sizes marks (Alone v)
-decided-alone e h = record { number = rw e; shown = λ o. absurd (false≢true o); alone = λ o. h }
+decided-alone e h = record { verdict = e; shown = λ o. absurd (false≢true o); alone = λ o. h }

@@ -1,12 +1,10 @@
 -- The verdict on a claim, put together: from what the tables show to the sets read back from the reply.
 use Prim.Native.Nat.{ℕ, _-_, _≤_}
-use mathlib.Core.Path.{_≡_, _∙_, sym, ap, subst}
+use mathlib.Core.Path.{_≡_, sym, ap, subst}
 use mathlib.Core.List.{List}
-use mathlib.Core.Logic.{inl}
 use native.Mathlib.Omega.{arith}
 use lib.Dec.{eqb}
 use Rattle.replies.specs.declared.verdict.Verdict.{Verdict}
-use Rattle.wire.specs.Limits.{verdictBytes}
 use Rattle.meaning.specs.Sheet.{Sheet}
 use Rattle.meaning.specs.Tree.{Tree}
 use Rattle.meaning.specs.Place.{Question}
@@ -14,25 +12,11 @@ use Rattle.sizes.specs.Witness.{ShownWitness, HasWitness}
 use Rattle.sizes.proofs.WitnessLaws.{witness-at}
 use Rattle.tables.specs.Numbers.{numberIn}
 use Rattle.choosing.specs.Divided.{markedIn}
-use Rattle.replies.specs.Wrote.{Wrote}
-use Rattle.replies.specs.Written.{VerdictAt, ShownAt, SetsPut}
-use Rattle.replies.specs.Verdict.{verdictNumber}
+use Rattle.replies.specs.Written.{ShownAt, SetsPut}
 use Rattle.replies.specs.Shown.{VerdictIn, shownAt, shownFirst, shownCount, shownMark, SetsIn}
-use Rattle.replies.proofs.WroteLaws.{u16-kept}
 use Rattle.claims.specs.Decided.{Shows}
 use Rattle.claims.proofs.NamedLaws.{SpeaksUpTo}
 use Rattle.claims.proofs.ShownAlike.{shown-fits-alike, shown-witness-alike}
-
--- the verdict's record, and that it stays under the records after it
-pub verdict-in : {out : List ℕ} {v : Verdict} {n : ℕ} → n ≡ verdictNumber v → VerdictAt out n → VerdictIn v out
-verdict-in e a = record { sized = a .sized; kind = a .kind; verdict = a .verdict ∙ e }
-
-pub verdict-kept : {l m : List ℕ} {v k : ℕ} → Wrote l verdictBytes k m → VerdictAt l v → VerdictAt m v
-verdict-kept w r = record {
-  sized = u16-kept w 0 (inl (omega arith)) ∙ r .sized;
-  kind = u16-kept w 2 (inl (omega arith)) ∙ r .kind;
-  verdict = u16-kept w 4 (inl (omega arith)) ∙ r .verdict;
-}
 
 -- the records of a reply show what the tables show
 module _ {s : Sheet} {q : Question} {d : Verdict} {firsts sizes marks out : List ℕ} {n : ℕ} (t : Tree s) (size : s .size ≡ n) (some : 1 ≤ n)

@@ -19,7 +19,6 @@ use Rattle.tables.specs.Numbers.{numberIn}
 use Rattle.claim_records.specs.ClaimHeld.{listAs}
 use Rattle.choosing.specs.Divided.{markedIn}
 use Rattle.questions.specs.Ways.{isPlace}
-use Rattle.replies.specs.Verdict.{verdictNumber}
 use Rattle.claim_records.specs.declared.claim.Claim.the-variants as claim
 
 -- Sets that answer a claim deny one of kinds 4 to 6 and grant one of kind 7; where there are none, it is the other way round.
@@ -32,10 +31,10 @@ abbrev pub asksPlace : ClaimRead → Bool
 asksPlace (claim.Count k) = false
 asksPlace (claim.Lists l) = isPlace (listAs (l .kind))
 
--- the verdict's number, and whether sets are shown
-abbrev pub decisionNumber : Decision → ℕ
-decisionNumber (Shown v) = verdictNumber v
-decisionNumber (Alone v) = verdictNumber v
+-- the verdict, and whether sets are shown
+abbrev pub decisionVerdict : Decision → Verdict
+decisionVerdict (Shown v) = v
+decisionVerdict (Alone v) = v
 
 abbrev pub decisionShows : Decision → Bool
 decisionShows (Shown v) = true
@@ -54,7 +53,7 @@ pub record Shows (s : Sheet) (q : Question) (firsts sizes marks : List ℕ) : Ty
   pub mark : (g : ℕ) → Group s g → numberIn marks g ≤ 1
 
 pub record Decided (s : Sheet) (q : Question) (firsts sizes marks : List ℕ) (r : Decision) : Type 0 where
-  pub number : decisionNumber r ≡ verdictNumber (verdictOn q (decisionShows r))
+  pub verdict : decisionVerdict r ≡ verdictOn q (decisionShows r)
   pub shown : decisionShows r ≡ true → Shows s q firsts sizes marks
   -- no sets that fit answer it
   pub alone : decisionShows r ≡ false → HasWitness s q → ⊥

@@ -2,7 +2,7 @@
 use claim_reply::give_claim;
 use reading::load::Loaded;
 use reading::load::load_sheet;
-use replies::pairs::pack;
+use replies::pairs::refuse;
 use tables::limits::CLAIM_TABLE;
 use tables::limits::GROUP_TABLE;
 use tables::limits::LABEL_TABLE;
@@ -28,7 +28,7 @@ pub extern "C" fn sheet_claim(sheet: &[u8], claim: u32, reply: &mut [u8]) -> u64
         &mut claims,
         &mut offsets,
     ) {
-        Loaded::Refused(n, record) => pack(n, record),
+        Loaded::Refused(n, record) => refuse(reply, n, record),
         Loaded::Sheet(head) => give_claim(
             sheet,
             head,

@@ -2,7 +2,7 @@
 use range_reply::give_ranges;
 use reading::load::Loaded;
 use reading::load::load_tree;
-use replies::pairs::pack;
+use replies::pairs::refuse;
 use tables::limits::GROUP_TABLE;
 ghost use Rattle.replies.specs.Reply.{call};
 ghost use Rattle.range_reply.specs.RangesReply.{RangesCall};
@@ -13,7 +13,7 @@ pub extern "C" fn sheet_ranges(sheet: &[u8], reply: &mut [u8]) -> u64
 {
     let mut groups = [0u16; GROUP_TABLE];
     match load_tree(sheet, &mut groups) {
-        Loaded::Refused(n, record) => pack(n, record),
+        Loaded::Refused(n, record) => refuse(reply, n, record),
         Loaded::Sheet(head) => give_ranges(&groups, head.groups, reply),
     }
 }

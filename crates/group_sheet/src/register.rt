@@ -2,7 +2,7 @@
 use reading::load::Loaded;
 use reading::load::load_tree;
 use register_reply::give_check;
-use replies::pairs::pack;
+use replies::pairs::refuse;
 use tables::limits::GROUP_TABLE;
 ghost use Rattle.meaning.specs.OfRecords.{sheetOf};
 ghost use Rattle.replies.specs.Reply.{call, OnceSheet};
@@ -14,7 +14,7 @@ pub extern "C" fn sheet_register(sheet: &[u8], register: &[u8], reply: &mut [u8]
 {
     let mut groups = [0u16; GROUP_TABLE];
     match load_tree(sheet, &mut groups) {
-        Loaded::Refused(n, record) => pack(n, record),
+        Loaded::Refused(n, record) => refuse(reply, n, record),
         Loaded::Sheet(head) => give_check(&groups, head.groups, head.edition, register, reply),
     }
 }

@@ -8,8 +8,11 @@ use ranging::narrow::narrow;
 use ranging::table::SPAN_TABLE;
 use replies::RANGE_BYTES;
 use replies::pairs::pack;
+use replies::pairs::refuse;
 use replies::put_ranges;
 use tables::limits::GROUP_CAPACITY;
+use wire::refusals::IMPOSSIBLE;
+use wire::refusals::REPLY_SHORT;
 ghost use Rattle.tables.specs.SheetIn.{sheetIn, Tabled};
 ghost use Rattle.replies.specs.Reply.{call};
 ghost use Rattle.range_reply.specs.RangesGiven.{RangesReady, RangesWritten};
@@ -46,11 +49,11 @@ pub fn give_ranges(groups: &[u16], size: u16, reply: &mut [u8]) -> u64
     let mut spans = [0u32; PAIR_TABLE];
     let mut after = [0u32; PAIR_TABLE];
     if !measure(groups, size, &mut spans, &mut after) {
-        return pack(8, 0);
+        return refuse(reply, IMPOSSIBLE, 0);
     }
     let bytes = RANGE_BYTES * size as usize;
     if reply.len() < bytes {
-        return pack(14, 0);
+        return refuse(reply, REPLY_SHORT, 0);
     }
     put(groups, size, &spans, &after, reply);
     pack(0, bytes as u32)

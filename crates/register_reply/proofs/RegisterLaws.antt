@@ -1,17 +1,17 @@
 -- The check of a register, put together: from the check's answer to the record in the buffer.
 use Prim.Native.Nat.{ℕ}
-use mathlib.Core.Path.{_≡_, sym, subst}
+use mathlib.Core.Path.{_≡_, refl, sym, subst}
 use mathlib.Core.List.{List}
-use native.Mathlib.Omega.{arith}
 use Rattle.wire.specs.Limits.{answerBytes}
 use Rattle.wire.specs.Record.{Reading, read, refused}
 use Rattle.wire.specs.Edition.{Edition}
 use Rattle.wire.specs.RegisterFormat.{Row, readRegister}
 use Rattle.meaning.specs.Sheet.{Sheet}
-use Rattle.registers.specs.Checked.{GroupRule, checkGives, Checked}
+use Rattle.registers.specs.Checked.{checkGives, Checked}
 use Rattle.registers.specs.declared.check.Check.{Check}
 use Rattle.replies.specs.Written.{AnswerAt}
-use Rattle.replies.specs.Reply.{Call, OnceRoom}
+use Rattle.replies.specs.Reply.{Call, Refused, OnceRead, OnceRoom}
+use Rattle.replies.proofs.ReplyLaws.{read-once, read-not-refused, turned-back, room-said}
 use Rattle.register_reply.specs.RegisterReply.{AnswerIn}
 
 -- the number of groups by the sheet and by its table
@@ -19,26 +19,20 @@ pub rows-under : {s : Sheet} (ed : Edition) (b : List ℕ) {n m : ℕ} {c : Chec
     → Checked s (readRegister ed m b) c
 rows-under {s} ed b {c = c} e w = subst (λ k. Checked s (readRegister ed k b) c) (sym e) w
 
--- the check's answer c on the rows x, by what it gives
-module _ {s : Sheet} {x : Reading (List Row)} {c : Check} (w : Checked s x c) where
-  -- it refuses as the rows are refused, and only then
-  pub rows-turned : {n k : ℕ} → checkGives c ≡ refused n k → (rows : List Row) → x ≡ read rows → ⊥
-  rows-turned e rows d = let f = w .answer rows d .gives in let z : _≡_ {A = ℕ} 0 1 = cc in omega arith
+-- the check's answer c on the rows x, by what it gives: a refusal, which is that of the rows, or a group and a rule, which are the answer
+module _ {s : Sheet} {x : Reading (List Row)} {c : Check} (w : Checked s x c) {y : Call} where
+  pub rows-refused : {n k : ℕ} {P : List Row → Type 0} → checkGives c ≡ refused n k → Refused n k y → OnceRead x y P
+  rows-refused e r = record {
+    turned = λ n k d. turned-back e r n k (w .refusal n k d);
+    passed = λ rows d. absurd (read-not-refused (w .answer rows d .gives) e);
+  }
 
-  pub rows-passed : {a : GroupRule} → checkGives c ≡ read a → (n k : ℕ) → x ≡ refused n k → ⊥
-  rows-passed e n k d = let f = w .refusal n k d in let z : _≡_ {A = ℕ} 0 1 = cc in omega arith
-
-  -- the group and the rule that it names are the answer
-  pub rows-answered : (g n : ℕ) → checkGives c ≡ read (record { group = g; rule = n }) → {y : Call}
-      → OnceRoom answerBytes y (λ out. AnswerAt out g n) → (rows : List Row) → x ≡ read rows → OnceRoom answerBytes y (AnswerIn s rows)
-  rows-answered g n e {y} o rows d =
-      let v = w .answer rows d in
-      let f = v .gives in
-      let same : v .names ≡ record { group = g; rule = n } = cc in
-      record {
-        short = o .short;
-        replied = λ l. let z = o .replied l in (
-          z .0,
-          record { sized = z .1 .sized; kind = z .1 .kind; answer = rw (z .1 .group, z .1 .rule) (rw same at (v .answered)) },
-        );
-      }
+  pub rows-answered : (g n : ℕ) → checkGives c ≡ read (record { group = g; rule = n }) → OnceRoom answerBytes y (λ out. AnswerAt out g n)
+      → OnceRead x y (λ rows. OnceRoom answerBytes y (AnswerIn s rows))
+  rows-answered g n e o = record {
+    turned = λ n k d. absurd (read-not-refused e (w .refusal n k d));
+    passed = λ rows d.
+        let v = w .answer rows d in
+        let same = read-once (v .gives) e in
+        room-said refl (λ out z. record { sized = z .sized; kind = z .kind; answer = rw (z .group, z .rule) (rw same at (v .answered)) }) o;
+  }

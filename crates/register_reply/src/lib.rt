@@ -4,7 +4,7 @@
 use registers::check::Check;
 use registers::check::check_register;
 use replies::give_answer;
-use replies::pairs::pack;
+use replies::pairs::refuse;
 use tables::limits::GROUP_NUMBERS;
 ghost use Rattle.wire.specs.Edition.{editionOf};
 ghost use Rattle.tables.specs.SheetIn.{sheetIn, Tabled};
@@ -19,7 +19,7 @@ pub fn give_check(groups: &[u16], size: u16, edition: u16, register: &[u8], repl
 {
     let mut counts = [0u32; GROUP_NUMBERS];
     match check_register(groups, size, edition, register, &mut counts) {
-        Check::Refused(n, row) => pack(n, row),
+        Check::Refused(n, row) => refuse(reply, n, row),
         Check::Broken(group, rule) => give_answer(reply, group.0, rule),
         Check::Fits => give_answer(reply, 0, 0),
     }

@@ -1,10 +1,13 @@
 -- The frame of a call, put together: a refusal and a reply, and a reading that is the one or the other.
-use Prim.Native.Nat.{ℕ}
-use mathlib.Core.Path.{_≡_, subst, refl, _∙_}
+use Prim.Native.Nat.{ℕ, _≤_, _<_}
+use mathlib.Core.Path.{_≡_, subst}
 use mathlib.Core.List.{List}
 use native.Mathlib.Omega.{arith}
+use lib.ListN.{length}
 use Rattle.wire.specs.Record.{Reading, read, refused}
-use Rattle.replies.specs.Reply.{call, packed, Refused, OnceRead, Call, Replied}
+use Rattle.meaning.specs.Sheet.{Sheet}
+use Rattle.meaning.specs.Fits.{Possible}
+use Rattle.replies.specs.Reply.{Call, call, packed, Refused, Replied, OnceRead, OncePossible, OnceRoom}
 use Rattle.replies.specs.Wrote.{Wrote}
 use Rattle.replies.proofs.WroteLaws.{rest-kept}
 
@@ -19,22 +22,41 @@ read-not-refused p q = let z : _≡_ {A = ℕ} 0 1 = cc in omega arith
 pub as-read : {A : Type 0} {x : Reading A} {d : A} (P : A → Type 0) → x ≡ read d → P d → (e : A) → x ≡ read e → P e
 as-read P p w e q = subst P (read-once p q) w
 
--- a number with its record's number, and nothing written
-pub turned-back : {A : Type 0} {x : Reading A} {n k r : ℕ} {l : List ℕ} → x ≡ refused n k → r ≡ packed n k → (m j : ℕ) → x ≡ refused m j
-    → Refused m j (call l r l)
-turned-back {n = n} {k = k} p e m j q =
+-- a refused reading has one number, and one record's number
+pub turned-back : {A : Type 0} {x : Reading A} {n k : ℕ} {c : Call} → x ≡ refused n k → Refused n k c → (m j : ℕ) → x ≡ refused m j → Refused m j c
+turned-back {n = n} {k = k} p w m j q =
     let a : n ≡ m = cc in
     let b : k ≡ j = cc in
-    record { returned = e ∙ (rw (a, b)); unchanged = refl }
+    rw (← a, ← b) w
 
 -- a call whose reading is turned back, and one whose reading passes
-pub once-turned : {A : Type 0} {x : Reading A} {P : A → Type 0} {n k r : ℕ} {l : List ℕ} → x ≡ refused n k → r ≡ packed n k
-    → OnceRead x (call l r l) P
-once-turned e p = record { turned = turned-back e p; passed = λ d f. absurd (read-not-refused f e) }
+pub once-turned : {A : Type 0} {x : Reading A} {P : A → Type 0} {n k : ℕ} {c : Call} → x ≡ refused n k → Refused n k c → OnceRead x c P
+once-turned e w = record { turned = turned-back e w; passed = λ d f. absurd (read-not-refused f e) }
 
 pub once-passed : {A : Type 0} {x : Reading A} {d : A} {c : Call} (P : A → Type 0) → x ≡ read d → P d → OnceRead x c P
 once-passed P e w = record { turned = λ n k f. absurd (read-not-refused e f); passed = as-read P e w }
 
+-- a call under a sheet that no sets fit, and under one that some fit
+pub once-none-fit : {s : Sheet} {c : Call} {P : Type 0} → (Possible s → ⊥) → Refused 8 0 c → OncePossible s c P
+once-none-fit n w = record { impossible = λ i. w; possible = λ p. absurd (n p) }
+
+pub once-some-fit : {s : Sheet} {c : Call} {P : Type 0} → Possible s → P → OncePossible s c P
+once-some-fit p w = record { impossible = λ i. absurd (i p); possible = λ q. w }
+
+-- a call with a buffer too short for the reply, and with room for it
+pub once-short : {n : ℕ} {c : Call} {P : List ℕ → Type 0} → length (c .before) < n → Refused 14 0 c → OnceRoom n c P
+once-short h w = record { short = λ l. w; replied = λ l. absurd (omega arith) }
+
+pub once-replied : {n : ℕ} {c : Call} {P : List ℕ → Type 0} → n ≤ length (c .before) → Replied n c → P (c .after) → OnceRoom n c P
+once-replied h w p = record { short = λ l. absurd (omega arith); replied = λ l. (w, p) }
+
+-- its length by another name, and more said of its records
+pub room-said : {n m : ℕ} {c : Call} {P Q : List ℕ → Type 0} → n ≡ m → ((out : List ℕ) → P out → Q out) → OnceRoom n c P → OnceRoom m c Q
+room-said e more w = record {
+  short = λ l. w .short (omega arith);
+  replied = λ l. let z = w .replied (omega arith) in (rw (← e) (z .0), more _ (z .1));
+}
+
 -- one write from the front on
-pub written : {l m : List ℕ} {r n k : ℕ} → n ≡ k → Wrote l 0 n m → r ≡ packed 0 n → Replied k (call l r m)
-written {n = n} {k = k} e w p = record { returned = rw (← e) p; sized = w .sized; rest = rest-kept w k (omega arith) }
+pub written : {l m : List ℕ} {r n : ℕ} → Wrote l 0 n m → r ≡ packed 0 n → Replied n (call l r m)
+written {n = n} w p = record { returned = p; sized = w .sized; rest = rest-kept w n (omega arith) }

@@ -7,10 +7,12 @@ use native.Mathlib.Omega.{arith}
 use native.Mathlib.Nat.{eq-or-lt-of-le}
 use lib.ListN.{getD, length}
 use lib.Seq.{sets}
+use Rattle.replies.specs.declared.verdict.Verdict.{Verdict}
 use Rattle.wire.specs.Limits.{rangeBytes, shownBytes, verdictBytes}
 use Rattle.wire.specs.Bytes.{le16, le32}
 use Rattle.replies.specs.Wrote.{Wrote}
 use Rattle.replies.specs.Written.{RangeAt, ShownAt, RangesPut, SetsPut, U16sPut}
+use Rattle.replies.specs.Shown.{VerdictIn}
 use Rattle.replies.proofs.WroteLaws.{u16-kept, u32-kept, wrote-u16, u16-put, wrote-then, wrote-u32, u32-put}
 
 -- a record stays under a write after it
@@ -31,6 +33,13 @@ shown-kept {at = at} w h r = record {
   first = u32-kept w (at + 4) (inl (omega arith)) ∙ r .first;
   count = u32-kept w (at + 8) (inl (omega arith)) ∙ r .count;
   mark = u16-kept w (at + 12) (inl (omega arith)) ∙ r .mark;
+}
+
+pub verdict-kept : {l m : List ℕ} {v : Verdict} {k : ℕ} → Wrote l verdictBytes k m → VerdictIn v l → VerdictIn v m
+verdict-kept w r = record {
+  sized = u16-kept w 0 (inl (omega arith)) ∙ r .sized;
+  kind = u16-kept w 2 (inl (omega arith)) ∙ r .kind;
+  verdict = u16-kept w 4 (inl (omega arith)) ∙ r .verdict;
 }
 
 -- one more record

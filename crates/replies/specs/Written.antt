@@ -13,12 +13,6 @@ pub record AnswerAt (out : List ℕ) (g r : ℕ) : Type 0 where
   pub group : u16At out 4 ≡ g
   pub rule : u16At out 6 ≡ r
 
--- kind 18: verdict
-pub record VerdictAt (out : List ℕ) (v : ℕ) : Type 0 where
-  pub sized : u16At out 0 ≡ verdictBytes - 2
-  pub kind : u16At out 2 ≡ 18
-  pub verdict : u16At out 4 ≡ v
-
 -- kind 17: least, greatest, first, count
 pub record RangeAt (out : List ℕ) (at l u f n : ℕ) : Type 0 where
   pub sized : u16At out at ≡ rangeBytes - 2

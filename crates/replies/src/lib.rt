@@ -5,14 +5,19 @@ pub mod pairs;
 pub mod verdict;
 
 use crate::pairs::pack;
+use crate::pairs::refuse;
+use crate::verdict::Verdict;
+use crate::verdict::verdict_number;
 use wire::bytes::put_u16;
 use wire::bytes::put_u32;
+use wire::refusals::REPLY_SHORT;
 ghost use Prim.Native.Nat.{_*_, _≤_, _+_};
 ghost use lib.ListN.{length};
 ghost use mathlib.Core.Path.{_≡_};
 ghost use Rattle.wire.specs.Limits.{answerBytes, verdictBytes, rangeBytes, shownBytes};
 ghost use Rattle.replies.specs.Reply.{call, OnceRoom};
-ghost use Rattle.replies.specs.Written.{U16sPut, AnswerAt, VerdictAt, RangeAt, ShownAt, RangesPut, SetsPut};
+ghost use Rattle.replies.specs.Shown.{VerdictIn};
+ghost use Rattle.replies.specs.Written.{U16sPut, AnswerAt, RangeAt, ShownAt, RangesPut, SetsPut};
 ghost use Rattle.replies.specs.Wrote.{Wrote};
 
 // Bytes of the records, length field and kind among them: kind 17, 18, 19, 20.
@@ -46,12 +51,12 @@ pub fn put_answer(out: &mut [u8], group: u16, rule: u16)
 }
 
 // The verdict on a claim, of kind 18.
-pub fn put_verdict(out: &mut [u8], verdict: u16)
+pub fn put_verdict(out: &mut [u8], v: Verdict)
     requires { ⌜ verdictBytes ≤ length (now out) ⌝ }
     ensures kept { λ _. ⌜ Wrote (now (out .entry)) 0 verdictBytes (now (out .exit)) ⌝ }
-    ensures put { λ _. ⌜ VerdictAt (now (out .exit)) verdict ⌝ }
+    ensures put { λ _. ⌜ VerdictIn v (now (out .exit)) ⌝ }
 {
-    let fields = [4, 18, verdict];
+    let fields = [4, 18, verdict_number(v)];
     put_u16s(out, &fields);
 }
 
@@ -136,8 +141,41 @@ pub fn give_answer(reply: &mut [u8], group: u16, rule: u16) -> u64
     ensures { λ r. ⌜ OnceRoom answerBytes (call (now (reply .entry)) r (now (reply .exit))) (λ out. AnswerAt out group rule) ⌝ }
 {
     if reply.len() < ANSWER_BYTES {
-        return pack(14, 0);
+        return refuse(reply, REPLY_SHORT, 0); // the answer
     }
     put_answer(reply, group, rule);
     pack(0, ANSWER_BYTES as u32)
+}
+
+// A verdict alone, into a buffer with room for it.
+pub fn give_alone(reply: &mut [u8], v: Verdict) -> u64
+    ensures { λ r. ⌜ OnceRoom verdictBytes (call (now (reply .entry)) r (now (reply .exit))) (VerdictIn v) ⌝ }
+{
+    if reply.len() < VERDICT_BYTES {
+        return refuse(reply, REPLY_SHORT, 0); // the verdict
+    }
+    put_verdict(reply, v); // alone
+    pack(0, VERDICT_BYTES as u32)
+}
+
+// A verdict with sets, into a buffer with room for both. `firsts`, `counts` and `marks` have one number for each group.
+pub fn give_shown(
+    reply: &mut [u8],
+    v: Verdict,
+    size: u16,
+    firsts: &[u32],
+    counts: &[u32],
+    marks: &[u8],
+) -> u64
+    requires { ⌜ (size ≤ length (now firsts)) × ((size ≤ length (now counts)) × (size ≤ length (now marks))) ⌝ }
+    ensures { λ r. ⌜ OnceRoom (verdictBytes + shownBytes * size) (call (now (reply .entry)) r (now (reply .exit)))
+        (λ out. VerdictIn v out × SetsPut out size (now (firsts .entry)) (now (counts .entry)) (now (marks .entry))) ⌝ }
+{
+    let bytes = VERDICT_BYTES + SHOWN_BYTES * size as usize;
+    if reply.len() < bytes {
+        return refuse(reply, REPLY_SHORT, 0); // the sets
+    }
+    put_verdict(reply, v); // with sets
+    put_sets(reply, size, firsts, counts, marks);
+    pack(0, bytes as u32)
 }

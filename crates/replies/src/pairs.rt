@@ -1,6 +1,6 @@
-// The pair that a call returns, in one number.
+// The pair that a call returns, in one number, and the refusal of a call.
 ghost use mathlib.Core.Path.{_≡_};
-ghost use Rattle.replies.specs.Reply.{packed};
+ghost use Rattle.replies.specs.Reply.{call, packed, Refused};
 
 // The first of the pair counts so much.
 pub const PAIR: u64 = 4294967296;
@@ -10,4 +10,11 @@ pub fn pack(first: u32, second: u32) -> u64
     ensures { λ r. ⌜ r ≡ packed first second ⌝ }
 {
     first as u64 * PAIR + second as u64
+}
+
+// Every operation refuses here: a number with a record number, and nothing written.
+pub fn refuse(reply: &mut [u8], number: u32, record: u32) -> u64
+    ensures { λ r. ⌜ Refused number «record» (call (now (reply .entry)) r (now (reply .exit))) ⌝ }
+{
+    pack(number, record)
 }

@@ -7,7 +7,7 @@ use borrow.Author.Tests.{not-true, not-false}
 use borrow.Author.Needs.{needs}
 use Rattle.tables.specs.SheetIn.{sheetIn}
 use Rattle.claim_records.proofs.ClaimTableLaws.{length-claimsIn}
-use Rattle.replies.proofs.ReplyLaws.{as-read}
+use Rattle.replies.proofs.ReplyLaws.{as-read, once-none-fit, once-some-fit}
 use Rattle.claim_reply.specs.ClaimReply.{ClaimVerdict}
 use Rattle.claim_reply.proofs.ClaimLaws.{verdict-as, claim-askable, claim-told}
 use Rattle.claim_reply.proofs.give_claim.Statement.{statement}
@@ -16,59 +16,59 @@ use Rattle.claim_reply.proofs.give_claim.Tie as tie
 some-fit-requires : tie.Need-some-fit-requires
 some-fit-requires c κs = search needs
 
-pack-requires : tie.Need-pack-requires
-pack-requires c κs = search needs
+refuse-requires : tie.Need-refuse-requires
+refuse-requires c κs = search needs
 
 same-length : tie.Need-same-length
 same-length c = search needs
 
-returns : tie.Need-returns
-unfolding sheetIn
-returns c =
-    let fit = c .before .before .some-fit .ensures in
-    as-read (λ d. ClaimVerdict _ d _) (c .before .before .before .before .before .before .before .before .before .before .pre .reads) (record {
-      impossible = λ i. record { returned = c .pack .ensures; unchanged = refl };
-      possible = λ p. absurd (false≢true (sym (not-true _ (c .before .if1 .taken)) ∙ fit .1 p));
-    })
-
-pack-requires-2 : tie.Need-pack-requires-2
-pack-requires-2 c κs = search needs
-
 same-length-2 : tie.Need-same-length-2
 same-length-2 c = search needs
 
-returns-2 : tie.Need-returns-2
+returns : tie.Need-returns
 unfolding sheetIn
-returns-2 c =
-    let fit = c .before .before .before .some-fit .ensures in
-    as-read (λ d. ClaimVerdict _ d _) (c .before .before .before .before .before .before .before .before .before .before .before .pre .reads) (record {
-      impossible = λ i. absurd (i (fit .0 (not-false _ (c .before .before .if1 .left))));
-      possible = λ p. record {
-        unnumbered = λ o. record { returned = c .pack2 .ensures; unchanged = refl };
-        numbered = λ a b. absurd (omega arith);
-      };
-    })
+returns c =
+    let f = c .before .before .before .before .before in
+    as-read (λ d. ClaimVerdict _ d _) (f .before .before .before .before .before .before .before .before .pre .reads)
+    (once-none-fit (λ p. false≢true (sym (not-true _ (c .before .before .before .before .if1 .taken)) ∙ f .some-fit .ensures .1 p))
+    (c .before .before .refuse .ensures))
 
-cast-if3 : tie.Need-cast-if3
-cast-if3 c = search needs
-
-pack-requires-3 : tie.Need-pack-requires-3
-pack-requires-3 c κs = search needs
+refuse-requires-2 : tie.Need-refuse-requires-2
+refuse-requires-2 c κs = search needs
 
 same-length-3 : tie.Need-same-length-3
 same-length-3 c = search needs
 
+same-length-4 : tie.Need-same-length-4
+same-length-4 c = search needs
+
+returns-2 : tie.Need-returns-2
+unfolding sheetIn
+returns-2 c =
+    let f = c .before .before .before .before .before .before in
+    as-read (λ d. ClaimVerdict _ d _) (f .before .before .before .before .before .before .before .before .pre .reads)
+    (once-some-fit (f .some-fit .ensures .0 (not-false _ (c .before .before .before .before .before .if1 .left)))
+    (record { unnumbered = λ o. c .before .before .refuse2 .ensures; numbered = λ a b. absurd (omega arith) }))
+
+cast-if3 : tie.Need-cast-if3
+cast-if3 c = search needs
+
+refuse-requires-3 : tie.Need-refuse-requires-3
+refuse-requires-3 c κs = search needs
+
+same-length-5 : tie.Need-same-length-5
+same-length-5 c = search needs
+
+same-length-6 : tie.Need-same-length-6
+same-length-6 c = search needs
+
 returns-3 : tie.Need-returns-3
 unfolding sheetIn
 returns-3 c =
-    let fit = c .before .before .before .before .before .some-fit .ensures in
-    as-read (λ d. ClaimVerdict _ d _) (c .before .before .before .before .before .before .before .before .before .before .before .before .before .pre .reads) (record {
-      impossible = λ i. absurd (i (fit .0 (not-false _ (c .before .before .before .before .if1 .left))));
-      possible = λ p. record {
-        unnumbered = λ o. record { returned = c .pack3 .ensures; unchanged = refl };
-        numbered = λ a b. absurd (omega (arith, simp length-claimsIn at b));
-      };
-    })
+    let f = c .before .before .before .before .before .before .before .before in
+    as-read (λ d. ClaimVerdict _ d _) (f .before .before .before .before .before .before .before .before .pre .reads)
+    (once-some-fit (f .some-fit .ensures .0 (not-false _ (c .before .before .before .before .before .before .before .if1 .left)))
+    (record { unnumbered = λ o. c .before .before .refuse3 .ensures; numbered = λ a b. absurd (omega (arith, simp length-claimsIn at b)) }))
 
 sub-claim-in : tie.Need-sub-claim-in
 sub-claim-in c = search needs
@@ -84,47 +84,50 @@ give-verdict-requires c κs =
       claim-askable _ _ _ _ _ _ (w .reads) (w .held) (omega (arith, w .held .limits .fewNames, w .rooms .nameRoom)) _ (search needs) x,
     )
 
-same-length-4 : tie.Need-same-length-4
-same-length-4 c = search needs
+same-length-7 : tie.Need-same-length-7
+same-length-7 c = search needs
 
-same-length-5 : tie.Need-same-length-5
-same-length-5 c = search needs
+same-length-8 : tie.Need-same-length-8
+same-length-8 c = search needs
 
 returns-4 : tie.Need-returns-4
 unfolding sheetIn
 returns-4 c =
-    let w = c .before .before .before .before .before .before .before .before .before .before .before .before .before .before .before .before .before .before .before .before .pre in
-    let fit = c .before .before .before .before .before .before .before .before .before .before .before .before .some-fit .ensures in
+    let e = c .before .before .before .before .before .before .before .before .before .before in
+    let f = e .before .before in
+    let w = f .before .before .before .before .before .before .before .before .pre in
     let x = c .before .before .before .before .before .before .before .claim-in .ensures in
-    as-read (λ d. ClaimVerdict _ d _) (w .reads) (record {
-      impossible = λ i. absurd (i (fit .0 (not-false _ (c .before .before .before .before .before .before .before .before .before .before .before .if1 .left))));
-      possible = λ p. record {
-        unnumbered = λ o. absurd (⊎-elim (c .before .before .before .before .before .before .before .before .before .before .if2 .left) (λ b. omega (arith, simp length-claimsIn at b)) o);
-        numbered = λ a b.
-            verdict-as _ _
-            (claim-told _ _ _ _ _ _ (w .reads) (w .held) (omega (arith, w .held .limits .fewNames, w .rooms .nameRoom)) _ (search needs) x _ refl)
-            (c .before .before .before .before .give-verdict .ensures);
-      };
-    })
+    as-read (λ d. ClaimVerdict _ d _) (w .reads)
+    (once-some-fit (f .some-fit .ensures .0 (not-false _ (e .before .if1 .left)))
+    (record {
+      unnumbered = λ o. absurd (⊎-elim (e .if2 .left) (λ b. omega (arith, simp length-claimsIn at b)) o);
+      numbered = λ a b.
+          verdict-as _ _
+          (claim-told _ _ _ _ _ _ (w .reads) (w .held) (omega (arith, w .held .limits .fewNames, w .rooms .nameRoom)) _ (search needs) x _ refl)
+          (c .before .before .before .before .give-verdict .ensures);
+    }))
 
 pub give-claim-spec : {M : Type 1} → statement M
 give-claim-spec =
     tie.close
     (tie.spec
     some-fit-requires
-    pack-requires
+    refuse-requires
     same-length
-    returns
-    pack-requires-2
     same-length-2
+    returns
+    refuse-requires-2
+    same-length-3
+    same-length-4
     returns-2
     cast-if3
-    pack-requires-3
-    same-length-3
+    refuse-requires-3
+    same-length-5
+    same-length-6
     returns-3
     sub-claim-in
     claim-in-requires
     give-verdict-requires
-    same-length-4
-    same-length-5
+    same-length-7
+    same-length-8
     returns-4)

@@ -27,8 +27,8 @@ load-sheet-requires c κs = search needs
 enum-known-n : tie.Need-enum-known-n
 enum-known-n c = search needs
 
-pack-requires : tie.Need-pack-requires
-pack-requires c κs = search needs
+refuse-requires : tie.Need-refuse-requires
+refuse-requires c κs = search needs
 
 enum-known-head : tie.Need-enum-known-head
 enum-known-head c = search needs
@@ -57,21 +57,23 @@ give-claim-requires c κs =
       rooms = search needs;
     }
 
-returns : tie.Need-returns
-returns c =
-    once-turned (loaded-refused (c .before .before .before .before .before .before .before .before .before .load-sheet .ensures) _ _ (c .before .before .n .given .1))
-    (c .pack .ensures)
-
 same-length : tie.Need-same-length
 same-length c = search needs
 
+returns : tie.Need-returns
+returns c =
+    let told = c .before .before .before .before .before in
+    once-turned (loaded-refused (told .before .before .before .before .before .before .before .load-sheet .ensures) _ _ (told .n .given .1))
+    (c .before .before .refuse .ensures)
+
+same-length-2 : tie.Need-same-length-2
+same-length-2 c = search needs
+
 returns-2 : tie.Need-returns-2
 returns-2 c =
-    let e = loaded-sheet (c .before .before .before .before .before .before .before .before .before .before .before .before .before .before .before .before .before .load-sheet .ensures) _ (c .before .before .before .before .before .before .before .before .before .before .head .given .1) in
-    record {
-      turned = λ n k f. absurd (read-not-refused e f);
-      passed = c .before .before .before .give-claim .ensures;
-    }
+    let told = c .before .before .before .before .before .before .before .before .before .before in
+    let e = loaded-sheet (told .before .before .before .before .before .before .before .load-sheet .ensures) _ (told .head .given .1) in
+    record { turned = λ n k f. absurd (read-not-refused e f); passed = c .before .before .before .give-claim .ensures }
 
 pub sheet-claim-spec : {M : Type 1} → statement M
 sheet-claim-spec =
@@ -84,13 +86,14 @@ sheet-claim-spec =
     slice-aggregate-load-sheet-5
     load-sheet-requires
     enum-known-n
-    pack-requires
+    refuse-requires
     enum-known-head
     slice-aggregate-give-claim
     slice-aggregate-give-claim-2
     slice-aggregate-give-claim-3
     slice-aggregate-give-claim-4
     give-claim-requires
-    returns
     same-length
+    returns
+    same-length-2
     returns-2)

@@ -18,8 +18,8 @@ load-tree-requires c κs = search needs
 enum-known-n : tie.Need-enum-known-n
 enum-known-n c = search needs
 
-pack-requires : tie.Need-pack-requires
-pack-requires c κs = search needs
+refuse-requires : tie.Need-refuse-requires
+refuse-requires c κs = search needs
 
 enum-known-head : tie.Need-enum-known-head
 enum-known-head c = search needs
@@ -31,18 +31,23 @@ give-check-requires : tie.Need-give-check-requires
 give-check-requires c κs =
     loaded-tabled (c .before .before .before .before .before .before .load-tree .ensures .loads) _ (c .before .before .before .head .given .1) (search needs)
 
-returns : tie.Need-returns
-returns c =
-    once-turned (loaded-refused (c .before .before .before .before .before .load-tree .ensures .loads) _ _ (c .before .before .n .given .1)) (c .pack .ensures)
-
 same-length : tie.Need-same-length
 same-length c = search needs
+
+returns : tie.Need-returns
+returns c =
+    let told = c .before .before .before .before .before in
+    once-turned (loaded-refused (told .before .before .before .load-tree .ensures .loads) _ _ (told .n .given .1)) (c .before .before .refuse .ensures)
+
+same-length-2 : tie.Need-same-length-2
+same-length-2 c = search needs
 
 returns-2 : tie.Need-returns-2
 unfolding sheetIn
 returns-2 c =
+    let told = c .before .before .before .before .before .before in
     once-passed (λ d. Register _ (d .edition) (sheetOf (d .groups)) _)
-    (loaded-sheet (c .before .before .before .before .before .before .before .before .before .load-tree .ensures .loads) _ (c .before .before .before .before .before .before .head .given .1))
+    (loaded-sheet (told .before .before .before .load-tree .ensures .loads) _ (told .head .given .1))
     (c .before .before .give-check .ensures)
 
 pub sheet-register-spec : {M : Type 1} → statement M
@@ -52,10 +57,11 @@ sheet-register-spec =
     slice-aggregate-load-tree
     load-tree-requires
     enum-known-n
-    pack-requires
+    refuse-requires
     enum-known-head
     slice-aggregate-give-check
     give-check-requires
-    returns
     same-length
+    returns
+    same-length-2
     returns-2)
