@@ -10,7 +10,8 @@ ghost use Rattle.register_reply.specs.RegisterReply.{Register};
 
 #[no_mangle]
 pub extern "C" fn sheet_register(sheet: &[u8], register: &[u8], reply: &mut [u8]) -> u64
-    ensures { λ r. ⌜ OnceSheet (now (sheet .entry)) (λ d. Register (now (register .entry)) (d .edition) (sheetOf (d .groups))) (call (now (reply .entry)) r (now (reply .exit))) ⌝ }
+    ensures { λ r. ⌜ OnceSheet (now (sheet .entry)) (λ d. Register (now (register .entry)) (d .edition) (sheetOf (d .groups)))
+        (call (now (reply .entry)) r (now (reply .exit))) ⌝ }
 {
     let mut groups = [0u16; GROUP_TABLE];
     match load_tree(sheet, &mut groups) {

@@ -23,7 +23,8 @@ pub as-read : {A : Type 0} {x : Reading A} {d : A} (P : A → Type 0) → x ≡ 
 as-read P p w e q = subst P (read-once p q) w
 
 -- a refused reading has one number, and one record's number
-pub turned-back : {A : Type 0} {x : Reading A} {n k : ℕ} {c : Call} → x ≡ refused n k → Refused n k c → (m j : ℕ) → x ≡ refused m j → Refused m j c
+pub turned-back : {A : Type 0} {x : Reading A} {n k : ℕ} {c : Call} → x ≡ refused n k → Refused n k c → (m j : ℕ) → x ≡ refused m j
+    → Refused m j c
 turned-back {n = n} {k = k} p w m j q =
     let a : n ≡ m = cc in
     let b : k ≡ j = cc in

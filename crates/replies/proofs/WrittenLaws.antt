@@ -50,7 +50,8 @@ ranges-more ranges firsts counts n p w r g h =
     ⊎-elim (λ (e : suc g ≡ n + 1). let same : g ≡ n = omega arith in rw same r)
     (λ (k : suc g < n + 1). range-kept w (omega arith) (p g (omega arith))) (eq-or-lt-of-le h)
 
-pub sets-more : {l m : List ℕ} (firsts counts marks : List ℕ) (n : ℕ) → SetsPut l n firsts counts marks → Wrote l (verdictBytes + shownBytes * n) shownBytes m
+pub sets-more : {l m : List ℕ} (firsts counts marks : List ℕ) (n : ℕ) → SetsPut l n firsts counts marks
+    → Wrote l (verdictBytes + shownBytes * n) shownBytes m
     → ShownAt m (verdictBytes + shownBytes * n) (getD firsts n 0) (getD counts n 0) (getD marks n 0) → SetsPut m (n + 1) firsts counts marks
 sets-more firsts counts marks n p w r g h =
     ⊎-elim (λ (e : suc g ≡ n + 1). let same : g ≡ n = omega arith in rw same r)

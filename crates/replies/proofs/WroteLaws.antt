@@ -12,7 +12,8 @@ use Rattle.wire.proofs.Fields.{u32-le32}
 use Rattle.replies.specs.Wrote.{Wrote}
 
 -- two writes, one after the other, seen as one to a place that holds both
-pub wrote-then : {l₁ l₂ l₃ : List ℕ} {a b c n m k : ℕ} → Wrote l₁ a n l₂ → Wrote l₂ b m l₃ → c ≤ a → a + n ≤ c + k → c ≤ b → b + m ≤ c + k
+pub wrote-then : {l₁ l₂ l₃ : List ℕ} {a b c n m k : ℕ} → Wrote l₁ a n l₂ → Wrote l₂ b m l₃ → c ≤ a → a + n ≤ c + k
+    → c ≤ b → b + m ≤ c + k
     → Wrote l₁ c k l₃
 wrote-then p q i j x y = record {
   sized = q .sized ∙ p .sized;

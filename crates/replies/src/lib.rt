@@ -27,7 +27,7 @@ pub const VERDICT_BYTES: usize = 6;
 
 pub const SHOWN_BYTES: usize = 14;
 
-pub const ANSWER_BYTES: usize = 8;
+const ANSWER_BYTES: usize = 8;
 
 // fields of two bytes, from the front of the buffer on
 fn put_u16s(out: &mut [u8], fields: &[u16])
@@ -41,7 +41,7 @@ fn put_u16s(out: &mut [u8], fields: &[u16])
 }
 
 // The answer to a register, of kind 20.
-pub fn put_answer(out: &mut [u8], group: u16, rule: u16)
+fn put_answer(out: &mut [u8], group: u16, rule: u16)
     requires { ⌜ answerBytes ≤ length (now out) ⌝ }
     ensures kept { λ _. ⌜ Wrote (now (out .entry)) 0 answerBytes (now (out .exit)) ⌝ }
     ensures put { λ _. ⌜ AnswerAt (now (out .exit)) group rule ⌝ }
@@ -51,7 +51,7 @@ pub fn put_answer(out: &mut [u8], group: u16, rule: u16)
 }
 
 // The verdict on a claim, of kind 18.
-pub fn put_verdict(out: &mut [u8], v: Verdict)
+fn put_verdict(out: &mut [u8], v: Verdict)
     requires { ⌜ verdictBytes ≤ length (now out) ⌝ }
     ensures kept { λ _. ⌜ Wrote (now (out .entry)) 0 verdictBytes (now (out .exit)) ⌝ }
     ensures put { λ _. ⌜ VerdictIn v (now (out .exit)) ⌝ }
@@ -61,7 +61,7 @@ pub fn put_verdict(out: &mut [u8], v: Verdict)
 }
 
 // A group's range and run, of kind 17.
-pub fn put_range(out: &mut [u8], at: usize, least: u32, greatest: u32, first: u32, count: u32)
+fn put_range(out: &mut [u8], at: usize, least: u32, greatest: u32, first: u32, count: u32)
     requires { ⌜ at + rangeBytes ≤ length (now out) ⌝ }
     ensures kept { λ _. ⌜ Wrote (now (out .entry)) at rangeBytes (now (out .exit)) ⌝ }
     ensures put { λ _. ⌜ RangeAt (now (out .exit)) at least greatest first count ⌝ }
@@ -75,7 +75,7 @@ pub fn put_range(out: &mut [u8], at: usize, least: u32, greatest: u32, first: u3
 }
 
 // A group's run and mark, of kind 19.
-pub fn put_shown(out: &mut [u8], at: usize, first: u32, count: u32, mark: u16)
+fn put_shown(out: &mut [u8], at: usize, first: u32, count: u32, mark: u16)
     requires { ⌜ at + shownBytes ≤ length (now out) ⌝ }
     ensures kept { λ _. ⌜ Wrote (now (out .entry)) at shownBytes (now (out .exit)) ⌝ }
     ensures put { λ _. ⌜ ShownAt (now (out .exit)) at first count mark ⌝ }
@@ -116,7 +116,7 @@ fn mark_field(mark: u8) -> u16
 }
 
 // The runs and marks of all groups, after the verdict.
-pub fn put_sets(out: &mut [u8], size: u16, firsts: &[u32], counts: &[u32], marks: &[u8])
+fn put_sets(out: &mut [u8], size: u16, firsts: &[u32], counts: &[u32], marks: &[u8])
     requires { ⌜ verdictBytes + shownBytes * size ≤ length (now out) ⌝ }
     requires { ⌜ (size ≤ length (now firsts)) × ((size ≤ length (now counts)) × (size ≤ length (now marks))) ⌝ }
     ensures kept { λ _. ⌜ Wrote (now (out .entry)) verdictBytes (shownBytes * size) (now (out .exit)) ⌝ }

@@ -41,8 +41,13 @@ same-length c = search needs
 
 returns : tie.Need-returns
 returns c =
-    ranges-placed (c .before .before .before .before .before .before .before .before .before .before .before .before .before .before .before .before .narrow .last .1 .1 .1 .1 .0) (c .before .before .before .before .before .before .before .before .before .before .arrange .last .1 .1 .1 .1 .1 .0)
-    (c .before .before .before .before .before .before .before .before .before .before .arrange .last .1 .1 .1 .1 .0) (c .before .before .before .before .before .before .before .before .before .before .before .before .before .before .before .before .before .before .before .before .before .before .before .pre) (c .before .before .before .before .before .before .before .before .before .before .before .before .before .before .before .before .narrow .ensures) (c .before .before .before .before .before .before .before .before .before .before .arrange .ensures)
+    ranges-placed (c .before .before .before .before .before .before .before .before .before .before .before .before .before .before .before .before
+    .narrow .last .1 .1 .1 .1 .0) (c .before .before .before .before .before .before .before .before .before .before .arrange .last .1 .1 .1 .1 .1 .0)
+    (c .before .before .before .before .before .before .before .before .before .before .arrange .last .1 .1 .1 .1 .0)
+    (c .before .before .before .before .before .before .before .before .before .before .before .before .before .before .before .before .before
+    .before .before .before .before .before .before .pre)
+    (c .before .before .before .before .before .before .before .before .before .before .before .before .before .before .before .before
+    .narrow .ensures) (c .before .before .before .before .before .before .before .before .before .before .arrange .ensures)
     (c .before .before .put-ranges .ensures .0) (c .before .before .put-ranges .ensures .1)
 
 pub put-spec : {M : Type 1} → statement M

@@ -36,13 +36,19 @@ same-length c = search needs
 returns : tie.Need-returns
 returns c =
     let w = shown-put _ _ _ _ _ _ _ _ _ _
-    (c .before .before .before .before .before .before .before .before .before .before .before .before .before .before .before .before .before .before .put-u16 .ensures)
+    (c .before .before .before .before .before .before .before .before .before .before .before .before .before .before .before .before .before .before
+    .put-u16 .ensures)
     (c .before .before .before .before .before .before .before .before .before .before .before .before .before .before .put-u162 .ensures)
     (c .before .before .before .before .before .before .before .before .before .before .put-u32 .ensures)
     (c .before .before .before .before .before .before .put-u322 .ensures)
     (c .before .before .put-u163 .ensures)
-    (c .before .before .before .before .before .before .before .before .before .before .before .before .before .before .before .before .before .before .before .before .before .pre)
-    (c .before .before .before .before .before .before .before .before .before .before .before .before .before .before .before .before .before .before .before .before .before .fits .first .fits) (c .before .before .before .before .before .before .before .before .before .before .before .before .before .before .before .before .before .before .before .before .before .fits .count .fits) (c .before .before .before .before .before .before .before .before .before .before .before .before .before .before .before .before .before .before .before .before .before .fits .mark .fits) in
+    (c .before .before .before .before .before .before .before .before .before .before .before .before .before .before .before .before .before .before
+    .before .before .before .pre)
+    (c .before .before .before .before .before .before .before .before .before .before .before .before .before .before .before .before .before .before
+    .before .before .before .fits .first .fits) (c .before .before .before .before .before .before .before .before .before .before .before .before
+    .before .before .before .before .before .before .before .before .before .fits .count .fits)
+    (c .before .before .before .before .before .before .before .before .before .before .before .before .before .before .before .before
+    .before .before .before .before .before .fits .mark .fits) in
     (w .0, w .1)
 
 pub put-shown-spec : {M : Type 1} → statement M

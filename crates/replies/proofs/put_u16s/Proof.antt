@@ -51,7 +51,8 @@ loop-again c =
         search needs,
         (
           wrote-then (i .1 .1 .0) (wrote-u16 (2 * n) _ p) (omega arith) (omega arith) (omega arith) (omega arith),
-          u16s-more _ (a .fields .now) n (i .1 .1 .1) p (omega (arith, i .1 .1 .0 .sized)) (omega (arith, c .before .before .before .shared-slice-known2 .given n)),
+          u16s-more _ (a .fields .now) n (i .1 .1 .1) p (omega (arith, i .1 .1 .0 .sized))
+              (omega (arith, c .before .before .before .shared-slice-known2 .given n)),
         ),
       ),
     )
