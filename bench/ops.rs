@@ -3,42 +3,26 @@
 //                         each, or for those that begin with a WHAT: ours and Rust's in ns, of a register Rust's by columns
 //                         and by walk, of 'growth ..' ours at 128 and at 256 groups; and the middle ratio of second to first
 
+#[path = "../reference/engine.rs"]
 mod engine;
+#[path = "../tests/rust/library.rs"]
+mod library;
+#[path = "../tests/rust/limits.rs"]
+mod limits;
+#[path = "../reference/register.rs"]
 mod register;
+#[path = "../reference/sheet.rs"]
 mod sheet;
 
+use library::{claim, ranges, register as check};
+use limits::{FIRST, RANGE, SECOND};
 use std::fs;
 use std::hint::black_box;
 use std::time::Instant;
 
-extern "C" {
-    fn sheet_ranges(s: *const u8, sl: usize, reply: *mut u8, rl: usize) -> u64;
-    fn sheet_claim(s: *const u8, sl: usize, claim: u32, reply: *mut u8, rl: usize) -> u64;
-    fn sheet_register(
-        s: *const u8,
-        sl: usize,
-        reg: *const u8,
-        gl: usize,
-        reply: *mut u8,
-        rl: usize,
-    ) -> u64;
-}
-
-fn ranges(s: &[u8], r: &mut [u8]) -> u64 {
-    unsafe { sheet_ranges(s.as_ptr(), s.len(), r.as_mut_ptr(), r.len()) }
-}
-
-fn claim(s: &[u8], c: u32, r: &mut [u8]) -> u64 {
-    unsafe { sheet_claim(s.as_ptr(), s.len(), c, r.as_mut_ptr(), r.len()) }
-}
-
-fn check(s: &[u8], g: &[u8], r: &mut [u8]) -> u64 {
-    unsafe { sheet_register(s.as_ptr(), s.len(), g.as_ptr(), g.len(), r.as_mut_ptr(), r.len()) }
-}
-
 const RUNS: usize = 101;
-const REPLY: usize = 20 * 256; // bytes of the longest reply
-const LARGE: [usize; 2] = [128, 256]; // most groups of each edition
+const LARGE: [usize; 2] = [FIRST.groups as usize, SECOND.groups as usize]; // most of each edition
+const REPLY: usize = RANGE * LARGE[1]; // bytes of the longest reply
 
 type Call<'a> = &'a mut dyn FnMut() -> u64;
 
@@ -183,7 +167,7 @@ fn main() {
         // Parts of a check, each call going further than the one before; in turns, for the differences.
         let [bare, fits, first] = ["bare", "fits", "first"].map(|which| sheet(&format!("register-{tree}-256-{which}")));
         let [all, refused] = ["", "-refused"].map(|which| rows(&format!("register-{tree}-256{which}")));
-        let one = &refused[refused.len() - 42..];
+        let one = &refused[refused.len() - SECOND.row..];
         let parts: [(&[u8], &[u8], &[u16]); 5] = [
             (&bare, one, &[12]),
             (&fits, one, &[12]),

@@ -302,7 +302,7 @@ def register_table(measured, after, n, goal):
 
 def against_program(measured, many):
     print('## The register check against an ordinary Rust program\n')
-    print('2,048 rows and 256 groups, a row for each member. The program (`bench/register.rs`, `bench/check.rs`) does the '
+    print('2,048 rows and 256 groups, a row for each member. The program (`reference/register.rs`, `reference/check.rs`) does the '
           'whole check through the same bytes, sheet, refusals and reply among it, in two forms: `columns` turns the rows, 64 '
           'members by 64 groups at a time, into a column of bits for each group and takes the rules by columns; `walk` goes '
           'through the groups of each member, which is quicker where there are few. Ours is held to the quicker of both, '

@@ -1,5 +1,6 @@
 // Sheets and registers by chance, from one seed: most readable, with bounds near the counts, many broken at one place.
 
+use crate::limits::{Edition, COVER, DISJOINT, EDITIONS, NAMES, NO_END, ROWS, SAME};
 use crate::sheet;
 use std::sync::OnceLock;
 
@@ -31,28 +32,8 @@ impl Rng {
     }
 }
 
-// What an edition sets: most groups, most bytes of a label, kind of its rows and their membership bytes.
-pub struct Edition {
-    pub number: usize,
-    groups: usize,
-    label: usize,
-    row_kind: u16,
-    membership: usize,
-}
-
-pub const EDITIONS: [Edition; 2] = [
-    Edition { number: 1, groups: 128, label: 16, row_kind: 33, membership: 16 },
-    Edition { number: 2, groups: 256, label: 32, row_kind: 34, membership: 32 },
-];
-
-const DISJOINT: u16 = 1;
-const COVER: u16 = 2;
-const SAME: u16 = 4;
-const NAMES: usize = 128;
-const ROWS: usize = 2048;
-
 pub struct Pair {
-    pub edition: &'static Edition,
+    pub edition: Edition,
     pub groups: usize,
     pub rows: usize,
     pub members: Option<usize>, // none where the register is damaged
@@ -233,17 +214,17 @@ fn labels(rng: &mut Rng, most: usize, many: usize) -> Vec<Vec<u8>> {
     out
 }
 
-fn sheet_of(rng: &mut Rng, edition: &Edition, tree: &Tree, counts: &[usize]) -> Vec<u8> {
+fn sheet_of(rng: &mut Rng, edition: Edition, tree: &Tree, counts: &[usize]) -> Vec<u8> {
     let n = counts.len() - 1;
     let names = rng.pick(&[0, 0, 0, 1, 3, 8, 100, NAMES]);
     let claims = if names == 0 { 0 } else { rng.pick(&[0, 0, 1, 4, 64]) };
-    let mut out = record(1, &[edition.number as u16, n as u16, names as u16, claims]);
+    let mut out = record(1, &[edition.number, n as u16, names as u16, claims]);
     let (near, wrong) = (rng.below(4), if rng.chance(35) { edge(rng, n) } else { 0 });
     for g in 1..=n {
         let (mut lo, mut hi) = (counts[g].saturating_sub(rng.below(near)), counts[g] + rng.below(near));
         match rng.below(6) {
             0 => lo = 0,
-            1 => hi = 65535,
+            1 => hi = NO_END as usize,
             _ => {}
         }
         if g == wrong {
@@ -259,7 +240,7 @@ fn sheet_of(rng: &mut Rng, edition: &Edition, tree: &Tree, counts: &[usize]) -> 
         let mut name = || 1 + rng.below(names) as u16;
         let lists = [2, 1, name(), name(), name()];
         out.extend(match rng.below(4) {
-            0 => record(4, &[lists[2], 0, 65535]),
+            0 => record(4, &[lists[2], 0, NO_END]),
             kind => record(4 + kind as u16, &lists),
         });
     }
@@ -311,8 +292,8 @@ fn damage_sheet(rng: &mut Rng, bytes: &mut Vec<u8>) {
     }
 }
 
-fn damage_register(rng: &mut Rng, edition: &Edition, n: usize, bytes: &mut Vec<u8>) {
-    let row = 10 + edition.membership;
+fn damage_register(rng: &mut Rng, edition: Edition, n: usize, bytes: &mut Vec<u8>) {
+    let (row, most) = (edition.row, edition.groups as usize);
     let rows = bytes.len() / row;
     if rows == 0 {
         bytes.extend((0..rng.below(2 * row)).map(|i| i as u8));
@@ -337,8 +318,8 @@ fn damage_register(rng: &mut Rng, edition: &Edition, n: usize, bytes: &mut Vec<u
                 let number = rng.pick(&[0, 1, 2, 65536, u32::MAX]);
                 bytes[at + 4..at + 8].copy_from_slice(&number.to_le_bytes());
             }
-            7 if n < edition.groups => {
-                let bit = if rng.chance(50) { n } else { n + rng.below(edition.groups - n) };
+            7 if n < most => {
+                let bit = if rng.chance(50) { n } else { n + rng.below(most - n) };
                 bytes[at + 10 + bit / 8] |= 1 << (bit % 8);
             }
             _ => {
@@ -352,7 +333,7 @@ fn damage_register(rng: &mut Rng, edition: &Edition, n: usize, bytes: &mut Vec<u
 }
 
 // Each member's rows, in order: numbers rise, with one ear or both.
-fn rows_of(rng: &mut Rng, edition: &Edition, members: &[Groups], joined: usize) -> Vec<u8> {
+fn rows_of(rng: &mut Rng, edition: Edition, members: &[Groups], joined: usize) -> Vec<u8> {
     let mut out = Vec::new();
     let (mut number, mut side) = (0u32, 2);
     for (left, set) in (0..members.len()).rev().zip(members) {
@@ -369,7 +350,7 @@ fn rows_of(rng: &mut Rng, edition: &Edition, members: &[Groups], joined: usize) 
             // The last row has what is left, the others any part, which may come again.
             let here = if i == many { rest } else { set.map(|w| w & rng.next()) };
             (0..4).for_each(|k| if rng.chance(80) { rest[k] &= !here[k] });
-            out.extend((8 + edition.membership as u16).to_le_bytes());
+            out.extend(edition.row_length.to_le_bytes());
             out.extend(edition.row_kind.to_le_bytes());
             out.extend(number.to_le_bytes());
             out.extend(side.to_le_bytes());
@@ -380,12 +361,13 @@ fn rows_of(rng: &mut Rng, edition: &Edition, members: &[Groups], joined: usize) 
 }
 
 pub fn pair(rng: &mut Rng) -> Pair {
-    let edition = &EDITIONS[rng.below(2)];
+    let edition = rng.pick(&EDITIONS);
+    let most = edition.groups as usize;
     let n = match rng.below(10) {
         0..=5 => 1 + rng.below(10),
-        6 | 7 => 1 + rng.below(edition.groups),
-        8 => edition.groups,
-        _ => rng.pick(&[63, 64, 65, 127, 128, 129, 191, 192, 193, 255]).min(edition.groups),
+        6 | 7 => 1 + rng.below(most),
+        8 => most,
+        _ => rng.pick(&[63, 64, 65, 127, 128, 129, 191, 192, 193, 255]).min(most),
     };
     let tree = Tree::new(rng, n);
     let many = match rng.below(200) {
@@ -422,7 +404,7 @@ pub fn pair(rng: &mut Rng) -> Pair {
     let mut sheet = sheet_of(rng, edition, &tree, &counts);
     let joined = rng.pick(&[0, 0, 0, 10, 60]);
     let mut register = rows_of(rng, edition, &members, joined);
-    let rows = register.len() / (10 + edition.membership);
+    let rows = register.len() / edition.row;
     let mut known = Some(many);
     if rng.chance(20) {
         damage_sheet(rng, &mut sheet);
@@ -431,7 +413,7 @@ pub fn pair(rng: &mut Rng) -> Pair {
     if rng.chance(25) {
         // Rows of the other edition at times.
         if rng.chance(5) {
-            register = rows_of(rng, &EDITIONS[2 - edition.number], &members, joined);
+            register = rows_of(rng, EDITIONS[2 - edition.number as usize], &members, joined);
         } else {
             damage_register(rng, edition, n, &mut register);
         }

@@ -1,30 +1,28 @@
-// Holds the library's register check to the ordinary Rust program (bench/register.rs, both of its forms) on registers by
+// Holds the library's register check to the ordinary Rust program (reference/register.rs, both of its forms) on registers by
 // chance: the same number returned, the same bytes in two buffers that began alike, behind the reply and the buffer too.
 //
 //   agree [--seed N] [--pairs N] [--only I]     I is one pair's number from a report
 //   agree --self-test                           each of some forms that are wrong on purpose must be noticed
 
-#[path = "../../bench/register.rs"]
+#[path = "../rust/library.rs"]
+mod library;
+#[path = "../rust/limits.rs"]
+mod limits;
+#[path = "../../reference/register.rs"]
 mod register;
 #[allow(dead_code)] // what ranges and claims alone want
-#[path = "../../bench/sheet.rs"]
+#[path = "../../reference/sheet.rs"]
 mod sheet;
 
 mod draw;
 
-use draw::{Pair, Rng, EDITIONS};
+use draw::{Pair, Rng};
+use library::register as ours;
+use limits::{EDITIONS, FIRST, ROWS, SECOND};
 use std::collections::BTreeMap;
 use std::process::exit;
 
-extern "C" {
-    fn sheet_register(s: *const u8, sl: usize, reg: *const u8, gl: usize, reply: *mut u8, rl: usize) -> u64;
-}
-
 type Check = fn(&[u8], &[u8], &mut [u8]) -> u64;
-
-fn ours(s: &[u8], g: &[u8], r: &mut [u8]) -> u64 {
-    unsafe { sheet_register(s.as_ptr(), s.len(), g.as_ptr(), g.len(), r.as_mut_ptr(), r.len()) }
-}
 
 const BEHIND: usize = 8; // bytes behind the buffer
 
@@ -45,7 +43,7 @@ fn halves(said: u64) -> (u32, u32) {
 
 // What a run met, by edition: how often.
 #[derive(Default)]
-struct Met(BTreeMap<(usize, &'static str, usize), u64>);
+struct Met(BTreeMap<(u16, &'static str, usize), u64>);
 
 impl Met {
     fn one(&mut self, pair: &Pair, what: &'static str, n: usize) {
@@ -88,6 +86,11 @@ impl Met {
     }
 }
 
+// Bytes of a row under a sheet.
+fn row_of(s: &[u8]) -> usize {
+    if sheet::wide(s) { SECOND.row } else { FIRST.row }
+}
+
 // Wrong on purpose, each over the right one.
 const SPOILT: [(&str, Check); 10] = [
     ("every register fits", |s, g, r| {
@@ -123,7 +126,7 @@ const SPOILT: [(&str, Check); 10] = [
         if said == 8 && r.len() == 7 { said } else { register::check(s, g, r) }
     }),
     ("the last row is passed over", |s, g, r| {
-        let row = if sheet::wide(s) { 42 } else { 26 };
+        let row = row_of(s);
         register::check(s, if g.len() % row == 0 { &g[..g.len().saturating_sub(row)] } else { g }, r)
     }),
     ("the row of a refusal counts from 0", |s, g, r| {
@@ -131,16 +134,14 @@ const SPOILT: [(&str, Check); 10] = [
         if (10..=13).contains(&(said >> 32)) { said - 1 } else { said }
     }),
     ("rows of 2,048 members are not read", |s, g, r| {
-        let row = if sheet::wide(s) { 42 } else { 26 };
-        if g.len() == 2048 * row { register::check(s, &[], r) } else { register::check(s, g, r) }
+        if g.len() == ROWS * row_of(s) { register::check(s, &[], r) } else { register::check(s, g, r) }
     }),
     ("12 is given for 15", |s, g, r| {
         let said = register::check(s, g, r);
         if said >> 32 == 15 { said - (3 << 32) } else { said }
     }),
     ("a cut row is passed over", |s, g, r| {
-        let row = if sheet::wide(s) { 42 } else { 26 };
-        register::check(s, &g[..g.len() - g.len() % row], r)
+        register::check(s, &g[..g.len() - g.len() % row_of(s)], r)
     }),
 ];
 

@@ -1,4 +1,4 @@
-// The three symbols over bench/engine.rs and bench/register.rs: a library in ordinary Rust, to be spoilt on purpose. A register
+// The three symbols over engine.rs and register.rs of reference/: a library in ordinary Rust, to be spoilt on purpose. A register
 // is checked in both of its ways; where they differ the answer is a number that no register has.
 mod engine;
 mod register;

@@ -11,54 +11,18 @@
 mod format;
 mod gen;
 mod large;
+#[path = "../rust/library.rs"]
+mod library;
 mod selftest;
 mod small;
 
 use format::*;
 use gen::Rng;
 use large::{arrangement, Large};
+use library::Ask;
 use small::Small;
 use std::collections::BTreeMap;
 use std::process::exit;
-
-extern "C" {
-    fn sheet_ranges(sheet: *const u8, sheet_len: usize, reply: *mut u8, reply_len: usize) -> u64;
-    fn sheet_claim(
-        sheet: *const u8,
-        sheet_len: usize,
-        claim: u32,
-        reply: *mut u8,
-        reply_len: usize,
-    ) -> u64;
-    fn sheet_register(
-        sheet: *const u8,
-        sheet_len: usize,
-        reg: *const u8,
-        reg_len: usize,
-        reply: *mut u8,
-        reply_len: usize,
-    ) -> u64;
-}
-
-enum Ask<'a> {
-    Ranges,
-    Claim(u32),
-    Register(&'a [u8]),
-}
-
-fn pointer(b: &[u8]) -> *const u8 {
-    if b.is_empty() { std::ptr::null() } else { b.as_ptr() }
-}
-
-fn call(ask: &Ask, sheet: &[u8], reply: *mut u8, len: usize) -> u64 {
-    match ask {
-        Ask::Ranges => unsafe { sheet_ranges(pointer(sheet), sheet.len(), reply, len) },
-        Ask::Claim(n) => unsafe { sheet_claim(pointer(sheet), sheet.len(), *n, reply, len) },
-        Ask::Register(reg) => unsafe {
-            sheet_register(pointer(sheet), sheet.len(), pointer(reg), reg.len(), reply, len)
-        },
-    }
-}
 
 // What must come back: a refusal, these bytes, or a verdict on this claim with sets.
 enum Want<'a> {
@@ -136,13 +100,9 @@ impl Run {
         let salt = (self.calls % 251) as usize;
         let pattern = |i: usize| (i * 37 + salt) as u8;
         let mut buffer: Vec<u8> = (0..len + 2 * GUARD).map(pattern).collect();
-        let reply = if len == 0 && salt % 2 == 0 {
-            std::ptr::null_mut()
-        } else {
-            unsafe { buffer.as_mut_ptr().add(GUARD) }
-        };
+        let reply = if len == 0 && salt % 2 == 0 { None } else { Some(&mut buffer[GUARD..GUARD + len]) };
         let lent: Box<[u8]> = sheet.into();
-        let got = call(ask, &lent, reply, len);
+        let got = ask.call(&lent, reply);
         if *lent != *sheet {
             self.fail(sheet, ask, len, "the sheet's own bytes were changed");
         }
