@@ -56,16 +56,29 @@ enum {
 /* In a reply of sheet_ranges, for a greatest count that doesn't exist. */
 #define SHEET_NO_GREATEST UINT32_C(4294967295)
 
-/* Kinds of records. */
+/* Kinds of records. A sheet is one head, G groups, S names and Q claims (kinds 4 to 7 in any order),
+   in this order, and no byte after them. Groups, names and claims are numbered from 1, each by
+   themselves, and records from 1 with the head. A parent and the group of a name are numbers of
+   groups; a claim has numbers of names, 1 to S.
+   - Group 1 is the root and has parent 0; the parent of any other group is from 1 to its own number
+     less one.
+   - lo above hi can be read: no sets fit such a group, and such a count is denied.
+   - A label is made of the bytes A to Z, 0 to 9 and hyphen. No two labels are equal; several names
+     may mean one group.
+   - The set of a name is its group's set, or the empty set where the group is 0. */
 enum sheet_kind {
     SHEET_KIND_HEAD = 1,    /* L = 10: edition, groups G, names S, claims Q; two bytes each */
     SHEET_KIND_GROUP = 2,   /* L = 10: parent, lo, hi, mode; two bytes each */
-    SHEET_KIND_NAME = 3,    /* L = 5 to 20, in edition 2 to 36: group (0: the empty set), label of
-                               1 to 16 bytes, in edition 2 to 32 */
-    SHEET_KIND_COUNT = 4,   /* L = 8: name, lo, hi; two bytes each */
-    SHEET_KIND_INSIDE = 5,  /* L = 6 + 2(m + n): m, n, m left names, n right names */
-    SHEET_KIND_APART = 6,   /* the same */
-    SHEET_KIND_PLACE = 7,   /* the same */
+    SHEET_KIND_NAME = 3,    /* L = 5 to 20, in edition 2 to 36: group (two bytes, 0: the empty set),
+                               label of 1 to 16 bytes, in edition 2 to 32 */
+    SHEET_KIND_COUNT = 4,   /* L = 8: name, lo, hi; two bytes each. The set has lo to hi members */
+    SHEET_KIND_INSIDE = 5,  /* L = 6 + 2(m + n): m, n, m left names, n right names; two bytes each.
+                               The union of the left sets is part of the union of the right sets */
+    SHEET_KIND_APART = 6,   /* the same fields. The union of the left sets and the union of the right
+                               sets share nobody */
+    SHEET_KIND_PLACE = 7,   /* the same fields. Somebody can be in all left sets at once and in no
+                               right set; to exclude nobody, give a name of the empty set on the
+                               right, since no list has 0 names */
     SHEET_KIND_RANGE = 17,  /* reply, L = 18: least, greatest, first, count; four bytes each */
     SHEET_KIND_VERDICT = 18,/* reply, L = 4: verdict, two bytes */
     SHEET_KIND_SHOWN = 19,  /* reply, L = 12: first, count (four bytes each), mark (two bytes) */
@@ -75,11 +88,14 @@ enum sheet_kind {
     SHEET_KIND_ROW_2 = 34   /* register, L = 40: the same with 32 bytes of membership */
 };
 
-/* A group's mode is a sum of these. */
+/* A group's mode is a sum of these, about its sons, the groups whose parent it is. Sets fit a sheet
+   when every group is part of its parent, has lo to hi members and is as its mode says. */
 enum sheet_mode {
-    SHEET_DISJOINT = 1,
-    SHEET_COVER = 2,
-    SHEET_SAME = 4
+    SHEET_DISJOINT = 1, /* no two sons share a member */
+    SHEET_COVER = 2,    /* every member is in some son: without sons the group is empty */
+    SHEET_SAME = 4      /* every son equals the group: to divide a group twice, give it two such sons
+                           and divide each of them; with SHEET_DISJOINT over two or more sons, group
+                           and sons are empty */
 };
 
 /* The side of a row's member: which ear. */
@@ -94,12 +110,16 @@ enum sheet_refusal {
     SHEET_CUT = 1,               /* fewer than four bytes or than the length asks remain, or the
                                     length is below 2 [the record] */
     SHEET_WRONG_KIND = 2,        /* the kind is not one for this place [the record] */
-    SHEET_WRONG_LENGTH = 3,      /* the length is not that kind's (for a name, in this edition)
-                                    [the record] */
-    SHEET_FIELD_RANGE = 4,       /* a field outside its range (for G, in this edition), an edition
-                                    other than 1 and 2, or m and n don't give the length
-                                    [the record] */
-    SHEET_BAD_REFERENCE = 5,     /* a parent, group or name number not allowed there [the record] */
+    SHEET_WRONG_LENGTH = 3,      /* the length is not that kind's [the record]. Head, group: not 10.
+                                    Name: not 5 to 20, in edition 2 not 5 to 36. Count: not 8.
+                                    Kinds 5 to 7: odd, or not 10 to 38 */
+    SHEET_FIELD_RANGE = 4,       /* a field outside its range [the record]. Head: edition not 1 or 2,
+                                    G 0 or above this edition's, S or Q above the limit. Group: lo
+                                    65,535, mode above 7. Name: a byte of the label. Count: lo
+                                    65,535. Kinds 5 to 7: m or n not 1 to 8, or 6 + 2(m + n) not
+                                    the length */
+    SHEET_BAD_REFERENCE = 5,     /* a number not allowed there [the record]. Group: the parent. Name:
+                                    a group above G. Kinds 4 to 7: a name that is 0 or above S */
     SHEET_LABEL_TWICE = 6,       /* a label was used before [the record] */
     SHEET_TRAILING = 7,          /* bytes follow the last record [G + S + Q + 2] */
     SHEET_IMPOSSIBLE = 8,        /* no finite sets fit [0]; ranges and claim only */
