@@ -1,6 +1,6 @@
 -- `give_verdict` meets its contract: a verdict with sets that answer the claim, or alone where none do.
 use Prim.Native.Nat.{_+_, _*_}
-use mathlib.Core.Path.{sym, ap}
+use mathlib.Core.Path.{refl, sym, ap, subst}
 use denote.Ref.{now}
 use lib.ListN.{length-replicate}
 use Rattle.wire.specs.Limits.{verdictBytes, shownBytes}
@@ -8,6 +8,7 @@ use Rattle.claim_records.specs.ClaimHeld.{claimRecord}
 use Rattle.tables.proofs.SheetInLaws.{size-in}
 use Rattle.claims.specs.Named.{claimMeant}
 use Rattle.claims.proofs.NamedLaws.{asked-speaks}
+use Rattle.replies.specs.Shown.{VerdictIn}
 use Rattle.replies.proofs.ReplyLaws.{room-said}
 use Rattle.claims.specs.Decided.{decisionShows}
 use Rattle.claim_reply.proofs.Answering.{answering-verdict}
@@ -70,7 +71,7 @@ returns c =
     let v = rw told at (w .verdict) in
     answering-verdict (claimMeant (now (a .names)) (claimRecord (now (a .sheet)) (a .c))) (record {
       shown = λ h. absurd (w .alone (ap decisionShows told) h);
-      alone = λ h. rw v at (c .before .before .give-alone .ensures);
+      alone = λ h. room-said refl (λ out. subst (λ k. VerdictIn k out) v) (c .before .before .give-alone .ensures);
     })
 
 same-length-3 : tie.Need-same-length-3
@@ -89,9 +90,10 @@ returns-2 c =
     let w = dec .decide .ensures .0 in
     let v = rw told at (w .verdict) in
     let y = w .shown (ap decisionShows told) in
+    let known = asked-speaks (now (a .sheet)) (a .c) (s .pre .1) in
     answering-verdict (claimMeant (now (a .names)) (claimRecord (now (a .sheet)) (a .c))) (record {
       shown = λ h. room-said (ap (λ m. verdictBytes + shownBytes * m) (sym size))
-          (λ out p. sets-in (s .pre .0 .tree) size (s .pre .0 .some) (asked-speaks (now (a .sheet)) (a .c) (s .pre .1)) y (rw v at (p .0)) (p .1))
+          (λ out p. sets-in (s .pre .0 .tree) size (s .pre .0 .some) known y (subst (λ k. VerdictIn k out) v (p .0)) (p .1))
           (c .before .before .give-shown .ensures);
       alone = λ h. absurd (h (shows-witness y));
     })
