@@ -1,6 +1,8 @@
-// Replies: the records of kinds 17 to 20, written into the lent buffer, and the pair that a call returns (`pairs`).
-// Each writer says what is read back from its bytes, and that no other byte changes. `specs/Reply` has the refusals and their
-// order, for the contract of every operation. Document 01, "Replies" and "Turned back, in checking order".
+// Replies: the records of kinds 17 to 20, written into the lent buffer, the pair that a call returns and its refusal (`pairs`), and the verdict's
+// number (`verdict`). Each writer (`put_..`) says what is read back from its bytes (`specs/Written`), and that no other byte changes
+// (`specs/Wrote`); `give_..` writes a whole reply, or refuses a buffer with no room for it. `specs/Reply` has the refusals and their order, for the
+// contract of every operation, `specs/Shown` a verdict with sets, `specs/Alike` what two buffers share. Document 01, "Replies" and "Turned back, in
+// checking order".
 pub mod pairs;
 pub mod verdict;
 
