@@ -2,3 +2,4 @@ pub mod Cases
 pub mod SumLaws
 pub mod Digits
 pub mod TabulateLaws
+pub mod SetsLaws

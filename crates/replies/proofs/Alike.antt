@@ -1,10 +1,10 @@
 -- Laws of bytes that two buffers have alike: a field settles its bytes, and the records of a reply settle the reply.
 use Prim.Native.Nat.{ℕ, _+_, _≤_, zero, suc, _-_, _*_}
-use mathlib.Core.Path.{_≡_}
+use mathlib.Core.Path.{_≡_, sym, ap, _∙_}
 use mathlib.Core.List.{List}
 use native.Mathlib.Omega.{arith}
-use lib.ListN.{length, drop, getD}
-use lib.Seq.{getD-drop, ext-getD}
+use lib.ListN.{length, take, drop, getD}
+use lib.Seq.{getD-take, getD-drop, ext-getD}
 use Rattle.laws.proofs.Cases.{compare-le}
 use Rattle.wire.specs.Bytes.{u16At, u32At}
 use Rattle.wire.specs.Encoding.{Bytes}
@@ -31,6 +31,11 @@ alike-all {b} {c} {n} e p q =
     (λ h. let s : i ≡ n + (i - n) = omega arith in
     rw (s, ← getD-drop n b (i - n) 0, ← getD-drop n c (i - n) 0, q))
     (λ h. p .at i (omega arith) (omega arith)))
+
+-- the same n bytes at the front
+pub alike-taken : {b c : List ℕ} {n : ℕ} → take n b ≡ take n c → Alike b c 0 n
+alike-taken {b} {c} {n} e =
+    record { at = λ j l k. sym (getD-take n b j 0 (omega arith)) ∙ ap (λ (z : List ℕ). getD z j 0) e ∙ getD-take n c j 0 (omega arith) }
 
 byte-alike : {b c : List ℕ} (i : ℕ) → getD b i 0 ≡ getD c i 0 → Alike b c i 1
 byte-alike i e = record { at = λ j l k. let s : j ≡ i = omega arith in rw (s, e) }

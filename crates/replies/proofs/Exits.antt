@@ -13,10 +13,10 @@ use Rattle.wire.specs.Encoding.{Bytes}
 use Rattle.meaning.specs.Sheet.{Sheet}
 use Rattle.meaning.specs.Sets.{Sets}
 use Rattle.meaning.specs.Fits.{Possible}
-use Rattle.replies.specs.Reply.{call, Refused, Replied, OnceRead, OncePossible, OnceRoom}
+use Rattle.replies.specs.Reply.{call, Refused, Replied, OnceRead, OncePossible, OnceRoom, OnceBytes}
 use Rattle.replies.specs.Shown.{VerdictIn, shownAt, SetsIn}
 use Rattle.replies.specs.Alike.{Alike, shownReplyBytes, SameButSets}
-use Rattle.replies.proofs.Alike.{alike-all, alike-then, u16-alike}
+use Rattle.replies.proofs.Alike.{alike-all, alike-taken, alike-then, u16-alike}
 
 -- E is what is claimed of the two exits, and holds where they are the same.
 module _ {before after after' : List ℕ} {r r' : ℕ} {E : Type 0} (same : (r ≡ r') × (after ≡ after') → E) where
@@ -45,6 +45,11 @@ pub replied-alike : {before after after' : List ℕ} {r r' n : ℕ} → Replied 
     → Alike after after' 0 n → (r ≡ r') × (after ≡ after')
 replied-alike v w a =
     (v .returned ∙ sym (w .returned), alike-all (v .sized ∙ sym (w .sized)) a (v .rest ∙ sym (w .rest)))
+
+-- Replies that are certain bytes: two exits that meet it are the same, the number returned and every byte.
+pub once-bytes : {bytes before after after' : List ℕ} {r r' : ℕ} → OnceBytes bytes (call before r after) → OnceBytes bytes (call before r' after')
+    → (r ≡ r') × (after ≡ after')
+once-bytes v w = once-room (λ z. z) v w (λ a b m n. replied-alike a b (alike-taken (m ∙ sym n)))
 
 -- Claims.
 pub verdict-alike : {o : Verdict} {out out' : List ℕ} → Bytes out → Bytes out' → VerdictIn o out → VerdictIn o out'

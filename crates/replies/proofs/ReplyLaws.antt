@@ -3,13 +3,15 @@ use Prim.Native.Nat.{ℕ, _≤_, _<_}
 use mathlib.Core.Path.{_≡_, subst}
 use mathlib.Core.List.{List}
 use native.Mathlib.Omega.{arith}
-use lib.ListN.{length}
+use lib.ListN.{length, drop}
+use lib.Seq.{sets, take-append-seam}
+use Rattle.laws.proofs.SetsLaws.{sets-front}
 use Rattle.wire.specs.Record.{Reading, read, refused}
 use Rattle.meaning.specs.Sheet.{Sheet}
 use Rattle.meaning.specs.Fits.{Possible}
-use Rattle.replies.specs.Reply.{Call, call, packed, Refused, Replied, OnceRead, OncePossible, OnceRoom}
+use Rattle.replies.specs.Reply.{Call, call, packed, Refused, Replied, OnceRead, OncePossible, OnceRoom, OnceBytes}
 use Rattle.replies.specs.Wrote.{Wrote}
-use Rattle.replies.proofs.WroteLaws.{rest-kept}
+use Rattle.replies.proofs.WroteLaws.{rest-kept, wrote-sets}
 
 -- a reading is one of the two, and of one value
 pub read-once : {A : Type 0} {x : Reading A} {d e : A} → x ≡ read d → x ≡ read e → d ≡ e
@@ -61,3 +63,10 @@ room-said e more w = record {
 -- one write from the front on
 pub written : {l m : List ℕ} {r n : ℕ} → Wrote l 0 n m → r ≡ packed 0 n → Replied n (call l r m)
 written {n = n} w p = record { returned = p; sized = w .sized; rest = rest-kept w n (omega arith) }
+
+-- a reply that is these bytes, stored from the front on
+pub once-stored : (bytes : List ℕ) {before after : List ℕ} {r : ℕ} → length bytes ≤ length before → after ≡ sets before 0 bytes
+    → r ≡ packed 0 (length bytes) → OnceBytes bytes (call before r after)
+once-stored bytes {before} h e p =
+    once-replied h (written (rw e (wrote-sets bytes before 0)) p)
+    (rw (e, sets-front bytes before h) (take-append-seam bytes (drop (length bytes) before)))

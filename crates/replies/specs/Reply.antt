@@ -4,7 +4,7 @@
 use Prim.Native.Nat.{ℕ, _+_, _*_, _≤_, _<_}
 use mathlib.Core.Path.{_≡_}
 use mathlib.Core.List.{List}
-use lib.ListN.{length, drop}
+use lib.ListN.{length, take, drop}
 use Rattle.wire.specs.Record.{Reading, read, refused}
 use Rattle.wire.specs.SheetFormat.{Records, readSheet}
 use Rattle.meaning.specs.Sheet.{Sheet}
@@ -34,7 +34,8 @@ pub record Replied (n : ℕ) (c : Call) : Type 0 where
   pub sized : length (c .after) ≡ length (c .before)
   pub rest : drop n (c .after) ≡ drop n (c .before)
 
--- 1 to 7 for a sheet, 10 to 13 and 15 for a register: what is turned back is refused so, and what is read goes on
+-- 1 to 7 for a sheet, 16 and 17 for its way to an edition, 10 to 13 and 15 for a register: what is turned back is refused so, and
+-- what is read goes on
 pub record OnceRead {A : Type 0} (x : Reading A) (c : Call) (P : A → Type 0) : Type 0 where
   pub turned : (n k : ℕ) → x ≡ refused n k → Refused n k c
   pub passed : (d : A) → x ≡ read d → P d
@@ -52,3 +53,7 @@ pub record OncePossible (s : Sheet) (c : Call) (P : Type 0) : Type 0 where
 pub record OnceRoom (n : ℕ) (c : Call) (P : List ℕ → Type 0) : Type 0 where
   pub short : length (c .before) < n → Refused 14 0 c
   pub replied : n ≤ length (c .before) → Replied n c × P (c .after)
+
+-- a reply that is these bytes and no others, where the buffer has room for them
+abbrev pub OnceBytes : List ℕ → Call → Type 0
+OnceBytes bytes c = OnceRoom (length bytes) c (λ out. take (length bytes) out ≡ bytes)

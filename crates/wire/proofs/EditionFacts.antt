@@ -41,6 +41,12 @@ unfolding groupLimit
 groups-within edition1 = omega arith
 groups-within edition2 = omega arith
 
+-- edition 2 has the limits of both
+pub second-most : (e : Edition) → (groupLimit e ≤ groupLimit edition2) × (labelLimit e ≤ labelLimit edition2)
+unfolding groupLimit labelLimit
+second-most edition1 = (omega arith, omega arith)
+second-most edition2 = (omega arith, omega arith)
+
 -- every edition takes a root with a son
 pub groups-many : (e : Edition) → 2 ≤ groupLimit e
 unfolding groupLimit

@@ -38,6 +38,17 @@ pub u32-halves : (b : List ℕ) (i : ℕ) → u32At b i ≡ u16At b i + 65536 * 
 unfolding u16At u32At
 u32-halves b i = let e : i + 2 + 1 ≡ i + 3 = omega arith in rw e (omega arith)
 
+pub le32-halves : (x y : ℕ) → x ≤ noEnd → le32 (x + 65536 * y) ≡ le16 x ++ le16 y
+unfolding le16 le32
+le32-halves x y l =
+    let z = x + 65536 * y in
+    let first : z % 256 ≡ x % 256 = omega arith in
+    let rest : z / 256 ≡ x / 256 + 256 * y = omega arith in
+    let second : (x / 256 + 256 * y) % 256 ≡ x / 256 % 256 = omega arith in
+    let third : z / 65536 ≡ y = omega arith in
+    let fourth : z / 16777216 ≡ y / 256 = omega (arith, div-div-eq-div-mul z 65536 256) in
+    rw (first, rest, second, third, fourth)
+
 -- reading what was written
 pub u16-le16 : (x : ℕ) (c : List ℕ) → x ≤ noEnd → u16At (le16 x ++ c) 0 ≡ x
 unfolding u16At le16
@@ -59,6 +70,12 @@ u32-le32 x c h =
 pub length-le16 : (x : ℕ) (c : List ℕ) → length (le16 x ++ c) ≡ 2 + length c
 unfolding le16
 length-le16 x c = omega arith
+
+-- the bytes of items one behind another
+pub flat-append : {A : Type 0} (f : A → List ℕ) (xs ys : List A) → flatMap f (xs ++ ys) ≡ flatMap f xs ++ flatMap f ys
+unfolding flatMap
+flat-append f [] ys = refl
+flat-append f (x ∷ xs) ys = rw (flat-append f xs ys, append-assoc)
 
 pub length-le16s : (xs : List ℕ) → length (flatMap le16 xs) ≡ 2 * length xs
 unfolding flatMap
@@ -101,7 +118,7 @@ drop-le16s b k i (suc n) l =
     let same : i + 2 * suc n ≡ i + 2 + 2 * n = omega arith in
     rw (append-assoc, same, drop-le16s b k (i + 2) n (omega arith)) (drop-le16 b k i (omega arith))
 
-four-bytes : (p q r s x : ℕ) → p < 256 → q < 256 → r < 256 → s < 256 → x ≡ p + 256 * (q + 256 * (r + 256 * s))
+pub four-bytes : (p q r s x : ℕ) → p < 256 → q < 256 → r < 256 → s < 256 → x ≡ p + 256 * (q + 256 * (r + 256 * s))
     → (x % 256 ≡ p) × (x / 256 % 256 ≡ q) × (x / 65536 % 256 ≡ r) × (x / 16777216 % 256 ≡ s)
 four-bytes p q r s x hp hq hr hs e =
     let one = low-byte p (q + 256 * (r + 256 * s)) hp in

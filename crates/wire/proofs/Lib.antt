@@ -14,3 +14,4 @@ pub mod RoundTripSheet
 pub mod MemberKeyLaws
 pub mod RowFacts
 pub mod Longest
+pub mod ConversionLaws

@@ -2,7 +2,7 @@
 -- the sort: its tests, the value of a record, the encoding of a value.
 use Prim.Native.Nat.{ℕ, _+_, _≤_, _<_, zero, suc, _*_}
 use mathlib.Core.Path.{_≡_, refl, sym, subst, ap, _∙_}
-use mathlib.Core.List.{List, [], _∷_, _++_, append-assoc, append-nil, flatMap}
+use mathlib.Core.List.{List, [], _∷_, _++_, append-assoc, append-nil, flatMap, map, map-append}
 use native.Mathlib.Omega.{arith}
 use native.Mathlib.Nat.{add-zero}
 use lib.ListN.{length, length-append, take, getD, length-drop}
@@ -31,6 +31,17 @@ pub each-both : {A : Type 0} {P Q : List A → A → Type 0} {xs ys : List A} �
     → Each (λ us y. P us y × Q us y) xs ys
 each-both none none = none
 each-both (more p e) (more q f) = more (p, q) (each-both e f)
+
+-- and where each that is right is right in another way, or its value by a function is
+pub each-so : {A : Type 0} {P Q : List A → A → Type 0} → ((us : List A) (y : A) → P us y → Q us y) → {xs ys : List A} → Each P xs ys → Each Q xs ys
+each-so so none = none
+each-so so (more {xs} {ys} {y} p e) = more (so xs y p) (each-so so e)
+
+pub each-map : {A B : Type 0} {P : List A → A → Type 0} {Q : List B → B → Type 0} (h : A → B)
+    → ((us : List A) (y : A) → P us y → Q (map h us) (h y)) → {xs ys : List A} → Each P xs ys → Each Q (map h xs) (map h ys)
+each-map h so none = none
+each-map {Q = Q} h so (more {xs} {ys} {y} p e) =
+    more (so xs y p) (subst (λ us. Each Q us (map h ys)) (map-append h xs (y ∷ [])) (each-map h so e))
 
 -- fewer than n items stand before each of at most n
 pub each-short : {A : Type 0} (n : ℕ) (xs ys : List A) → length xs + length ys ≤ n → Each (λ us y. length us < n) xs ys

@@ -13,11 +13,11 @@ use Rattle.wire.specs.Limits.{rowLimit, noEnd}
 use Rattle.wire.specs.Edition.{Edition, rowKind, rowBytes, membershipBytes, rowLength, rowHead}
 use Rattle.wire.specs.Member.{sideNumber, isSide, precedes}
 use Rattle.wire.specs.Bytes.{u16At, le16}
-use Rattle.wire.specs.Record.{test, lengthOf, kindOf, Test, after, read}
+use Rattle.wire.specs.Record.{test, lengthOf, kindOf, Test, refusal, after, read}
 use Rattle.wire.specs.RegisterFormat.{Row, lastMember, rowTests, rowOf, sideField, memberOf, readRows, readRegister}
 use Rattle.wire.specs.Encoding.{Bytes, Each, RowRight, none, more, RowFits, RowsWithin, encodeRecord, memberBytes, encodeRow, encodeRegister}
 use Rattle.wire.proofs.EditionFacts.{row-parts, row-kind-fits, row-length-fits}
-use Rattle.wire.proofs.Passing.{Nonzero, Pass, onward-passed, onward-read}
+use Rattle.wire.proofs.Passing.{Nonzero, Pass, onward-passed, onward-read, Positive, onward-positive}
 use Rattle.wire.proofs.Many.{Reads, stop, go, reads-same, empty-of-length, each-both, each-read, encode-reads}
 use Rattle.wire.proofs.Facts.{bytes-drop, bytes-after}
 use Rattle.wire.proofs.Fields.{encode-read, length-encoded, kind-encoded, length-record}
@@ -32,7 +32,7 @@ record RowFrame (e : Edition) (b : List ℕ) : Type 0 where
   pub size : lengthOf b + 2 ≡ rowBytes e
   pub kind : kindOf b ≡ rowKind e
 
-bytes-take : (n : ℕ) (b : List ℕ) → Bytes b → Bytes (take n b)
+pub bytes-take : (n : ℕ) (b : List ℕ) → Bytes b → Bytes (take n b)
 bytes-take zero b k i = omega arith
 bytes-take (suc n) [] k i = omega arith
 bytes-take (suc n) (x ∷ b) k zero = k zero
@@ -183,6 +183,18 @@ module _ (e : Edition) (groups : ℕ) where
       let s = onward-read (testsAfter e groups rs b) (row-nonzero rs b) _ _ qs (rw t at x) in
       rows-more left rs b qs (s .0)
       (rows-read left (rs ++ (rowOf e b ∷ [])) (after b) qs (rw (after-row rs b (s .0)) at (s .1))))
+
+  -- no register is refused with the number 0
+  rows-positive : (left : ℕ) (rs : List Row) (b : List ℕ) → Positive (readRows e groups left rs b)
+  unfolding readRows
+  rows-positive zero rs b = onward-positive (refusal (test 10 (eqb (length b) 0) ∷ [])) (length rs + 1) (read rs) tt
+  rows-positive (suc left) rs b =
+      split (eqb (length b) 0) (λ t. rw t tt)
+      (λ t. rw t (onward-positive (refusal (testsAfter e groups rs b)) (length rs + 1) _ (rows-positive left _ (drop (rowBytes e) b))))
+
+  pub register-positive : (b : List ℕ) → Positive (readRegister e groups b)
+  unfolding readRegister
+  register-positive b = rows-positive rowLimit [] b
 
   rows-encoded : (left : ℕ) {rs ys : List Row} → Each (λ us y. RowRight e groups us y × RowFits y) rs ys → length ys ≤ left
       → readRows e groups left rs (flatMap (encodeRow e) ys) ≡ read (rs ++ ys)

@@ -8,4 +8,5 @@ pub mod Record
 pub mod SheetFormat
 pub mod RegisterFormat
 pub mod Encoding
+pub mod Conversion
 pub mod MemberKey

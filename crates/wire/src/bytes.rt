@@ -4,7 +4,7 @@ ghost use Prim.Native.Nat.{_+_, _*_, _<_};
 ghost use lib.ListN.{length};
 ghost use lib.Seq.{sets};
 ghost use Rattle.wire.specs.Bytes.{u16At, u32At, le16, le32};
-ghost use Rattle.wire.specs.U64.{u64At};
+ghost use Rattle.wire.specs.U64.{u64At, le64};
 
 // a byte and the one above it
 fn pair(low: u8, high: u8) -> u16
@@ -64,4 +64,12 @@ pub fn put_u32(out: &mut [u8], at: usize, x: u32)
     out[at + 1] = (x / 256 % 256) as u8;
     out[at + 2] = (x / 65536 % 256) as u8;
     out[at + 3] = (x / 16777216 % 256) as u8;
+}
+
+pub fn put_u64(out: &mut [u8], at: usize, x: u64)
+    requires { ⌜ at + 7 < length (now out) ⌝ }
+    ensures { λ _. ⌜ now (out .exit) ≡ sets (now (out .entry)) at (le64 x) ⌝ }
+{
+    put_u32(out, at, (x % 4294967296) as u32);
+    put_u32(out, at + 4, (x / 4294967296) as u32);
 }

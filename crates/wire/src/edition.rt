@@ -3,9 +3,9 @@ ghost use mathlib.Core.Path.{_≡_};
 ghost use lib.Dec.{eqb};
 ghost use Rattle.wire.specs.Edition.{editionNumber, editionOf, groupLimit, labelLimit, rowKind, rowLength};
 
-const EDITION_1: u16 = 1;
+pub const EDITION_1: u16 = 1;
 
-const EDITION_2: u16 = 2;
+pub const EDITION_2: u16 = 2;
 
 // whether an edition has the number
 pub fn is_edition(edition: u16) -> bool

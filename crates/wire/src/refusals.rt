@@ -1,4 +1,4 @@
-// The refusals by name: document 01, "Turned back, in checking order"; document 02, card 4 (15). `tests/header` holds them to the header.
+// The refusals by name: document 01, "Turned back, in checking order"; document 02, cards 4 (15) and 6 (16, 17). `tests/header` holds them to the header.
 pub const CUT: u32 = 1;
 
 pub const WRONG_KIND: u32 = 2;
@@ -12,6 +12,10 @@ pub const BAD_REFERENCE: u32 = 5;
 pub const LABEL_TWICE: u32 = 6;
 
 pub const TRAILING: u32 = 7;
+
+pub const MANY_GROUPS: u32 = 16;
+
+pub const LONG_LABEL: u32 = 17;
 
 pub const IMPOSSIBLE: u32 = 8;
 
