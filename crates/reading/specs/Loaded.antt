@@ -13,6 +13,7 @@ use Rattle.wire.specs.SheetFormat.{HeadRecord, nameOf, Records, readMany, nameT
 use Rattle.meaning.specs.OfRecords.{nameGroup}
 use Rattle.tables.specs.Groups.{groupFields, groupsIn}
 use Rattle.tables.specs.RecordsIn.{recordsIn}
+use Rattle.labels.specs.WholeName.{WholeName}
 use Rattle.claim_records.specs.ClaimHeld.{ClaimHeld}
 use Rattle.claim_records.specs.ClaimTable.{claimIn, claimsIn, claimSlots}
 use Rattle.records.specs.Answers.{headRecord}
@@ -42,6 +43,10 @@ loadedAs (loaded.Refused n r) = refused n r
 abbrev pub AllGrouped : List ℕ → List ℕ → List ℕ → ℕ → Type 0
 AllGrouped s names offsets n = (i : ℕ) → i < n → getD names i 0 ≡ nameOf (drop (getD offsets i 0) s) .group
 
+-- the record of each of the first n names stands whole at its offset
+abbrev pub AllWhole : List ℕ → List ℕ → ℕ → Type 0
+AllWhole s labels n = (j : ℕ) → j < n → WholeName s (getD labels j 0)
+
 -- what holds of each of the first n claims of a sheet of `names` names
 abbrev pub AllHeld : List ℕ → ℕ → List ℕ → List ℕ → ℕ → Type 0
 AllHeld s names claims offsets n = (k : ℕ) → k < n → ClaimHeld s names (claimIn claims offsets k)
@@ -58,6 +63,7 @@ pub record Goes {A : Type 0} (tests : List A → List ℕ → List Test) (value 
 pub record NamesGo (e : Edition) (groups : ℕ) (s : List ℕ) (from count : ℕ) (r : Passed) (names labels : List ℕ) : Type 0 where
   pub reads : Goes (nameTests e groups) nameOf s from count (2 + groups) r (recordsIn nameOf s labels count)
   pub grouped : Then (passedAs r) (λ at. AllGrouped s names labels count)
+  pub whole : Then (passedAs r) (λ at. AllWhole s labels count)
 
 -- the claims: they are in the tables
 pub record ClaimsGo (names first : ℕ) (s : List ℕ) (from count : ℕ) (r : Passed) (claims offsets : List ℕ) : Type 0 where
@@ -92,6 +98,7 @@ recordsOf h s groups labels claims offsets = record {
 pub record Held (h : HeadRecord) (s names labels claims offsets : List ℕ) : Type 0 where
   pub limits : HeadLimits h
   pub named : (n : ℕ) → 1 ≤ n → n ≤ h .names → getD names (n - 1) 0 ≡ nameGroup (recordsIn nameOf s labels (h .names)) n
+  pub whole : AllWhole s labels (h .names)
   pub claimed : AllHeld s (h .names) claims offsets (h .claims)
 
 -- the contract of loading: what the tables hold is the reading `whole`

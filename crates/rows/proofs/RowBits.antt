@@ -27,6 +27,22 @@ words-groups edition2 = refl
 pub words-bytes : (ed : Edition) → membershipBytes ed ≡ wordBytes * rowWords ed
 words-bytes ed = omega (arith, words-groups ed, group-bits ed)
 
+-- a row has two words or four
+pub words-least : (ed : Edition) → 2 ≤ rowWords ed
+unfolding rowWords groupLimit
+words-least edition1 = omega arith
+words-least edition2 = omega arith
+
+pub words-two : (ed : Edition) → rowWords ed ≤ 2 → rowWords ed ≡ 2
+unfolding rowWords groupLimit
+words-two edition1 l = refl
+words-two edition2 l = absurd (omega arith)
+
+pub words-four : (ed : Edition) → 2 < rowWords ed → rowWords ed ≡ 4
+unfolding rowWords groupLimit
+words-four edition1 l = absurd (omega arith)
+words-four edition2 l = refl
+
 -- bits counted from n bytes further on
 bit-on : (b : List ℕ) (offset n j : ℕ) → bitAt b (offset + n) j ≡ bitAt b offset (8 * n + j)
 unfolding bitAt

@@ -6,12 +6,12 @@ use mathlib.Core.List.{List, [], _∷_, _++_, append-nil, append-assoc}
 use lib.ListN.{length, take, drop, length-append, length-take, length-drop, List·getD-eq-default}
 use lib.Dec.{leb, ltb, eqb}
 use native.Mathlib.Omega.{arith}
-use native.Mathlib.Nat.{le-refl, add-zero}
+use native.Mathlib.Nat.{add-zero}
 use native.Mathlib.Numerals.{add-one}
 use borrow.Author.Tests.{le-leb, lt-leb, eq-eqb, ne-eqb, eqb-true, eqb-false, leb-true, ltb-true, not-true, lt-ltb, le-ltb}
 use lib.Seq.{getD-take, getD-drop, drop-drop}
 use Rattle.rows.specs.declared.decode.RowFound.{RowFound}
-use Rattle.laws.proofs.Cases.{split, below-suc, and-true, compare-eq}
+use Rattle.laws.proofs.Cases.{split, and-true, compare-eq}
 use Rattle.laws.proofs.Digits.{digit-of-zero}
 use Rattle.wire.specs.Limits.{rowLimit}
 use Rattle.wire.specs.Edition.{Edition, rowBytes, rowHead, groupLimit, membershipBytes, rowKind, rowLength}
@@ -28,27 +28,14 @@ use Rattle.wire.proofs.Facts.{u16-most}
 use Rattle.wire.proofs.Fields.{u16-drop, u32-drop, u32-halves}
 use Rattle.wire.proofs.RoundTripRegister.{testsAfter, register-read}
 use Rattle.wire.proofs.MemberKeyLaws.{key-of-member, precedes-by-key, one-by-key}
-use Rattle.wire.proofs.RowFacts.{last-member-behind}
+use Rattle.wire.proofs.RowFacts.{last-member-behind, clear-some, clear-none}
 use Rattle.rows.specs.RowsRead.{rowFrame, Front, ended, held, turned, rowGives, rowHeld, frontTests, frontAt, fromRow, rowsBefore, bitAt, Above}
-use Rattle.rows.specs.RowsRead.{RowsReadable}
+use Rattle.rows.specs.RowsRead.{RowsReadable, RowsThere}
 use Rattle.rows.specs.declared.decode.RowAnswer.the-variants as answer
 
 -- the offset of the membership bytes of row i
 abbrev pub bitsPlace : Edition → ℕ → ℕ
 bitsPlace e i = rowBytes e * i + rowHead
-
-clear-some : (r : Row) (groups n k : ℕ) → k < n → inGroup r (groups + suc k) ≡ true → clearAbove r groups n ≡ false
-unfolding clearAbove
-clear-some r groups zero k l e = absurd (omega arith)
-clear-some r groups (suc n) k l e =
-    below-suc k n l
-    (λ o. let z = rw o at e in rw z)
-    (λ o. split (inGroup r (groups + suc n)) (λ x. rw x) (λ x. rw x (clear-some r groups n k o e)))
-
-clear-none : (r : Row) (groups n : ℕ) → ((k : ℕ) → k < n → inGroup r (groups + suc k) ≡ false) → clearAbove r groups n ≡ true
-unfolding clearAbove
-clear-none r groups zero h = refl
-clear-none r groups (suc n) h = rw (h n (le-refl (suc n))) (clear-none r groups n (λ k l. h k (omega arith)))
 
 module _ (ed : Edition) where
   -- group g of the row at an offset is bit g - 1 of its membership bytes
@@ -417,13 +404,26 @@ module _ (ed : Edition) where
     pub rows-most : n ≤ rowLimit
     rows-most = rw (length-rowsBefore b n) at (register-read ed groups b (rowsBefore ed b n) (sym h) .rowCount)
 
+    row-passed : (i : ℕ) → i < n → Pass (frontTests ed (lastMember (rowsBefore ed b i)) (fromRow ed b i))
+    row-passed i l = reads-passed groups (register-read ed groups b (rowsBefore ed b n) (sym h) .rows) i (rw (length-rowsBefore b n) l)
+
     -- each row stands at its offset
+    pub rows-there : RowsThere ed b n
+    unfolding rowTests
+    rows-there =
+        record {
+          each = λ i l.
+              let x = row-passed i l in
+              record { whole = omega (arith, frame-of (fromRow ed b i) (x .0) .0, length-drop (rowBytes ed * i) b); sided = x .1 .0 };
+        }
+
+    -- and behind the row before it
     pub rows-readable : RowsReadable ed b n
     unfolding rowTests
     rows-readable =
         record {
           each = λ i l.
-              let x = reads-passed groups (register-read ed groups b (rowsBefore ed b n) (sym h) .rows) i (rw (length-rowsBefore b n) l) in
+              let x = row-passed i l in
               front-passed b (rowBytes ed * i) (lastMember (rowsBefore ed b i))
               (ne-eqb (length (fromRow ed b i)) 0 (λ z. omega (arith, frame-of (fromRow ed b i) (x .0) .0))) x;
         }

@@ -9,9 +9,9 @@ use Rattle.rows.specs.declared.decode.RowAnswer.{RowAnswer}
 use Rattle.rows.specs.declared.read.Rows.{Rows}
 use Rattle.laws.specs.Digit.{digit}
 use Rattle.wire.specs.Edition.{Edition, groupLimit, rowKind, rowLength, rowBytes, rowHead}
-use Rattle.wire.specs.Member.{Member, oneMember}
+use Rattle.wire.specs.Member.{Member, oneMember, isSide}
 use Rattle.wire.specs.Record.{Test, refusal, Reading, read, refused}
-use Rattle.wire.specs.RegisterFormat.{Row, memberOf, rowTests, rowOf, lastMember}
+use Rattle.wire.specs.RegisterFormat.{Row, sideField, memberOf, rowTests, rowOf, lastMember}
 use Rattle.wire.specs.MemberKey.{keyMember}
 use Rattle.rows.specs.declared.decode.RowAnswer.the-variants as answer
 use Rattle.rows.specs.declared.read.Rows.the-variants as rows
@@ -87,3 +87,11 @@ rowsGive e b (rows.Refused n r) = refused n r
 pub record RowsReadable (e : Edition) (b : List ℕ) (n : ℕ) : Type 0 where
   pub each : (i : ℕ) → i < n
       → frontAt e b (rowBytes e * i) (lastMember (rowsBefore e b i)) ≡ rowHeld e b (rowBytes e * i) (lastMember (rowsBefore e b i))
+
+-- a row of edition e stands whole at an offset, and has a side; so does each of the first n rows of a register that was read
+pub record RowThere (e : Edition) (b : List ℕ) (at : ℕ) : Type 0 where
+  pub whole : at + rowBytes e ≤ length b
+  pub sided : isSide (sideField (drop at b)) ≡ true
+
+pub record RowsThere (e : Edition) (b : List ℕ) (n : ℕ) : Type 0 where
+  pub each : (i : ℕ) → i < n → RowThere e b (rowBytes e * i)

@@ -1,6 +1,6 @@
 -- A row goes into a tile word by word; a tile goes into the columns 64 groups at a time, or member by member.
 use Prim.Native.Nat.{ℕ, _+_, _-_, _*_, _/_, _%_, _^_, _≤_, _<_, max}
-use mathlib.Core.Path.{_≡_, refl}
+use mathlib.Core.Path.{_≡_}
 use mathlib.Core.Bool.{cond}
 use mathlib.Core.List.{List}
 use native.Mathlib.Omega.{arith}
@@ -12,10 +12,9 @@ use lib.Bits.{bitOr}
 use Rattle.laws.specs.Digit.{digit}
 use Rattle.laws.proofs.Cases.{compare-le, compare-eq, split}
 use Rattle.laws.proofs.Digits.{digit-or, digit-beyond, digit-of-zero}
-use Rattle.wire.specs.Edition.{Edition, edition1, edition2, groupLimit}
 use Rattle.wire.specs.Capacity.{groupCapacity}
 use Rattle.meaning.specs.OfRecords.{members}
-use Rattle.rows.specs.RowsRead.{wordBits, WordAt, rowWords}
+use Rattle.rows.specs.RowsRead.{wordBits, WordAt}
 use Rattle.bit_matrix.specs.Matrix.{Transposed}
 use Rattle.columns.specs.Columns.{columnDigit}
 use Rattle.columns.specs.ColumnSteps.{ColumnPut, MembersPut, ofWord, Cleared}
@@ -75,22 +74,6 @@ bits-more {b} {offset} {k} {m} {word} p w l q =
         (omega arith)))
         (λ o. rw (lt-leb (wordBits * k + 1) g o, lt-ltb (g - 1) (wordBits * k) (omega arith), lt-ltb (g - 1) (wordBits * (k + 1)) (omega arith))
         (omega arith))
-
--- a row has two words or four
-pub words-least : (ed : Edition) → 2 ≤ rowWords ed
-unfolding rowWords groupLimit
-words-least edition1 = omega arith
-words-least edition2 = omega arith
-
-pub words-two : (ed : Edition) → rowWords ed ≤ 2 → rowWords ed ≡ 2
-unfolding rowWords groupLimit
-words-two edition1 l = refl
-words-two edition2 l = absurd (omega arith)
-
-pub words-four : (ed : Edition) → 2 < rowWords ed → rowWords ed ≡ 4
-unfolding rowWords groupLimit
-words-four edition1 l = absurd (omega arith)
-words-four edition2 l = refl
 
 -- the words of the next n groups are put, word w of their columns
 pub columns-put-none : (l : List ℕ) (before w : ℕ) (t : List ℕ) → ColumnsPut l before 0 w t t

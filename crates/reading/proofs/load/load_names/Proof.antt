@@ -124,6 +124,7 @@ returns c = let q = answered-refusal (asked (c .before .before .before)) (c .bef
       reads = left-stop _ _ _ _ _ _ _ _ _ (c .before .before .before .before .before .loop .inv .1 .1 .1 .0)
           (c .before .before .before .before .loop-test .taken) _ _ (name-alone _ _ _ _ _ (q .0) (q .1)) (q .1);
       grouped = λ at e. never-read e;
+      whole = λ at e. never-read e;
     }
 
 enum-known-rec : tie.Need-enum-known-rec Inv-loop μ-loop
@@ -162,6 +163,7 @@ returns-3 c = record {
       (name-used _ _ _ _ (taken (c .before .before .before .before .before .before .before .before) .pass)
       (sym (c .before .before .used-label .ensures .0) ∙ c .if1 .taken)) (λ e. omega arith);
   grouped = λ at e. never-read e;
+  whole = λ at e. never-read e;
 }
 
 number-meant-requires : tie.Need-number-meant-requires Inv-loop μ-loop
@@ -240,6 +242,7 @@ returns-4 c = let e : c .before .loop .i ≡ c .before .before .before .before .
     record {
       reads = rw e at (left-done _ _ _ _ _ _ _ _ _ (c .before .loop .inv .1 .1 .1 .0) e (c .before .loop .inv .1 .0));
       grouped = λ at f. rw e at (c .before .loop .inv .1 .1 .1 .1 .0);
+      whole = λ at f j l. name-whole _ _ _ _ [] (c .before .loop .inv .1 .1 .1 .1 .1 .0 j (omega arith)) .0;
     }
 
 pub load-names-spec : {M : Type 1} → statement M

@@ -239,6 +239,7 @@ returns-5 c = let n = names-told (c .before) in
         limits = entry f .pre .1 .0;
         named = names-grouped (bytes f) (tables .0) (tables .1 .0) (head f .names)
             (names-read n .load-names .ensures .grouped _ (went-on (n .before .n .given .1)));
+        whole = names-read n .load-names .ensures .whole _ (went-on (n .before .n .given .1));
         claimed = claims-read (c .before) .load-claims .ensures .held _ (went-on (c .before .before .c .given .1));
       });
     }

@@ -2,8 +2,8 @@
 use borrow.Author.Needs.{needs}
 use native.Mathlib.Omega.{arith}
 use Rattle.wire.specs.Edition.{editionOf}
-use Rattle.rows.proofs.RowBits.{words-bytes}
-use Rattle.tiles.proofs.TileLaws.{bits-none, bits-more, words-least, words-two, words-four}
+use Rattle.rows.proofs.RowBits.{words-bytes, words-least, words-two, words-four}
+use Rattle.tiles.proofs.TileLaws.{bits-none, bits-more}
 use Rattle.tiles.proofs.tile.put_row.Statement.{statement}
 use Rattle.tiles.proofs.tile.put_row.Tie as tie
 
