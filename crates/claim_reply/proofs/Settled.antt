@@ -10,9 +10,9 @@ use Rattle.wire.specs.SheetFormat.{readSheet}
 use Rattle.wire.specs.Encoding.{Bytes}
 use Rattle.meaning.specs.OfRecords.{claimAt}
 use Rattle.sizes.proofs.Readable.{readable-possible-or-not, readable-witness-or-not}
-use Rattle.replies.specs.Reply.{call, OnceSheet}
+use Rattle.replies.specs.Reply.{call}
 use Rattle.replies.proofs.Exits.{refused-alike, once-read, once-possible, once-room, replied-alike, verdict-alike, sets-alike}
-use Rattle.claim_reply.specs.ClaimReply.{OnceNumbered, ClaimVerdict}
+use Rattle.claim_reply.specs.ClaimReply.{OnceNumbered, ClaimCall}
 use Rattle.claim_reply.specs.Settled.{SettledButSets}
 use Rattle.claim_reply.proofs.Answering.{verdict-answering}
 
@@ -29,8 +29,8 @@ module _ {before after after' : List ℕ} {r r' : ℕ} {E : Type 0} (same : (r �
 
 -- Two exits of `sheet_claim` that meet its contract for the same sheet, claim number and buffer at entry return the same number,
 -- and every byte is the same, unless sets are shown (kinds 4 to 6 denied, kind 7 holding): then every byte but those of the sets.
-pub claim-settled : (sheet : List ℕ) (k : ℕ) {before after after' : List ℕ} {r r' : ℕ} → OnceSheet sheet (ClaimVerdict k) (call before r after)
-    → OnceSheet sheet (ClaimVerdict k) (call before r' after') → Bytes after → Bytes after'
+pub claim-settled : (sheet : List ℕ) (k : ℕ) {before after after' : List ℕ} {r r' : ℕ} → ClaimCall sheet k (call before r after)
+    → ClaimCall sheet k (call before r' after') → Bytes after → Bytes after'
     → (r ≡ r') × ((after ≡ after') ⊎ SettledButSets sheet k r after after')
 claim-settled sheet k {after} {after'} {r} {r'} v w x y =
     let same : (r ≡ r') × (after ≡ after') → (r ≡ r') × ((after ≡ after') ⊎ SettledButSets sheet k r after after') = λ z. (z .0, inl (z .1)) in

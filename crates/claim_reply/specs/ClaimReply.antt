@@ -13,7 +13,7 @@ use Rattle.meaning.specs.Sheet.{Sheet}
 use Rattle.meaning.specs.Claim.{Claim, Breaks, Breakable}
 use Rattle.meaning.specs.Place.{Fills, Fillable, Question, allSay, somePlace}
 use Rattle.meaning.specs.OfRecords.{sheetOf, claimAt}
-use Rattle.replies.specs.Reply.{Call, Refused, OnceRoom, OncePossible}
+use Rattle.replies.specs.Reply.{Call, Refused, OnceSheet, OnceRoom, OncePossible}
 use Rattle.replies.specs.Shown.{SetsIn, VerdictIn}
 
 -- a denial's sets break the claim
@@ -50,3 +50,7 @@ ClaimVerdict k d c =
     OncePossible (sheetOf (d .groups)) c
     (OnceNumbered k (length (d .claims)) c
     (VerdictFor (sheetOf (d .groups)) (claimAt d k) c))
+
+-- what it promises of a call with these bytes and this claim number
+abbrev pub ClaimCall : List ℕ → ℕ → Call → Type 0
+ClaimCall sheet k = OnceSheet sheet (ClaimVerdict k)

@@ -8,12 +8,12 @@ use tables::limits::GROUP_TABLE;
 use tables::limits::LABEL_TABLE;
 use tables::limits::NAME_TABLE;
 use tables::limits::OFFSET_TABLE;
-ghost use Rattle.replies.specs.Reply.{call, OnceSheet};
-ghost use Rattle.claim_reply.specs.ClaimReply.{ClaimVerdict};
+ghost use Rattle.replies.specs.Reply.{call};
+ghost use Rattle.claim_reply.specs.ClaimReply.{ClaimCall};
 
 #[no_mangle]
 pub extern "C" fn sheet_claim(sheet: &[u8], claim: u32, reply: &mut [u8]) -> u64
-    ensures { λ r. ⌜ OnceSheet (now (sheet .entry)) (ClaimVerdict claim) (call (now (reply .entry)) r (now (reply .exit))) ⌝ }
+    ensures { λ r. ⌜ ClaimCall (now (sheet .entry)) claim (call (now (reply .entry)) r (now (reply .exit))) ⌝ }
 {
     let mut groups = [0u16; GROUP_TABLE];
     let mut names = [0u16; NAME_TABLE];

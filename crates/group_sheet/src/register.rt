@@ -4,14 +4,12 @@ use reading::load::load_tree;
 use register_reply::give_check;
 use replies::pairs::refuse;
 use tables::limits::GROUP_TABLE;
-ghost use Rattle.meaning.specs.OfRecords.{sheetOf};
-ghost use Rattle.replies.specs.Reply.{call, OnceSheet};
-ghost use Rattle.register_reply.specs.RegisterReply.{Register};
+ghost use Rattle.replies.specs.Reply.{call};
+ghost use Rattle.register_reply.specs.RegisterReply.{RegisterCall};
 
 #[no_mangle]
 pub extern "C" fn sheet_register(sheet: &[u8], register: &[u8], reply: &mut [u8]) -> u64
-    ensures { λ r. ⌜ OnceSheet (now (sheet .entry)) (λ d. Register (now (register .entry)) (d .edition) (sheetOf (d .groups)))
-        (call (now (reply .entry)) r (now (reply .exit))) ⌝ }
+    ensures { λ r. ⌜ RegisterCall (now (sheet .entry)) (now (register .entry)) (call (now (reply .entry)) r (now (reply .exit))) ⌝ }
 {
     let mut groups = [0u16; GROUP_TABLE];
     match load_tree(sheet, &mut groups) {

@@ -8,13 +8,13 @@ use Rattle.wire.specs.SheetFormat.{readSheet}
 use Rattle.wire.specs.RegisterFormat.{Row, readRegister}
 use Rattle.wire.specs.Encoding.{Bytes}
 use Rattle.meaning.specs.Sheet.{Sheet}
-use Rattle.meaning.specs.OfRecords.{listedSets, sheetOf}
+use Rattle.meaning.specs.OfRecords.{listedSets}
 use Rattle.registers.proofs.Settled.{answered-once}
-use Rattle.replies.specs.Reply.{call, OnceSheet}
+use Rattle.replies.specs.Reply.{call}
 use Rattle.replies.specs.Alike.{Alike}
 use Rattle.replies.proofs.Alike.{alike-then, u16-alike}
 use Rattle.replies.proofs.Exits.{once-read, once-room, replied-alike}
-use Rattle.register_reply.specs.RegisterReply.{AnswerIn, Register}
+use Rattle.register_reply.specs.RegisterReply.{AnswerIn, RegisterCall}
 
 -- Registers.
 answer-alike : {s : Sheet} {rows : List Row} {out out' : List ℕ} → Bytes out → Bytes out' → AnswerIn s rows out → AnswerIn s rows out'
@@ -30,8 +30,7 @@ answer-alike {s} {rows} x y v w =
 -- Two exits of `sheet_register` that meet its contract for the same sheet, register and buffer at entry are the same: the
 -- number returned and every byte.
 pub register-settled : (sheet register : List ℕ) {before after after' : List ℕ} {r r' : ℕ}
-    → OnceSheet sheet (λ d. Register register (d .edition) (sheetOf (d .groups))) (call before r after)
-    → OnceSheet sheet (λ d. Register register (d .edition) (sheetOf (d .groups))) (call before r' after')
+    → RegisterCall sheet register (call before r after) → RegisterCall sheet register (call before r' after')
     → Bytes after → Bytes after' → (r ≡ r') × (after ≡ after')
 register-settled sheet register v w x y =
     once-read (λ z. z) (readSheet sheet) v w

@@ -10,8 +10,8 @@ use Rattle.wire.specs.Edition.{Edition}
 use Rattle.wire.specs.RegisterFormat.{Row, readRegister}
 use Rattle.meaning.specs.Sheet.{Sheet}
 use Rattle.meaning.specs.Rule.{Answered}
-use Rattle.meaning.specs.OfRecords.{listedSets}
-use Rattle.replies.specs.Reply.{Call, OnceRead, OnceRoom}
+use Rattle.meaning.specs.OfRecords.{sheetOf, listedSets}
+use Rattle.replies.specs.Reply.{Call, OnceSheet, OnceRead, OnceRoom}
 
 -- the reply, read off the buffer at exit
 pub record AnswerIn (s : Sheet) (rows : List Row) (out : List ℕ) : Type 0 where
@@ -24,3 +24,7 @@ abbrev pub Register : List ℕ → Edition → Sheet → Call → Type 0
 Register register e s c =
     OnceRead (readRegister e (s .size) register) c (λ rows.
     OnceRoom answerBytes c (AnswerIn s rows))
+
+-- what it promises of a call with these bytes
+abbrev pub RegisterCall : List ℕ → List ℕ → Call → Type 0
+RegisterCall sheet register = OnceSheet sheet (λ d. Register register (d .edition) (sheetOf (d .groups)))

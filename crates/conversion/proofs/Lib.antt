@@ -1,0 +1,2 @@
+pub mod TowardsLaws
+pub mod RowsLaws

@@ -1,0 +1,2 @@
+pub mod ConversionReply
+pub mod Converted
