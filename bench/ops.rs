@@ -3,6 +3,8 @@
 //                         each, or for those that begin with a WHAT: ours and Rust's in ns, of a register Rust's by columns
 //                         and by walk, of 'growth ..' ours at 128 and at 256 groups; and the middle ratio of second to first
 
+#[path = "../reference/conversion.rs"]
+mod conversion;
 #[path = "../reference/engine.rs"]
 mod engine;
 #[path = "../tests/rust/library.rs"]
@@ -14,15 +16,15 @@ mod register;
 #[path = "../reference/sheet.rs"]
 mod sheet;
 
-use library::{claim, ranges, register as check};
-use limits::{FIRST, RANGE, SECOND};
+use library::{claim, ranges, register as check, register_to, sheet_to};
+use limits::{FIRST, ROWS, SECOND};
 use std::fs;
 use std::hint::black_box;
 use std::time::Instant;
 
 const RUNS: usize = 101;
 const LARGE: [usize; 2] = [FIRST.groups as usize, SECOND.groups as usize]; // most of each edition
-const REPLY: usize = RANGE * LARGE[1]; // bytes of the longest reply
+const REPLY: usize = ROWS * SECOND.row; // bytes of the longest reply
 
 type Call<'a> = &'a mut dyn FnMut() -> u64;
 
@@ -89,6 +91,35 @@ fn measure_register(what: &str, s: &[u8], rows: &[u8], wanted: &[u16]) {
     measure(what, [&mut || call(0, x), &mut || call(1, y), &mut || call(2, z)]);
 }
 
+// What Rust's conversion gives.
+fn converted(by: impl Fn(&mut [u8]) -> u64) -> Vec<u8> {
+    let mut reply = vec![0; REPLY];
+    let said = by(&mut reply);
+    assert!(said >> 32 == 0, "refused by {}", said >> 32);
+    reply.truncate(said as usize);
+    reply
+}
+
+// A sheet and a register towards an edition; both go there, and ours and Rust agree.
+fn measure_conversion(what: &str, to: u16, s: &[u8], under: &[u8], rows: &[u8]) {
+    let (x, y) = (&mut vec![0; REPLY][..], &mut vec![0; REPLY][..]);
+    let (said, _) = same(what, |r| sheet_to(to, s, r), |r| conversion::sheet_to(to, s, r));
+    assert!(said == s.len() as u64, "{what}: the sheet is refused");
+    measure(
+        &format!("convert sheet {what}"),
+        [&mut || sheet_to(to, black_box(s), x), &mut || conversion::sheet_to(to, black_box(s), y)],
+    );
+    let (said, _) = same(what, |r| register_to(to, under, rows, r), |r| conversion::register_to(to, under, rows, r));
+    assert!(said == (ROWS * [FIRST, SECOND][to as usize - 1].row) as u64, "{what}: the register is refused");
+    measure(
+        &format!("convert register {what}"),
+        [
+            &mut || register_to(to, black_box(under), black_box(rows), x),
+            &mut || conversion::register_to(to, black_box(under), black_box(rows), y),
+        ],
+    );
+}
+
 fn word(b: &[u8], at: usize) -> u16 {
     u16::from_le_bytes([b[at], b[at + 1]])
 }
@@ -113,6 +144,16 @@ fn main() {
             [&mut || check(black_box(s), &[], x), &mut || register::check_by_walk(black_box(s), &[], y)],
         );
     }
+
+    // Conversion: a largest sheet, and 2,048 rows under another, from each edition to the other; in edition 2 of 256 groups copied.
+    let of = |n: usize| (sheet(&format!("largest-last-{n}")), sheet(&format!("register-bushy-{n}-fits")), rows(&format!("register-bushy-{n}")));
+    let (s, under, full) = of(LARGE[0]);
+    let [there, under_there] = [&s, &under].map(|s| converted(|r| conversion::sheet_to(2, s, r)));
+    let full_there = converted(|r| conversion::register_to(2, &under, &full, r));
+    measure_conversion("2 to 1", 1, &there, &under_there, &full_there);
+    measure_conversion("1 to 2", 2, &s, &under, &full);
+    let (s, under, full) = of(LARGE[1]);
+    measure_conversion("copied", 2, &s, &under, &full);
 
     for shape in ["chain", "star", "bushy"] {
         let of = |what: &str, n| sheet(&format!("{shape}-{what}-{n}"));

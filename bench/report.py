@@ -287,6 +287,19 @@ def against_rust(measured):
           '16, and 10,508 bytes, with labels of 32.\n')
 
 
+def conversions(measured):
+    print('## Conversion between the editions\n')
+    print('A largest sheet (128 groups and labels of 16 bytes, of 6,924 bytes; copied: 256 groups and labels of 32 bytes, of 10,508) '
+          'and 2,048 rows under a bushy tree of as many groups, a row for each member. Rust (`reference/conversion.rs`) reads sheet '
+          'and rows as its register check does, then copies slices; our own goal is 1.2.\n')
+    print('| conversion | sheet, ours | Rust | ratio | 2,048 rows, ours | Rust | ratio | goal |\n|' + '---|' * 8)
+    for what, text in [('2 to 1', 'from edition 2 to 1'), ('1 to 2', 'from edition 1 to 2'), ('copied', 'edition 2, copied')]:
+        pairs = [measured['convert %s %s' % (of, what)][0] for of in ('sheet', 'register')]
+        cells = ['%s | %s | %.2f' % (show(ours), show(rust), ours / rust) for ours, rust in pairs]
+        print('| %s | %s | at most 1.5 |' % (text, ' | '.join(cells)))
+    print()
+
+
 def register_table(measured, after, n, goal):
     print('| tree | register | ours | Rust by columns | ratio | Rust by walk | ratio | over the quicker |%s'
           % (' goal |' if goal else ''))
@@ -463,7 +476,7 @@ def against_solvers(library, sheets):
 def stack_depths():
     print('## Stack of the deepest call\n')
     print('On a painted stack, below the caller; the claims of kinds 4 to 6 are denials, the one of kind 7 is a yes, the '
-          'register has 2,048 rows.\n')
+          'register has 2,048 rows; sheets and registers of 256 groups are in edition 2 already.\n')
     print('| operation | groups | %s |\n|---|---|%s' % (' | '.join(REGISTERS), '---|' * len(REGISTERS)))
     depth = {}
     for shape, n in [(shape, n) for n in LARGE for shape in REGISTERS]:
@@ -496,6 +509,7 @@ def main():
     head(parts)
     if not parts:
         against_rust(measured)
+        conversions(measured)
     against_program(measured, len(registers))
     time_parts(measured)
     register_growth(measured)

@@ -1,7 +1,7 @@
 /* How deep the stack goes in one call: a thread on a painted stack, and the lowest byte that the
    call changed.  stack SHEET PLACES OF-REGISTER ROWS  prints a line 'operation bytes' for each. The first claims
    of SHEET are of kinds 4, 5 and 6 and denied; the first claim of PLACES is of kind 7 and a yes; the register ROWS is
-   full and fits the sheet OF-REGISTER. With - for SHEET the register alone is measured. */
+   full and fits the sheet OF-REGISTER, and both go to edition 2. With - for SHEET these two alone are measured. */
 #define _GNU_SOURCE
 #include <pthread.h>
 #include <stdio.h>
@@ -12,10 +12,10 @@
 #include "group_sheet.h"
 
 /* A stack of 32 times the limit, 256 KiB; buffers for the edition with the longer sheets, rows and replies. */
-enum { STACK = 8 << 20, PAINT = 0xa7, MOST_SHEET = 16384, ROWS = 2048, MOST_ROW = 42, MOST_REPLY = 20 * 256 };
+enum { STACK = 8 << 20, PAINT = 0xa7, MOST_SHEET = 16384, ROWS = 2048, MOST_ROW = 42 };
 
 static uint8_t sheet[MOST_SHEET], places[MOST_SHEET], of_register[MOST_SHEET], rows[MOST_ROW * ROWS];
-static uint8_t reply[MOST_REPLY], *stack;
+static uint8_t reply[SHEET_MAX_REPLY], *stack;
 static size_t len, places_len, of_register_len, rows_len;
 static int what;
 static size_t used;
@@ -35,6 +35,8 @@ static void *run(void *unused)
     case 4: got = sheet_claim(sheet, len, 3, reply, sizeof reply); break;
     case 5: got = sheet_claim(places, places_len, 1, reply, sizeof reply); break;
     case 6: got = sheet_register(of_register, of_register_len, rows, rows_len, reply, sizeof reply); break;
+    case 7: got = sheet_to_edition2(of_register, of_register_len, reply, sizeof reply); break;
+    case 8: got = sheet_register_to_edition2(of_register, of_register_len, rows, rows_len, reply, sizeof reply); break;
     }
     int of_claim = what >= 2 && what <= 5;
     if (sheet_refusal_of(got) != 0 || (of_claim && sheet_second_of(got) == SHEET_VERDICT_REPLY) ||
@@ -61,7 +63,8 @@ static size_t load(const char *path, uint8_t *to, size_t most)
 
 int main(int argc, char **argv)
 {
-    static const char *names[] = {"", "ranges", "claim (count)", "claim (inside)", "claim (apart)", "claim (place)", "register"};
+    static const char *names[] = {"", "ranges", "claim (count)", "claim (inside)", "claim (apart)", "claim (place)", "register",
+                                  "sheet to edition 2", "register to edition 2"};
     if (argc != 5)
         return 2;
     int all = strcmp(argv[1], "-") != 0;
@@ -76,7 +79,7 @@ int main(int argc, char **argv)
     stack = mmap(NULL, STACK, PROT_READ | PROT_WRITE, MAP_PRIVATE | MAP_ANONYMOUS, -1, 0);
     if (stack == MAP_FAILED)
         return 2;
-    for (what = all ? 1 : 6; what <= 6; what++) {
+    for (what = all ? 1 : 6; what <= 8; what++) {
         pthread_attr_t attr;
         pthread_t thread;
         pthread_attr_init(&attr);

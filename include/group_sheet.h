@@ -1,4 +1,4 @@
-/* Group sheet engine: the three operations for C.
+/* Group sheet engine: the operations for C.
 
    Every operation takes a sheet in lent bytes, writes its reply to a lent buffer and returns one
    64-bit number: the refusal (0 for success) times 4,294,967,296 plus a second number. On success
@@ -11,7 +11,7 @@
    - the reply buffer shares no byte with the sheet or the register (these two may overlap);
    - (NULL, 0) is an empty buffer, for the sheet, the register and the reply; a null pointer comes
      with no other length;
-   - 256 KiB of stack are free (the deepest call that was measured takes 92,792 bytes);
+   - 256 KiB of stack are free (the deepest call that was measured takes 92,824 bytes);
    - nothing else. Any content and any length has an answer. No call keeps anything for the next,
      so calls with different reply buffers may run at the same time.
 
@@ -22,7 +22,8 @@
    A sheet is of edition 1 or 2, as its head says. The edition sets how many groups there may be, how
    long labels are and which rows a register has; all else is the same in both. Write edition 1 where
    a sheet has at most 128 groups and labels of up to 16 bytes, since older readers read no other, and
-   edition 2 elsewhere. */
+   edition 2 elsewhere. Sheets and registers of one edition are converted to the other by the last four
+   operations. */
 #ifndef GROUP_SHEET_H
 #define GROUP_SHEET_H
 
@@ -122,10 +123,12 @@ enum sheet_refusal {
                                     a group above G. Kinds 4 to 7: a name that is 0 or above S */
     SHEET_LABEL_TWICE = 6,       /* a label was used before [the record] */
     SHEET_TRAILING = 7,          /* bytes follow the last record [G + S + Q + 2] */
+    SHEET_MANY_GROUPS = 16,      /* more than 128 groups [0]; 16 and 17 towards edition 1 only */
+    SHEET_LONG_LABEL = 17,       /* a label above 16 bytes [the record of the first such name] */
     SHEET_IMPOSSIBLE = 8,        /* no finite sets fit [0]; ranges and claim only */
     SHEET_NO_SUCH_CLAIM = 9,     /* the claim number is 0 or above Q [0]; claim only */
-    SHEET_TOO_MANY_ROWS = 10,    /* bytes follow the 2,048th row [2049]; 10 to 13 and 15 register
-                                    only */
+    SHEET_TOO_MANY_ROWS = 10,    /* bytes follow the 2,048th row [2049]; 10 to 13 and 15 where a
+                                    register is handed in */
     SHEET_BAD_ROW = 11,          /* a row is cut, or its kind or length is not this edition's
                                     [the row] */
     SHEET_BAD_SIDE = 15,         /* a side other than 1 or 2 [the row] */
@@ -152,13 +155,18 @@ enum sheet_verdict {
     SHEET_HOLDS = 1
 };
 
-/* Bytes of a reply. groups is the G of the sheet's head. */
+/* Bytes of a reply. groups is the G of the sheet's head, rows how many the register has. A converted
+   sheet has as many bytes as the sheet. */
 #define SHEET_RANGES_REPLY(groups) ((size_t)20 * (groups))
 #define SHEET_VERDICT_REPLY ((size_t)6)                               /* the verdict alone */
 #define SHEET_SHOWN_REPLY(groups) ((size_t)6 + (size_t)14 * (groups)) /* a verdict with sets */
 #define SHEET_REGISTER_REPLY ((size_t)8)
-/* Enough for every reply, in both editions. */
-#define SHEET_MAX_REPLY ((size_t)20 * SHEET_MAX_GROUPS_2)
+#define SHEET_ROWS_REPLY_1(rows) ((size_t)SHEET_ROW_BYTES_1 * (rows)) /* a register in edition 1, */
+#define SHEET_ROWS_REPLY_2(rows) ((size_t)SHEET_ROW_BYTES_2 * (rows)) /* and in edition 2 */
+/* Enough for every reply of sheet_ranges, sheet_claim and sheet_register, in both editions. */
+#define SHEET_MAX_RANGES_REPLY SHEET_RANGES_REPLY(SHEET_MAX_GROUPS_2)
+/* Enough for every reply, a converted register among them. */
+#define SHEET_MAX_REPLY SHEET_ROWS_REPLY_2(SHEET_MAX_ROWS)
 
 /* The two halves of what an operation returns. */
 static inline uint32_t sheet_refusal_of(uint64_t returned) { return (uint32_t)(returned >> 32); }
@@ -228,6 +236,30 @@ uint64_t sheet_claim(const uint8_t *sheet, size_t sheet_len, uint32_t claim,
 uint64_t sheet_register(const uint8_t *sheet, size_t sheet_len,
                         const uint8_t *reg, size_t reg_len,
                         uint8_t *reply, size_t reply_len);
+
+/* The sheet in edition 1, and in edition 2.
+   Refusals 1 to 7, 16 and 17 (towards edition 1 only) and 14; a sheet that no sets fit is not refused
+   here. Reply: the sheet's own bytes, sheet_len of them, but for the edition in the head. A sheet that
+   is in that edition already is copied. Under the converted sheet every operation answers the same (sets
+   that a claim shows are free there too); converted back, the sheet has its first bytes again. */
+uint64_t sheet_to_edition1(const uint8_t *sheet, size_t sheet_len,
+                           uint8_t *reply, size_t reply_len);
+uint64_t sheet_to_edition2(const uint8_t *sheet, size_t sheet_len,
+                           uint8_t *reply, size_t reply_len);
+
+/* A register in the rows of edition 1, and in those of edition 2.
+   The sheet is the one that the register is for: its edition, not the wanted one, says which rows are
+   handed in. Refusals 1 to 7, 16 and 17 (towards edition 1 only) and 10 to 15; no rule is asked.
+   Reply: a row for each row (SHEET_ROWS_REPLY_1, SHEET_ROWS_REPLY_2), in their order, with the same
+   member, side and groups: 16 membership bytes are left out or added as zeros, rows of one member are
+   not joined, and rows in no group stay. Rows that are of that edition already are copied. The reply
+   is a register for the converted sheet. */
+uint64_t sheet_register_to_edition1(const uint8_t *sheet, size_t sheet_len,
+                                    const uint8_t *reg, size_t reg_len,
+                                    uint8_t *reply, size_t reply_len);
+uint64_t sheet_register_to_edition2(const uint8_t *sheet, size_t sheet_len,
+                                    const uint8_t *reg, size_t reg_len,
+                                    uint8_t *reply, size_t reply_len);
 
 #ifdef __cplusplus
 }

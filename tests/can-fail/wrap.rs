@@ -1,5 +1,6 @@
-// The three symbols over engine.rs and register.rs of reference/: a library in ordinary Rust, to be spoilt on purpose. A register
-// is checked in both of its ways; where they differ the answer is a number that no register has.
+// All symbols of the library over the programs of reference/: a library in ordinary Rust, to be spoilt on purpose. A register is
+// checked in both of its ways; where they differ the answer is a number that no register has.
+mod conversion;
 mod engine;
 mod register;
 mod sheet;
@@ -40,4 +41,38 @@ pub unsafe extern "C" fn sheet_register(
     reply[..rl.min(8)].copy_from_slice(&before);
     let by_columns = register::check(sheet, rows, reply);
     if by_walk == by_columns && said == reply[..rl.min(8)] { by_walk } else { u64::MAX }
+}
+
+#[no_mangle]
+pub unsafe extern "C" fn sheet_to_edition1(s: *const u8, sl: usize, r: *mut u8, rl: usize) -> u64 {
+    conversion::sheet_to(1, lent(s, sl), buffer(r, rl))
+}
+
+#[no_mangle]
+pub unsafe extern "C" fn sheet_to_edition2(s: *const u8, sl: usize, r: *mut u8, rl: usize) -> u64 {
+    conversion::sheet_to(2, lent(s, sl), buffer(r, rl))
+}
+
+#[no_mangle]
+pub unsafe extern "C" fn sheet_register_to_edition1(
+    s: *const u8,
+    sl: usize,
+    g: *const u8,
+    gl: usize,
+    r: *mut u8,
+    rl: usize,
+) -> u64 {
+    conversion::register_to(1, lent(s, sl), lent(g, gl), buffer(r, rl))
+}
+
+#[no_mangle]
+pub unsafe extern "C" fn sheet_register_to_edition2(
+    s: *const u8,
+    sl: usize,
+    g: *const u8,
+    gl: usize,
+    r: *mut u8,
+    rl: usize,
+) -> u64 {
+    conversion::register_to(2, lent(s, sl), lent(g, gl), buffer(r, rl))
 }

@@ -1,4 +1,4 @@
-/* The three operations over lines of text, for tests that are not in C or Rust.
+/* Ranges, claims and registers over lines of text, for tests that are not in C or Rust.
    In:  r LEN SHEET | c LEN CLAIM SHEET | g LEN SHEET REGISTER   (LEN: of the reply buffer; bytes
         in hex, - for none)
    Out: REFUSAL SECOND REPLY   (the bytes that were written, - for none) */

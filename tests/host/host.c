@@ -1,4 +1,4 @@
-/* A small host: builds sheets and registers of both editions, calls the three operations, prints what they say. */
+/* A small host: builds sheets and registers of both editions, calls every operation, prints what they say. */
 #include <stdio.h>
 #include <string.h>
 
@@ -338,10 +338,96 @@ static void show_large_centre(uint8_t *reply, size_t len)
     show_ranges("a label of 17 bytes in edition 2", &small, reply, len);
 }
 
+/* Takes a converted sheet or register from the reply; whether there is one. */
+static int take(const char *what, uint64_t got, const uint8_t *reply, struct bytes *to)
+{
+    if (sheet_refusal_of(got) != SHEET_OK) {
+        refused(what, got);
+        return 0;
+    }
+    to->len = sheet_second_of(got);
+    memcpy(to->at, reply, to->len);
+    printf("%s: %u bytes\n", what, (unsigned)to->len);
+    return 1;
+}
+
+static const char *alike(const struct bytes *a, const struct bytes *b)
+{
+    return a->len == b->len && memcmp(a->at, b->at, a->len) == 0 ? "the same bytes" : "other bytes";
+}
+
+/* A sheet of edition 2 goes to a clinic whose program reads edition 1 alone, its register too, and both come back. */
+static void show_old_clinic(uint8_t *reply, size_t len)
+{
+    static struct bytes sheet, reg, old_sheet, old_reg, back;
+    clinic(&sheet);
+    sheet_put16(sheet.at + 4, SHEET_EDITION_2);
+    /* Five left ears and five right ones; the first left ear is on two rows, the last row is in no group. */
+    const uint32_t left[] = {1, 2, 4}, right[] = {1, 3}, more[] = {2};
+    row_2(&reg, 1, SHEET_LEFT, 1, more);
+    for (uint32_t m = 1; m <= 5; m++) {
+        row_2(&reg, m, SHEET_LEFT, 3, left);
+        row_2(&reg, m, SHEET_RIGHT, 2, right);
+    }
+    row_2(&reg, 9, SHEET_LEFT, 0, NULL);
+    show_register("the clinic's register", &sheet, &reg, reply, len);
+
+    if (!take("the clinic's sheet to edition 1", sheet_to_edition1(sheet.at, sheet.len, reply, len), reply, &old_sheet) ||
+        !take("its register to edition 1", sheet_register_to_edition1(sheet.at, sheet.len, reg.at, reg.len, reply, len), reply, &old_reg))
+        return;
+    printf("  edition %u, %u rows of kind %u\n", (unsigned)sheet_get16(old_sheet.at + 4), (unsigned)(old_reg.len / SHEET_ROW_BYTES_1),
+           (unsigned)sheet_get16(old_reg.at + 2));
+    show_ranges("the old clinic's ranges", &old_sheet, reply, len);
+    show_claim(&old_sheet, 1, reply, len);
+    show_register("the old clinic's check", &old_sheet, &old_reg, reply, len);
+
+    if (take("back to edition 2", sheet_to_edition2(old_sheet.at, old_sheet.len, reply, len), reply, &back))
+        printf("  %s\n", alike(&back, &sheet));
+    if (take("the register back to edition 2",
+             sheet_register_to_edition2(old_sheet.at, old_sheet.len, old_reg.at, old_reg.len, reply, len), reply, &back))
+        printf("  %s\n", alike(&back, &reg));
+    /* What is in the wanted edition already is copied. */
+    if (take("once more to edition 1", sheet_to_edition1(old_sheet.at, old_sheet.len, reply, len), reply, &back))
+        printf("  %s\n", alike(&back, &old_sheet));
+    if (take("the register once more to edition 1",
+             sheet_register_to_edition1(old_sheet.at, old_sheet.len, old_reg.at, old_reg.len, reply, len), reply, &back))
+        printf("  %s\n", alike(&back, &old_reg));
+
+    /* A register is read under its own sheet, and a reply that finds no room is refused. */
+    refused("rows of edition 1 under the sheet of edition 2",
+            sheet_register_to_edition1(sheet.at, sheet.len, old_reg.at, old_reg.len, reply, len));
+    refused("the sheet, a byte short", sheet_to_edition1(sheet.at, sheet.len, reply, sheet.len - 1));
+    refused("the register to edition 2, a byte short",
+            sheet_register_to_edition2(old_sheet.at, old_sheet.len, old_reg.at, old_reg.len, reply, SHEET_ROWS_REPLY_2(12) - 1));
+    take("the register to edition 1, room for it alone",
+         sheet_register_to_edition1(sheet.at, sheet.len, reg.at, reg.len, reply, SHEET_ROWS_REPLY_1(12)), reply, &back);
+
+    /* What edition 1 has no room for, towards it and towards edition 2; a register of such a sheet is not looked at. */
+    large_centre(&sheet);
+    refused("200 groups to edition 1", sheet_to_edition1(sheet.at, sheet.len, reply, len));
+    refused("a register of 200 groups to edition 1", sheet_register_to_edition1(sheet.at, sheet.len, old_reg.at, 1, reply, len));
+    take("200 groups to edition 2", sheet_to_edition2(sheet.at, sheet.len, reply, len), reply, &back);
+    sheet.len = 0;
+    head(&sheet, SHEET_EDITION_2, 1, 3, 0);
+    group(&sheet, 0, 3, 2, 0); /* no sets fit: not asked here */
+    name(&sheet, 1, "CENTRE-16-BYTES-");
+    name(&sheet, 1, "CENTRE-NORTH-WEST");
+    name(&sheet, 0, "CENTRE-NORTH-REHABILITATION-EAST");
+    refused("a label of 17 bytes to edition 1", sheet_to_edition1(sheet.at, sheet.len, reply, len));
+    refused("a register under it to edition 1", sheet_register_to_edition1(sheet.at, sheet.len, NULL, 0, reply, len));
+    take("a label of 17 bytes to edition 2", sheet_to_edition2(sheet.at, sheet.len, reply, len), reply, &back);
+    sheet.len = 0;
+    head(&sheet, SHEET_EDITION_2, 1, 0, 0);
+    group(&sheet, 0, 3, 2, 0);
+    take("an impossible sheet to edition 1", sheet_to_edition1(sheet.at, sheet.len, reply, len), reply, &back);
+    show_ranges("an impossible sheet in edition 1", &back, reply, len);
+    take("no rows to edition 1", sheet_register_to_edition1(sheet.at, sheet.len, NULL, 0, NULL, 0), reply, &back);
+}
+
 int main(void)
 {
     static struct bytes sheet, other, reg;
-    static uint8_t reply[SHEET_MAX_REPLY], again[SHEET_MAX_REPLY];
+    static uint8_t reply[SHEET_MAX_REPLY], again[SHEET_MAX_RANGES_REPLY];
 
     clinic(&sheet);
     show_ranges("ranges", &sheet, reply, sizeof reply);
@@ -424,9 +510,14 @@ int main(void)
            same ? "the same reply" : "another reply");
 
     show_large_centre(reply, sizeof reply);
+    show_old_clinic(reply, sizeof reply);
 
     refused("no bytes at all", sheet_ranges(NULL, 0, NULL, 0));
     refused("no bytes, a claim", sheet_claim(NULL, 0, 1, NULL, 0));
     refused("no bytes, a register", sheet_register(NULL, 0, NULL, 0, NULL, 0));
+    refused("no bytes, to edition 1", sheet_to_edition1(NULL, 0, NULL, 0));
+    refused("no bytes, to edition 2", sheet_to_edition2(NULL, 0, NULL, 0));
+    refused("no bytes, a register to edition 1", sheet_register_to_edition1(NULL, 0, NULL, 0, NULL, 0));
+    refused("no bytes, a register to edition 2", sheet_register_to_edition2(NULL, 0, NULL, 0, NULL, 0));
     return 0;
 }

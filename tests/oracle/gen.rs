@@ -232,6 +232,10 @@ pub fn draft(rng: &mut Rng) -> Draft {
     let edition = rng.pick(&EDITIONS);
     let large = rng.chance(22);
     let n = if large { many_groups(rng, edition) } else { 1 + rng.index(6) };
+    draft_of(rng, edition, large, n)
+}
+
+fn draft_of(rng: &mut Rng, edition: Edition, large: bool, n: usize) -> Draft {
     let tree = Tree::new(rng, n);
 
     let kinds = if large { rng.below(20) } else { rng.below(4) };
@@ -500,6 +504,56 @@ pub fn widest(rng: &mut Rng) -> Draft {
         records.push(record(4, &words(&[1, lo, hi])));
     }
     Draft { edition, tree, members: Vec::new(), records, groups: n, names: 1 }
+}
+
+// A sheet around what edition 1 allows, mostly of edition 2: few groups or about 128, and no label above 16 bytes, one of them
+// (often the first or the last), or several.
+pub fn near_first(rng: &mut Rng) -> Draft {
+    let edition = if rng.chance(85) { Edition::Two } else { Edition::One };
+    let few = 1 + rng.index(6);
+    let many = rng.pick(&[few, few, few, 65, 127, 128, 128, 128, 129, 129, 193, 256]);
+    let n = many.min(edition.group_limit());
+    let mut d = draft_of(rng, edition, n > 6, n);
+    let one = rng.index(d.names);
+    let long = match rng.below(7) {
+        _ if edition == Edition::One => 0..0,
+        0 | 1 | 2 => 0..0,
+        3 => 0..1,
+        4 => d.names.saturating_sub(1)..d.names,
+        5 => one..one + 1,
+        _ => one..d.names,
+    };
+    let mut used = HashSet::new();
+    for k in 0..d.names {
+        loop {
+            let any = 3 + rng.index(14);
+            let bytes = if long.contains(&k) { rng.pick(&[17, 17, 18, 24, 31, 32, 32]) } else { rng.pick(&[15, 16, 16, any]) };
+            let label = letters(rng, bytes);
+            if used.insert(label.clone()) {
+                let at = 1 + d.groups + k;
+                d.records[at] = record(3, &[&d.records[at][4..6], &label[..]].concat());
+                break;
+            }
+        }
+    }
+    d
+}
+
+// A register for it, at times of as many rows as there may be, or one more.
+pub fn near_most(rng: &mut Rng, d: &Draft) -> Vec<u8> {
+    let mut bytes = if rng.chance(85) {
+        register(rng, d)
+    } else {
+        let sets: Vec<Groups> = (0..4).map(|_| d.tree.member(rng)).collect();
+        let many = rng.pick(&[2047, 2048, 2048, 2049, 2049]);
+        let rows: Vec<Row> = (0..many).map(|r| (r > 0 && rng.chance(20), rng.pick(&sets))).collect();
+        written(rng, &rows, d.edition)
+    };
+    if rng.chance(30) {
+        let (at, way) = (some_row(rng, &bytes, d.edition), rng.pick(&[BAD_KIND, BAD_SIDE, NUMBER_0, BIT_ABOVE, BIT_ABOVE]));
+        damage_row(rng, &mut bytes, d.edition, at, d.groups, way);
+    }
+    bytes
 }
 
 fn set_word(r: &mut [u8], at: usize, x: u16) {

@@ -8,6 +8,7 @@
 // A case is one operation on one input (sheet, and claim number or register); it is called with
 // one or more reply buffers.
 
+mod conversion;
 mod format;
 mod gen;
 mod large;
@@ -16,6 +17,7 @@ mod library;
 mod selftest;
 mod small;
 
+use conversion::{register_towards, sheet_towards};
 use format::*;
 use gen::Rng;
 use large::{arrangement, Large};
@@ -56,6 +58,7 @@ struct Run {
     verdicts: bool, // of replaced sheets compare the verdicts alone
     number: u64,
     replaced: bool, // a replaced sheet is being compared
+    converted: bool, // one in the other edition is
     cases: u64,
     calls: u64,
     met: BTreeMap<String, u64>,
@@ -82,7 +85,14 @@ impl Run {
             Ask::Register(reg) => {
                 format!("operation: register\nregister in hex: {}\n", hex(reg))
             }
+            Ask::SheetTo(n) => format!("operation: sheet to edition {n}\n"),
+            Ask::RegisterTo(n, reg) => {
+                format!("operation: register to edition {n}\nregister in hex: {}\n", hex(reg))
+            }
         };
+        if self.converted {
+            text += &format!("the sheet below is sheet {} in the other edition\n", self.number);
+        }
         if self.replaced {
             text += &format!("the sheet below is sheet {} with its ranges as bounds\n", self.number);
         }
@@ -153,10 +163,12 @@ impl Run {
     // One case: with a buffer of the right length, and with some others.
     fn case(&mut self, rng: &mut Rng, sheet: &[u8], ask: &Ask, want: Want) {
         self.cases += 1;
-        let op = match ask {
-            Ask::Ranges => "ranges",
-            Ask::Claim(_) => "claim",
-            Ask::Register(_) => "register",
+        let op = match *ask {
+            Ask::Ranges => "ranges".to_string(),
+            Ask::Claim(_) => "claim".to_string(),
+            Ask::Register(_) => "register".to_string(),
+            Ask::SheetTo(n) => sheet_to(n),
+            Ask::RegisterTo(n, _) => register_to(n),
         };
         if let Want::Refused(n, _) = want {
             self.met(&format!("{op}: refusal {n:2}"));
@@ -168,8 +180,10 @@ impl Run {
         self.met(&format!("{op}: answered"));
         let need = want.length();
         let (less, more) = (rng.index(need), need + rng.pick(&[1, 2, 7, 14, 20, 300]));
-        let mut lengths = vec![need - 1, need, less, more];
-        if let Ask::Claim(_) = ask {
+        let mut lengths = vec![need.saturating_sub(1), need, less, more];
+        if need == 0 {
+            lengths = vec![0, more]; // no rows, converted
+        } else if let Ask::Claim(_) = ask {
             // Around the length of either reply.
             let full = verdict_with_sets(word(sheet, 6) as usize);
             lengths.extend([VERDICT - 1, VERDICT, full - 1, full]);
@@ -199,6 +213,9 @@ impl Run {
         self.number = number;
         let mut rng = Rng::new(self.seed.wrapping_mul(1_000_003).wrapping_add(number));
         let rng = &mut rng;
+        // Of its own, so that the other cases are the same with it and without it.
+        let mut for_conversion = Rng::new(self.seed.wrapping_mul(1_000_033).wrapping_add(number));
+        let converts = for_conversion.chance(CONVERTED);
         if number % FULL == 7 || number % JOINED == 5 || number % LATE == 11 {
             let (bytes, registers) = if number % FULL == 7 {
                 gen::full(rng, number / FULL)
@@ -211,6 +228,18 @@ impl Run {
             for reg in &registers {
                 self.register(rng, &bytes, &sheet, reg);
             }
+            if converts {
+                let start = for_conversion.index(registers.len() - 1);
+                self.conversions(&mut for_conversion, &bytes, Ok(&sheet), &registers[start..start + 2]);
+            }
+            return;
+        }
+        if number % NEAR == 2 {
+            let draft = gen::near_first(&mut for_conversion);
+            let bytes = draft.records.concat();
+            let sheet = read_sheet(&bytes).expect("a readable sheet");
+            let registers = [0; 2].map(|_| gen::near_most(&mut for_conversion, &draft));
+            self.conversions(&mut for_conversion, &bytes, Ok(&sheet), &registers);
             return;
         }
         let mut draft = if number % WIDEST == 3 { gen::widest(rng) } else { gen::draft(rng) };
@@ -225,6 +254,9 @@ impl Run {
                 self.case(rng, &bytes, &Ask::Claim(c), Want::Refused(n, r));
                 let reg = gen::register(rng, &draft);
                 self.case(rng, &bytes, &Ask::Register(&reg), Want::Refused(n, r));
+                if converts {
+                    self.conversions(&mut for_conversion, &bytes, Err((n, r)), &[reg]);
+                }
                 return;
             }
         };
@@ -234,9 +266,131 @@ impl Run {
         if rng.chance(50) {
             draft.edition = sheet.edition;
         }
+        let mut registers = Vec::new();
         for _ in 0..1 + rng.below(3) {
             let reg = gen::register(rng, &draft);
             self.register(rng, &bytes, &sheet, &reg);
+            registers.push(reg);
+        }
+        if converts {
+            self.conversions(&mut for_conversion, &bytes, Ok(&sheet), &registers);
+        }
+    }
+
+    // Document 02, card 6: the sheet and the registers towards each edition. What goes to the other one has the same answers
+    // there, and comes back as it was.
+    fn conversions(&mut self, rng: &mut Rng, bytes: &[u8], read: Result<&Sheet, Refusal>, registers: &[Vec<u8>]) {
+        let wanted = |answer: &Result<Vec<u8>, Refusal>| match answer {
+            Ok(reply) => Want::Bytes(reply.clone()),
+            Err((n, r)) => Want::Refused(*n, *r),
+        };
+        for to in EDITIONS {
+            let answer = sheet_towards(bytes, to);
+            if let Ok(sheet) = read {
+                self.towards(bytes, sheet, to, &answer);
+            }
+            self.case(rng, bytes, &Ask::SheetTo(to.number()), wanted(&answer));
+            for reg in registers {
+                let answer = register_towards(bytes, reg, to);
+                if let Ok(sheet) = read {
+                    self.rows_towards(sheet, reg, to, &answer);
+                }
+                self.case(rng, bytes, &Ask::RegisterTo(to.number(), reg), wanted(&answer));
+            }
+        }
+        let Ok(sheet) = read else { return };
+        let (own, other) = (sheet.edition, sheet.edition.other());
+        let Ok(there) = sheet_towards(bytes, other) else { return };
+        self.converted = true;
+        if there.len() != bytes.len() || (0..there.len()).any(|at| (there[at] != bytes[at]) != (at == 4)) {
+            self.fail(&there, &Ask::SheetTo(other.number()), 0, "the oracle changes another byte than the edition's");
+        }
+        self.case(rng, &there, &Ask::SheetTo(own.number()), Want::Bytes(bytes.to_vec()));
+        self.ranges_and_claims(rng, &there, sheet);
+        for reg in registers {
+            let (Ok(rows), Ok(before)) = (register_towards(bytes, reg, other), read_register(reg, own, sheet.groups.len())) else {
+                continue;
+            };
+            if read_register(&rows, other, sheet.groups.len()) != Ok(before) {
+                self.fail(&there, &Ask::RegisterTo(other.number(), reg), 0, "the oracle's rows carry something else");
+            }
+            self.case(rng, &there, &Ask::RegisterTo(own.number(), &rows), Want::Bytes(reg.clone()));
+            self.register(rng, &there, &Sheet { edition: other, ..sheet.clone() }, &rows);
+        }
+        self.converted = false;
+    }
+
+    // What is met where a readable sheet goes towards an edition, or is turned back on the way.
+    fn towards(&mut self, bytes: &[u8], sheet: &Sheet, to: Edition, answer: &Result<Vec<u8>, Refusal>) {
+        let op = sheet_to(to.number());
+        let labels: Vec<usize> = records(bytes).filter(|r| r.0 == 3).map(|r| r.1.len() - 2).collect();
+        let (groups, long) = (sheet.groups.len(), labels.iter().filter(|&&n| n > 16).count());
+        let copied = sheet.edition == to;
+        let possible = Large::new(sheet).possible();
+        for (what, met) in match answer {
+            Ok(_) => vec![
+                (COPIED, copied),
+                (CONVERTED_TO, !copied),
+                (CONVERTS_IMPOSSIBLE, !copied && !possible),
+                (CONVERTS_MOST, !copied && groups == 128),
+                (CONVERTS_16, !copied && labels.contains(&16)),
+                (COPIES_WIDE, copied && groups > 128),
+                (COPIES_LONG, copied && long > 0),
+            ],
+            Err((16, _)) => vec![(MANY_129, groups == 129), (MANY_256, groups == 256), (MANY_LONG, long > 0), (MANY_IMPOSSIBLE, !possible)],
+            Err((_, r)) => {
+                let at = *r as usize - groups - 2;
+                vec![
+                    (LONG_FIRST, at == 0 && labels.len() > 1),
+                    (LONG_LAST, at > 0 && at + 1 == labels.len()),
+                    (LONG_17, labels[at] == 17),
+                    (LONG_32, labels[at] == 32),
+                    (LONG_ALONE, long == 1 && labels.len() > 1),
+                    (LONG_AFTER_16, at > 0 && labels[at - 1] == 16),
+                    (LONG_MOST, groups == 128),
+                    (LONG_IMPOSSIBLE, !possible),
+                ]
+            }
+        } {
+            if met {
+                self.met(&format!("{op}: {what}"));
+            }
+        }
+    }
+
+    // And where a register under it does.
+    fn rows_towards(&mut self, sheet: &Sheet, reg: &[u8], to: Edition, answer: &Result<Vec<u8>, Refusal>) {
+        let op = register_to(to.number());
+        let (groups, copied) = (sheet.groups.len(), sheet.edition == to);
+        let rows = read_register(reg, sheet.edition, groups);
+        match (answer, rows) {
+            (Ok(_), Ok(rows)) => {
+                let how = if copied { COPIED } else { CONVERTED_TO };
+                let joined = rows.windows(2).any(|r| r[0].0 == r[1].0);
+                let in_none = rows.iter().any(|r| r.1.none());
+                self.met(&format!("{op}: {how}"));
+                for (what, met) in [
+                    (NO_ROWS, rows.is_empty()),
+                    (MOST_ROWS, rows.len() == 2048),
+                    (EQUAL_PAIRS, joined),
+                    (IN_NO_GROUP, in_none),
+                    (BROKEN, broken_rule(sheet, &members(&rows)) != (0, 0)),
+                ] {
+                    if met {
+                        self.met(&format!("{op}: {how}, {what}"));
+                    }
+                }
+                for group in AT_EDGES {
+                    if rows.iter().any(|r| r.1.has(group - 1)) {
+                        self.met(&format!("{op}: {how}, {}", a_row_in(group)));
+                    }
+                }
+            }
+            (Err((n @ 16..=17, _)), Err((row, _))) => self.met(&both_refused(*n, row)),
+            (Err((11, 1)), _) if read_register(reg, sheet.edition.other(), groups).is_ok_and(|rows| rows.len() > 1) => {
+                self.met(&format!("{op}: {}", if copied { OTHER_REGISTER } else { WANTED_ALREADY }));
+            }
+            _ => {}
         }
     }
 
@@ -576,6 +730,32 @@ fn wanted() -> Vec<String> {
     refusals("ranges", &[1, 2, 3, 4, 5, 6, 7, 8, 14]);
     refusals("claim", &[1, 2, 3, 4, 5, 6, 7, 8, 9, 14]);
     refusals("register", &[1, 2, 3, 4, 5, 6, 7, 10, 11, 12, 13, 14, 15]);
+    refusals(&sheet_to(1), &[1, 2, 3, 4, 5, 6, 7, 14, 16, 17]);
+    refusals(&sheet_to(2), &[1, 2, 3, 4, 5, 6, 7, 14]);
+    refusals(&register_to(1), &[1, 2, 3, 4, 5, 6, 7, 10, 11, 12, 13, 14, 15, 16, 17]);
+    refusals(&register_to(2), &[1, 2, 3, 4, 5, 6, 7, 10, 11, 12, 13, 14, 15]);
+    for n in [1, 2] {
+        let both = [COPIED, CONVERTED_TO, CONVERTS_IMPOSSIBLE, CONVERTS_MOST, CONVERTS_16];
+        all.extend(both.map(|what| format!("{}: {what}", sheet_to(n))));
+        for how in [COPIED, CONVERTED_TO] {
+            let rows = [NO_ROWS, MOST_ROWS, EQUAL_PAIRS, IN_NO_GROUP, BROKEN];
+            all.extend(rows.map(|what| format!("{}: {how}, {what}", register_to(n))));
+            // 128 is the last group that a converted row has.
+            let last = if n == 2 && how == COPIED { 256 } else { 128 };
+            let edges = AT_EDGES.into_iter().filter(|&group| group <= last);
+            all.extend(edges.map(|group| format!("{}: {how}, {}", register_to(n), a_row_in(group))));
+        }
+        all.extend([OTHER_REGISTER, WANTED_ALREADY].map(|what| format!("{}: {what}", register_to(n))));
+    }
+    all.extend([COPIES_WIDE, COPIES_LONG].map(|what| format!("{}: {what}", sheet_to(2))));
+    let turned = [
+        [MANY_129, MANY_256, MANY_LONG, MANY_IMPOSSIBLE].as_slice(),
+        &[LONG_FIRST, LONG_LAST, LONG_17, LONG_32, LONG_ALONE, LONG_AFTER_16, LONG_MOST, LONG_IMPOSSIBLE],
+    ];
+    all.extend(turned.concat().into_iter().map(|what| format!("{}: {what}", sheet_to(1))));
+    for n in [10, 11, 12, 13, 15] {
+        all.extend([both_refused(16, n), both_refused(17, n)]);
+    }
     for rule in 0..7 {
         all.push(format!("register: rule {rule}"));
         all.push(format!("register: rule {rule}, 2,040 rows or more"));
@@ -709,6 +889,45 @@ fn above_128(rule: u16) -> String {
     format!("register: rule {rule} at a group above 128")
 }
 
+// What the conversions tell apart (document 02, card 6).
+fn sheet_to(n: u16) -> String {
+    format!("sheet to edition {n}")
+}
+fn register_to(n: u16) -> String {
+    format!("register to edition {n}")
+}
+const COPIED: &str = "copied";
+const CONVERTED_TO: &str = "converted";
+const CONVERTS_IMPOSSIBLE: &str = "converted, impossible";
+const CONVERTS_MOST: &str = "converted, 128 groups";
+const CONVERTS_16: &str = "converted, a label of 16 bytes";
+const COPIES_WIDE: &str = "copied, over 128 groups";
+const COPIES_LONG: &str = "copied, a label above 16 bytes";
+const MANY_129: &str = "refusal 16, 129 groups";
+const MANY_256: &str = "refusal 16, 256 groups";
+const MANY_LONG: &str = "refusal 16, a label above 16 bytes too";
+const MANY_IMPOSSIBLE: &str = "refusal 16, impossible too";
+const LONG_FIRST: &str = "refusal 17 at the first name";
+const LONG_LAST: &str = "refusal 17 at the last name";
+const LONG_17: &str = "refusal 17, a label of 17 bytes";
+const LONG_32: &str = "refusal 17, a label of 32 bytes";
+const LONG_ALONE: &str = "refusal 17, one of several labels alone";
+const LONG_AFTER_16: &str = "refusal 17 after a label of 16 bytes";
+const LONG_MOST: &str = "refusal 17, 128 groups";
+const LONG_IMPOSSIBLE: &str = "refusal 17, impossible too";
+const NO_ROWS: &str = "no rows";
+const MOST_ROWS: &str = "2,048 rows";
+const EQUAL_PAIRS: &str = "rows of one member";
+const IN_NO_GROUP: &str = "a row in no group";
+const BROKEN: &str = "a broken rule";
+const WANTED_ALREADY: &str = "refusal 11, rows of the wanted edition";
+fn a_row_in(group: usize) -> String {
+    format!("a row in group {group}")
+}
+fn both_refused(n: u32, row: u32) -> String {
+    format!("{}: refusal {n}, and {row} in a row", register_to(1))
+}
+
 const BAD_EDITIONS: [u16; 5] = [0, 3, 257, 258, 65535];
 fn of_edition(number: u16) -> String {
     format!("sheets: refusal 4, edition {number}")
@@ -749,9 +968,11 @@ const FULL: u64 = 113; // one sheet in so many is drawn around a register of man
 const JOINED: u64 = 13; // and one around a small register of members on several rows
 const LATE: u64 = 29; // and one around a small register that breaks rules at groups above 128
 const WIDEST: u64 = 97; // and one for the greatest end
+const NEAR: u64 = 12; // and one near the limits of edition 1, to be converted
+const CONVERTED: u64 = 25; // so many of 100 others are converted too
 
 fn main() {
-    let (mut seed, mut cases, mut only, mut own) = (20_240_229u64, 1_000_000u64, None, false);
+    let (mut seed, mut cases, mut only, mut own) = (20_240_229u64, 1_400_000u64, None, false);
     let (mut off, mut verdicts) = (Off::default(), false);
     let mut args = std::env::args().skip(1);
     while let Some(a) = args.next() {
@@ -782,7 +1003,7 @@ fn main() {
         selftest::run(seed);
         return;
     }
-    let new = || Run { seed, off, verdicts, number: 0, replaced: false, cases: 0, calls: 0, met: BTreeMap::new() };
+    let new = || Run { seed, off, verdicts, number: 0, replaced: false, converted: false, cases: 0, calls: 0, met: BTreeMap::new() };
     if let Some(i) = only {
         let mut run = new();
         run.sheet(i);
@@ -817,7 +1038,7 @@ fn main() {
     for (k, n) in &all.met {
         println!("  {k}: {n}");
     }
-    if cases >= 50_000 {
+    if cases >= 100_000 {
         for k in wanted() {
             if !all.met.contains_key(&k) {
                 eprintln!("this run never met '{k}'");

@@ -1,6 +1,7 @@
 // The oracle held to document 01's meaning in its plainest form: families of sets, one set of
 // members for each group, all of them gone through; and registers by the sets that they list.
 
+use crate::conversion::{register_towards, sheet_towards};
 use crate::format::*;
 use crate::gen::Rng;
 use crate::large::{arrangement, Large};
@@ -305,6 +306,74 @@ fn editions() {
     println!("self-test, editions: {asked} heads, labels and rows");
 }
 
+// Document 02, card 6, value by value: every number of groups, a label of every length at every one of some names, two long labels,
+// and rows with every bit, every two bits, all bits and none, on one row and on several, each beside the row that is written out.
+fn conversions() {
+    let record = |kind: u16, body: &[u8]| [&(body.len() as u16 + 2).to_le_bytes()[..], &kind.to_le_bytes(), body].concat();
+    let words = |fields: &[u16]| fields.iter().flat_map(|f| f.to_le_bytes()).collect::<Vec<u8>>();
+    // Impossible where a bound says so: that is never asked.
+    let sheet = |edition: u16, groups: u16, labels: &[usize]| {
+        let mut bytes = record(1, &words(&[edition, groups, labels.len() as u16, 0]));
+        (0..groups).for_each(|g| bytes.extend(record(2, &words(&[g, g % 3, 1, 0]))));
+        for (k, &n) in labels.iter().enumerate() {
+            bytes.extend(record(3, &[&[0, 0], &vec![b'A' + k as u8; n][..]].concat()));
+        }
+        bytes
+    };
+    let mut asked = 0u64;
+    let mut towards = |groups: u16, labels: &[usize], want: Result<(), Refusal>| {
+        let (first, second) = (sheet(1, groups, labels), sheet(2, groups, labels));
+        assert_eq!(want.map(|_| first.clone()), sheet_towards(&second, Edition::One), "{groups} groups, labels {labels:?}");
+        assert_eq!(Ok(second.clone()), sheet_towards(&second, Edition::Two), "{groups} groups, labels {labels:?}");
+        if want.is_ok() {
+            assert_eq!(Ok(first.clone()), sheet_towards(&first, Edition::One), "{groups} groups, labels {labels:?}");
+            assert_eq!(Ok(second.clone()), sheet_towards(&first, Edition::Two), "{groups} groups, labels {labels:?}");
+        } else {
+            // Before any row.
+            for bad in [vec![0], row(Edition::Two, (0, 3), &[255])] {
+                assert_eq!(want.map(|_| bad.clone()), register_towards(&second, &bad, Edition::One));
+            }
+        }
+        asked += 1;
+    };
+    for groups in 1..=256 {
+        let many = if groups <= 128 { Ok(()) } else { Err((16, 0)) };
+        towards(groups, &[], many);
+        towards(groups, &[16, 1, 16], many);
+        towards(groups, &[16, 17, 32], many.and(Err((17, groups as u32 + 3))));
+    }
+    for n in 1..=32 {
+        for at in 0..5 {
+            for groups in [1, 2, 128] {
+                let mut labels = [16; 5];
+                labels[at] = n;
+                let record = groups as u32 + at as u32 + 2;
+                towards(groups, &labels, if n <= 16 { Ok(()) } else { Err((17, record)) });
+                labels[4] = 17;
+                towards(groups, &labels, Err((17, if n <= 16 { groups as u32 + 6 } else { record })));
+            }
+        }
+    }
+    for groups in [128usize, 127, 65, 9] {
+        let sheets = EDITIONS.map(|e| sheet(e.number(), groups as u16, &[]));
+        let both = |ears: &[(Ear, Vec<usize>)]| {
+            let rows = EDITIONS.map(|e| ears.iter().flat_map(|(ear, bits)| row(e, *ear, bits)).collect::<Vec<u8>>());
+            for (own, to) in [(0, 0), (0, 1), (1, 0), (1, 1)] {
+                assert_eq!(Ok(rows[to].clone()), register_towards(&sheets[own], &rows[own], EDITIONS[to]), "{ears:?}");
+            }
+        };
+        let all: Vec<usize> = (0..groups).collect();
+        both(&[]);
+        both(&[((1, 1), vec![]), ((1, 1), vec![]), ((1, 2), all.clone()), ((1, 2), vec![]), ((u32::MAX, 1), all.clone())]);
+        for &a in &all {
+            both(&[((a as u32 + 1, 2), vec![a]), ((a as u32 + 1, 2), vec![a, groups - 1]), ((1000, 1), vec![])]);
+            all.iter().for_each(|&b| both(&[((7, 1), vec![a, b])]));
+            asked += 1 + groups as u64;
+        }
+    }
+    println!("self-test, conversions: {asked} sheets and registers");
+}
+
 // The sheet among 129 to 256 groups, under a root that asks nothing, and where its groups are now. The others ask nothing of
 // its groups: they are of mode 0, without upper ends.
 fn among_many(rng: &mut Rng, sheet: &Sheet) -> (Sheet, Vec<usize>) {
@@ -525,5 +594,6 @@ pub fn run(seed: u64) {
     );
     registers();
     editions();
-    println!("self-test: 6 passed, 0 failed");
+    conversions();
+    println!("self-test: 7 passed, 0 failed");
 }

@@ -37,6 +37,3 @@ pub const SAME: u16 = 4;
 // Sides of a row.
 pub const LEFT: u16 = 1;
 pub const RIGHT: u16 = 2;
-
-// Bytes of a group in a reply with ranges.
-pub const RANGE: usize = 20;

@@ -18,6 +18,7 @@ mod limits;
 // The answers, by subject.
 mod buffers;
 mod claims;
+mod conversion;
 mod ears;
 mod editions;
 mod joined;
@@ -31,7 +32,7 @@ mod wide;
 use std::process::exit;
 use table::Table;
 
-const SUBJECTS: [fn(&mut Table); 11] = [
+const SUBJECTS: [fn(&mut Table); 12] = [
     refusals::all,
     registers::all,
     sizes::all,
@@ -42,6 +43,7 @@ const SUBJECTS: [fn(&mut Table); 11] = [
     places::all,
     editions::all,
     wide::all,
+    conversion::all,
     buffers::all,
 ];
 

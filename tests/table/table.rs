@@ -50,8 +50,8 @@ impl Table {
         expect[..want.len()].copy_from_slice(want);
         let got = call(ask, sheet, &mut buffer);
         let ok = got == want.len() as u64 && buffer == expect;
-        let why = format!("wanted {} bytes {want:?}, got {} {} {buffer:?}", want.len(), got >> 32, got as u32);
-        self.note(what, ok, why);
+        let why = || format!("wanted {} bytes {want:?}, got {} {} {buffer:?}", want.len(), got >> 32, got as u32);
+        self.note(what, ok, if ok { String::new() } else { why() });
     }
 
     // A sheet that every operation turns back, in edition 2 too.
@@ -68,6 +68,10 @@ impl Table {
             self.turned(&format!("{what} (ranges)"), Ask::Ranges, sheet, len, n, r);
             self.turned(&format!("{what} (claim)"), Ask::Claim(1), sheet, len, n, r);
             self.turned(&format!("{what} (register)"), Ask::Register(&[]), sheet, len, n, r);
+        }
+        for (to, len) in [(1, 0), (1, 6000), (2, 0), (2, 6000)] {
+            self.turned(&format!("{what} (to edition {to})"), Ask::SheetTo(to), sheet, len, n, r);
+            self.turned(&format!("{what} (register to edition {to})"), Ask::RegisterTo(to, &[]), sheet, len, n, r);
         }
     }
 
@@ -88,6 +92,13 @@ impl Table {
         for len in [0, 7, 8, 50] {
             self.turned(what, Ask::Register(reg), sheet, len, n, r);
         }
+        // Converted it meets the same; towards edition 1 more than 128 groups come before any row.
+        let first = if n >= 10 && format::word(sheet, 6) > 128 { (16, 0) } else { (n, r) };
+        for (to, (n, r)) in [(1, first), (2, (n, r))] {
+            for len in [0, 2 * reg.len()] {
+                self.turned(&format!("{what} (to edition {to})"), Ask::RegisterTo(to, reg), sheet, len, n, r);
+            }
+        }
     }
 
     pub fn register(&mut self, what: &str, sheet: &[u8], reg: &[u8], group: u16, rule: u16) {
@@ -99,8 +110,9 @@ impl Table {
         self.register_with(what, sheet, reg, group, rule, &[7, 8, 40]);
     }
 
-    // With buffers of these lengths; a register of edition 1 in all its forms.
+    // With buffers of these lengths; a register of edition 1 in all its forms, and converted.
     pub fn register_with(&mut self, what: &str, sheet: &[u8], reg: &[u8], group: u16, rule: u16, lengths: &[usize]) {
+        self.both_editions(what, sheet, reg);
         for form in forms(sheet) {
             let reg = form.rows(reg);
             let want = framed(6, 20, &words(&[form.group(group), rule]));
