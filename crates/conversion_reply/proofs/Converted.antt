@@ -33,7 +33,7 @@ use Rattle.claim_reply.proofs.Settled.{claim-settled}
 use Rattle.register_reply.specs.RegisterReply.{AnswerIn, Register}
 use Rattle.register_reply.proofs.Settled.{register-settled}
 use Rattle.conversion_reply.specs.ConversionReply.{SheetConversion, RegisterConversion}
-use Rattle.conversion_reply.specs.Converted.{Succeeds, replyOf, OnlyEdition, RowsKept, SheetConverted, RegisterConverted}
+use Rattle.conversion_reply.specs.Converted.{Succeeds, replyOf, OnlyEdition, RowsKept, Copied, Back, SheetConverted, RegisterConverted}
 use Rattle.conversion_reply.proofs.GivenLaws.{sheet-length, rows-fit}
 
 -- A call that was not refused: its readings gave a value, and its reply is the bytes.
@@ -112,9 +112,8 @@ module _ {e : Edition} {sheet out : List ℕ} (k : Bytes sheet) (g : SheetGoes e
   carried : {c : Call} {P Q : Records → Type 0} → (P (inEdition e d) → Q d) → OnceRead (readSheet out) c P → OnceRead (readSheet sheet) c Q
   carried {Q = Q} on v = once-passed Q (g .reads) (on (v .passed (inEdition e d) out-reads))
 
-  sheet-back : (f : Edition) → u16At sheet 4 ≡ editionNumber f → {c : Call} → SheetConversion f out c → length sheet ≤ length (c .before)
-      → Succeeds c × (replyOf c ≡ sheet)
-  sheet-back f n {c} v l =
+  sheet-back : Back sheet sheet (λ f. SheetConversion f out)
+  sheet-back f n c v l =
       let w : OnceBytes (encodeSheet d) c = v .passed (inEdition e d) out-reads .passed d (back-by f n) in
       let same = readable-is-encoded sheet k d (g .reads) .0 in
       succeeds-where-room (sheet-small sheet d (g .reads)) (rw same at w) l
@@ -168,7 +167,7 @@ module _ {e : Edition} {sheet sheet' : List ℕ} (g : SheetGoes e sheet sheet') 
           rows-fit f (length (rowsIn e rows)) (rows-in-within e few rows-within .rowCount),
         )
 
-    register-copied : u16At sheet 4 ≡ editionNumber e → out ≡ register
+    register-copied : Copied e sheet register out
     register-copied n =
         written ∙ ap (λ h. encodeRegister h (rowsIn h rows)) (edition-read sheet (g .records) (g .reads) e n)
         ∙ ap (encodeRegister f) (rows-in-own f rows-within) ∙ readable-register-is-encoded f groups register m rows x .0
@@ -184,9 +183,8 @@ module _ {e : Edition} {sheet sheet' : List ℕ} (g : SheetGoes e sheet sheet') 
     check-kept {c} v =
         once-passed (λ q. OnceRoom answerBytes c (AnswerIn s q)) x (room-said refl (λ o a. answer-kept a) (v .passed (rowsIn e rows) out-rows))
 
-    register-back : (h : Edition) → u16At sheet 4 ≡ editionNumber h → {c : Call} → RegisterConversion h sheet' out c → length register ≤ length (c .before)
-        → Succeeds c × (replyOf c ≡ register)
-    register-back h n {c} v l =
+    register-back : Back sheet register (λ h. RegisterConversion h sheet' out)
+    register-back h n c v l =
         let same = edition-read sheet (g .records) (g .reads) h n in
         let w = v .passed (inEdition e (g .records)) (out-reads k g) .passed (g .records) (back-by k g h n) .passed (rowsIn e rows) out-rows in
         let w' : OnceBytes (encodeRegister f (rowsIn f (rowsIn e rows))) c = rw same at w in

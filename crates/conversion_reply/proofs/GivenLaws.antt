@@ -53,8 +53,8 @@ unfolding groupLimit labelLimit
 sheet-fits n h = omega arith
 
 -- an edition stored over the bytes of a sheet
-pub edition-over : (n : ℕ) (b l : List ℕ) {l₁ l₂ : List ℕ} → headBytes ≤ length b → length b ≤ length l → l₁ ≡ sets l 0 b → l₂ ≡ sets l₁ 4 (le16 n)
-    → l₂ ≡ sets l 0 (sets b 4 (le16 n))
+pub edition-over : (n : ℕ) (b l : List ℕ) {l₁ l₂ : List ℕ} → headBytes ≤ length b → length b ≤ length l
+    → l₁ ≡ sets l 0 b → l₂ ≡ sets l₁ 4 (le16 n) → l₂ ≡ sets l 0 (sets b 4 (le16 n))
 unfolding le16
 edition-over n b l h = sets-over (le16 n) b l 4 (omega arith)
 

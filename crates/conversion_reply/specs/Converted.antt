@@ -37,16 +37,22 @@ pub record RowsKept (rs rs' : List Row) : Type 0 where
   pub members : map (λ r. r .member) rs' ≡ map (λ r. r .member) rs
   pub groups : (g : ℕ) → map (λ r. inGroup r g) rs' ≡ map (λ r. inGroup r g) rs
 
+-- "already in the wanted edition is copied": the conversion y of x, a sheet or a register under it
+abbrev pub Copied : Edition → List ℕ → List ℕ → List ℕ → Type 0
+Copied e sheet x y = u16At sheet 4 ≡ editionNumber e → y ≡ x
+
+-- "and back has its first bytes again": every conversion of what was made of x, towards the sheet's own edition and with room, gives x
+abbrev pub Back : List ℕ → List ℕ → (Edition → Call → Type 0) → Type 0
+Back sheet x Converts =
+    (f : Edition) → u16At sheet 4 ≡ editionNumber f → (c : Call) → Converts f c → length x ≤ length (c .before) → Succeeds c × (replyOf c ≡ x)
+
 -- What holds of a sheet and of its conversion `out` towards edition e.
 pub record SheetConverted (e : Edition) (sheet out : List ℕ) : Type 0 where
   pub only : OnlyEdition e sheet out
   -- both are readable, and have the same groups, names and claims
   pub readable : (d : Records) × (readSheet sheet ≡ read d) × (readSheet out ≡ read (inEdition e d))
-  -- "A sheet or register already in the wanted edition is copied."
-  pub copied : u16At sheet 4 ≡ editionNumber e → out ≡ sheet
-  -- "and back has its first bytes again"
-  pub back : (f : Edition) → u16At sheet 4 ≡ editionNumber f → {c : Call} → SheetConversion f out c → length sheet ≤ length (c .before)
-      → Succeeds c × (replyOf c ≡ sheet)
+  pub copied : Copied e sheet sheet out
+  pub back : Back sheet sheet (λ f. SheetConversion f out)
   -- "each verdict over the converted sheet equals the verdict over the original": of two calls with one buffer at entry, the numbers
   -- returned are equal and so is every byte, but for the sets that a verdict shows
   pub ranges : {before after after' : List ℕ} {r r' : ℕ} → RangesCall sheet (call before r after) → RangesCall out (call before r' after')
@@ -60,11 +66,8 @@ pub record RegisterConverted (e : Edition) (sheet sheet' register out : List ℕ
   -- the register is read under its sheet, the conversion under as many groups in edition e, and the rows are kept
   pub rows : (d : Records) × (rs rs' : List Row) × (readSheet sheet ≡ read d) × (readRegister (d .edition) (length (d .groups)) register ≡ read rs)
       × (readRegister e (length (d .groups)) out ≡ read rs') × RowsKept rs rs'
-  -- "already in the wanted edition"
-  pub copied : u16At sheet 4 ≡ editionNumber e → out ≡ register
-  -- there and back
-  pub back : (f : Edition) → u16At sheet 4 ≡ editionNumber f → {c : Call} → RegisterConversion f sheet' out c → length register ≤ length (c .before)
-      → Succeeds c × (replyOf c ≡ register)
+  pub copied : Copied e sheet register out
+  pub back : Back sheet register (λ f. RegisterConversion f sheet' out)
   -- the check of a register replies the same
   pub checked : {before after after' : List ℕ} {r r' : ℕ} → RegisterCall sheet register (call before r after)
       → RegisterCall sheet' out (call before r' after') → Bytes after → Bytes after' → (r ≡ r') × (after ≡ after')

@@ -37,6 +37,7 @@ ghost use Rattle.conversion_reply.specs.ConversionReply.{SheetConversion
 // Where the edition stands in a head.
 const HEAD_EDITION: usize = 4;
 
+// bytes from the front of the buffer on
 fn put_bytes(out: &mut [u8], bytes: &[u8])
     requires { ⌜ length (now bytes) ≤ length (now out) ⌝ }
     ensures { λ _. ⌜ now (out .exit) ≡ sets (now (out .entry)) 0 (now (bytes .entry)) ⌝ }

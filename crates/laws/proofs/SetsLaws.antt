@@ -27,8 +27,8 @@ module _ {A : Type 0} where
   sets-append-left (x ∷ v) b c i h =
       rw (set-append-left b c i x (omega arith)) (sets-append-left v (set b i x) c (suc i) (simp length-set (omega arith)))
 
-  pub sets-over : (v b l : List A) (i : ℕ) {l₁ l₂ : List A} → i + length v ≤ length b → length b ≤ length l → l₁ ≡ sets l 0 b → l₂ ≡ sets l₁ i v
-      → l₂ ≡ sets l 0 (sets b i v)
+  pub sets-over : (v b l : List A) (i : ℕ) {l₁ l₂ : List A} → i + length v ≤ length b → length b ≤ length l
+      → l₁ ≡ sets l 0 b → l₂ ≡ sets l₁ i v → l₂ ≡ sets l 0 (sets b i v)
   sets-over v b l i h k p q =
       let size : length (sets b i v) ≡ length b = length-sets b i v in
       let over : sets (b ++ drop (length b) l) i v ≡ sets b i v ++ drop (length b) l = sets-append-left v b (drop (length b) l) i h in

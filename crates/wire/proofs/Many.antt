@@ -33,7 +33,8 @@ each-both none none = none
 each-both (more p e) (more q f) = more (p, q) (each-both e f)
 
 -- and where each that is right is right in another way, or its value by a function is
-pub each-so : {A : Type 0} {P Q : List A → A → Type 0} → ((us : List A) (y : A) → P us y → Q us y) → {xs ys : List A} → Each P xs ys → Each Q xs ys
+pub each-so : {A : Type 0} {P Q : List A → A → Type 0} → ((us : List A) (y : A) → P us y → Q us y) → {xs ys : List A} → Each P xs ys
+    → Each Q xs ys
 each-so so none = none
 each-so so (more {xs} {ys} {y} p e) = more (so xs y p) (each-so so e)
 

@@ -22,7 +22,8 @@ same-length c = search needs
 returns : tie.Need-returns
 returns c =
     let s = c .before .before .before .before .before .before .before .before in
-    rw (words-two (editionOf (s .args .edition)) (omega (arith, c .before .row-words .ensures, c .if1 .taken))) (c .before .before .before .before .put-two .ensures)
+    rw (words-two (editionOf (s .args .edition)) (omega (arith, c .before .row-words .ensures, c .if1 .taken)))
+    (c .before .before .before .before .put-two .ensures)
 
 mul-put-two : tie.Need-mul-put-two
 mul-put-two c = search needs
