@@ -11,14 +11,14 @@ use spans::pair::Pair;
 use spans::span::{Span, larger, minus, smaller};
 
 // the state of the later sons and of the one son
-#[derive(Drop)]
+#[derive(Clone, Copy)]
 pub struct States {
     pub rest: bool,
     pub son: bool,
 }
 
 // a number and a state for the later sons, and for the one son
-#[derive(Drop)]
+#[derive(Clone, Copy)]
 pub struct Parts {
     pub rest: u32,
     pub rest_in: bool,

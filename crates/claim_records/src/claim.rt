@@ -11,7 +11,7 @@ use tables::limits::CLAIM_SLOTS;
 use tables::names::NameNo;
 
 // Kind 4: the set of a name has from lo to hi members, 65535 for no upper end.
-#[derive(Drop)]
+#[derive(Clone, Copy)]
 pub struct Count {
     pub name: NameNo,
     pub lo: u16,
@@ -19,7 +19,7 @@ pub struct Count {
 }
 
 // Kinds 5, 6 and 7.
-#[derive(Drop)]
+#[derive(Clone, Copy)]
 pub enum ListKind {
     Inside,
     Apart,
@@ -27,7 +27,7 @@ pub enum ListKind {
 }
 
 // A claim of these kinds: m left names and then n right names, two bytes each, from the offset `at` of the sheet on.
-#[derive(Drop)]
+#[derive(Clone, Copy)]
 pub struct Lists {
     pub kind: ListKind,
     pub m: u16,
@@ -35,7 +35,7 @@ pub struct Lists {
     pub at: usize,
 }
 
-#[derive(Drop)]
+#[derive(Clone, Copy)]
 pub enum Claim {
     Count(Count),
     Lists(Lists),

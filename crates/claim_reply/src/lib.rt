@@ -1,6 +1,8 @@
 // The reply to `sheet_claim` under a sheet that was read: the verdict, with sets where some answer the claim, or a refusal.
 // `specs/ClaimReply` writes the operation down, `specs/Asked` what the tables hold, `specs/Settled` what the contract leaves open.
 // Document 01, "Meaning", "The arrangement" (denials), "Replies", refusals 8, 9 and 14; document 02, card 1.
+#![tactic(auto)]
+
 ghost use Rattle.std.specs.Prelude.{◌≡◌};
 ghost use Rattle.wire.specs.Record.{read};
 ghost use Rattle.wire.specs.SheetFormat.{Records, read_sheet};

@@ -9,7 +9,7 @@ use questions::lists::is_place;
 use replies::verdict::Verdict;
 
 // A verdict with sets in the tables that answer the claim, or alone.
-#[derive(Drop)]
+#[derive(Clone, Copy)]
 pub enum Decision {
     Shown(Verdict),
     Alone(Verdict),

@@ -9,7 +9,7 @@ use wire::edition::{group_limit, label_limit};
 use wire::refusals::{LONG_LABEL, MANY_GROUPS};
 
 // They may, or a refusal's number with the record's number.
-#[derive(Drop)]
+#[derive(Clone, Copy)]
 pub enum Towards {
     Allowed,
     Refused(u32, u32),

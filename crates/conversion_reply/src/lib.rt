@@ -1,6 +1,8 @@
 // The four conversions over the edition: the refusals of the sheet, of its way to an edition and of the register's rows, or the converted
 // bytes. `specs/ConversionReply` writes the operations down, `specs/Converted` says what a conversion keeps.
 // Document 02, card 6.
+#![tactic(auto)]
+
 ghost use Rattle.std.specs.Prelude.{◌≡◌, ◌≤◌, length};
 ghost use Rattle.std.proofs.lemmas.List.Edits.{sets};
 ghost use Rattle.wire.specs.Bytes.{le16};

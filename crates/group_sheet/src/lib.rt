@@ -2,6 +2,8 @@
 // Each reads the sheet and calls the crate that has its own part (of the conversions, `editions`, that crate reads it), and that says what its
 // contract settles (`proofs/Settled`).
 // Document 01, "What it reads and gives" and "Replies"; document 02.
+#![tactic(auto)]
+
 pub mod claim;
 pub mod editions;
 pub mod ranges;

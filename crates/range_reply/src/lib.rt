@@ -1,6 +1,8 @@
 // The reply to `sheet_ranges` under a sheet that was read: ranges with an arrangement, or a refusal.
 // `specs/RangesReply` writes the operation down, `specs/Planning` what planners read off its reply (document 02, card 13).
 // Document 01, "Ranges", "The arrangement", "Replies", refusals 8 and 14.
+#![tactic(auto)]
+
 ghost use Rattle.tables.specs.SheetIn.{sheet_in, Tabled};
 ghost use Rattle.replies.specs.Reply.{call};
 ghost use Rattle.range_reply.specs.RangesGiven.{RangesReady, RangesWritten};

@@ -20,14 +20,14 @@ use tables::names::number_meant;
 use wire::refusals::{LABEL_TWICE, TRAILING, WRONG_KIND};
 
 // The offset after the last of some records, or a refusal's number with the record's number.
-#[derive(Drop)]
+#[derive(Clone, Copy)]
 pub enum Passed {
     To(usize),
     Refused(u32, u32),
 }
 
 // A sheet's head, its records being in the tables, or a refusal's number with the record's number.
-#[derive(Drop)]
+#[derive(Clone, Copy)]
 pub enum Loaded {
     Sheet(Head),
     Refused(u32, u32),

@@ -9,7 +9,7 @@ use tables::names::Meant;
 use wire::bytes;
 
 // `edition` is the number of an edition
-#[derive(Drop)]
+#[derive(Clone, Copy)]
 pub struct Head {
     pub edition: u16,
     pub groups: u16,
@@ -17,7 +17,7 @@ pub struct Head {
     pub claims: u16,
 }
 
-#[derive(Drop)]
+#[derive(Clone, Copy)]
 pub struct Group {
     pub parent: GroupNo,
     pub lo: u16,
@@ -26,13 +26,13 @@ pub struct Group {
 }
 
 // what it means, and how many bytes its label has
-#[derive(Drop)]
+#[derive(Clone, Copy)]
 pub struct Name {
     pub means: Meant,
     pub bytes: u16,
 }
 
-#[derive(Drop)]
+#[derive(Clone, Copy)]
 pub enum Record {
     Head(Head),
     Group(Group),
@@ -40,7 +40,7 @@ pub enum Record {
     Claim(Claim),
 }
 
-#[derive(Drop)]
+#[derive(Clone, Copy)]
 pub enum Answer {
     Record(Record),
     Refused(u32),

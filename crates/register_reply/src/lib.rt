@@ -1,6 +1,8 @@
 // The reply to `sheet_register` under a sheet that was read: the register's refusal, or the answer of its check.
 // `specs/RegisterReply` writes the operation down.
 // Document 01, "Registers", "Replies", refusals 10 to 14; document 02, card 4 (15).
+#![tactic(auto)]
+
 ghost use Rattle.wire.specs.Edition.{edition_of};
 ghost use Rattle.tables.specs.SheetIn.{sheet_in, Tabled};
 ghost use Rattle.replies.specs.Reply.{call};

@@ -24,7 +24,7 @@ use tables::groups::{GroupNo, mode_of, parent_of};
 use tiles::fill::fill_columns;
 
 // The listed sets fit; a group's number with the number of the rule that it breaks first; or a refusal's number with the row's.
-#[derive(Drop)]
+#[derive(Clone, Copy)]
 pub enum Check {
     Fits,
     Broken(GroupNo, u16),

@@ -3,6 +3,8 @@
 // (`specs/Wrote`); `give_..` writes a whole reply, or refuses a buffer with no room for it. `specs/Reply` has the refusals and their order, for the
 // contract of every operation, `specs/Shown` a verdict with sets, `specs/Alike` what two buffers share. Document 01, "Replies" and "Turned back, in
 // checking order".
+#![tactic(auto)]
+
 pub mod pairs;
 pub mod verdict;
 

@@ -16,7 +16,7 @@ use wire::refusals::{BAD_ROW, BAD_SIDE, MEMBER_ORDER};
 
 // The key of a row's member, whether the row goes on with the member before, the offset of its membership bytes, and the offset
 // after the row.
-#[derive(Drop)]
+#[derive(Clone, Copy)]
 pub struct RowFound {
     pub key: u64,
     pub joined: bool,
@@ -25,7 +25,7 @@ pub struct RowFound {
 }
 
 // No bytes are left; a row; or the refusal that it meets, 11, 15 or 12.
-#[derive(Drop)]
+#[derive(Clone, Copy)]
 pub enum RowAnswer {
     End,
     Row(RowFound),

@@ -10,7 +10,7 @@ use crate::reader::row_of;
 use wire::refusals::{BIT_ABOVE, TOO_MANY_ROWS};
 
 // The number of rows, or a refusal's number with the row's number.
-#[derive(Drop)]
+#[derive(Clone, Copy)]
 pub enum Rows {
     Count(usize),
     Refused(u32, u32),

@@ -1,6 +1,8 @@
 // The program: a sheet from standard input, of which at most 16,384 bytes are taken, gives a line for each group and each
 // claim, or the line of its refusal.
 // Document 01, "Worked sheets", the printed case; document 02, card 5 (how many bytes).
+#![tactic(auto)]
+
 ghost use Rattle.std.specs.Prelude.{◌<◌, ◌≡◌};
 ghost use Rattle.wire.specs.Capacity.{group_capacity};
 

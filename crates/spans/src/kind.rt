@@ -5,7 +5,7 @@ ghost use Rattle.spans.specs.Held.{kind_held, mode_kind};
 use tables::modes::{is_disjoint, is_same};
 
 // How the sons of a group are joined: they may share members, share none, or are the same.
-#[derive(Drop)]
+#[derive(Clone, Copy)]
 pub enum Kind {
     Lap,
     Add,

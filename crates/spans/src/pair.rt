@@ -11,7 +11,7 @@ use crate::span::{NO_GREATEST, Span, add, hull, lap, meet, nothing};
 use tables::limits::NO_END;
 
 // The intervals of one group: for one member out of it, and for that member in it.
-#[derive(Drop)]
+#[derive(Clone, Copy)]
 pub struct Pair {
     pub out: Span,
     pub inn: Span,

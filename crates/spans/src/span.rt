@@ -9,7 +9,7 @@ ghost use Rattle.sizes.specs.Span as sizes;
 pub const NO_GREATEST: u32 = 4294967295;
 
 // The numbers from `least` to `most`, or from `least` on where `most` is NO_GREATEST; none where `least` is above `most`.
-#[derive(Drop)]
+#[derive(Clone, Copy)]
 pub struct Span {
     pub least: u32,
     pub most: u32,

@@ -9,7 +9,7 @@ use crate::limits::GROUP_FIELDS;
 
 // A group's number and a name's number, each from 1 on, are two families. Where a group has no parent (the root) or no link
 // to another group, `GroupNo(0)` stands for 'none'.
-#[derive(Drop)]
+#[derive(Clone, Copy)]
 pub struct GroupNo(pub u16);
 
 // four numbers of a table from an index on

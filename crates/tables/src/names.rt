@@ -4,11 +4,11 @@ ghost use Rattle.tables.specs.Names.{Means, meant_number};
 
 use crate::groups::GroupNo;
 
-#[derive(Drop)]
+#[derive(Clone, Copy)]
 pub struct NameNo(pub u16);
 
 // What a name means: the empty set, or a group.
-#[derive(Drop)]
+#[derive(Clone, Copy)]
 pub enum Meant {
     Empty,
     Group(GroupNo),
