@@ -1,0 +1,6 @@
+-- `give` meets its contract.
+use mathlib.Core.Path.{refl}
+use Rattle.choosing.proofs.divide.give.Goals as goal
+
+pub returns : goal.returns
+returns c = (refl, (rw c.mark_of.ensures, (refl, rw c.mark_of-2.ensures)))

@@ -1,0 +1,6 @@
+-- `leave` meets its contract.
+use mathlib.Core.Path.{refl}
+use Rattle.choosing.proofs.divide.leave.Goals as goal
+
+pub returns : goal.returns
+returns c = (refl, rw c.mark_of.ensures)

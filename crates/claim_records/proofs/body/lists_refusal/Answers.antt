@@ -1,0 +1,114 @@
+-- `lists_refusal` meets its contract: the tests in the code's order are those of an inside or an apart.
+use Prim.Native.Nat.{◌+◌, ◌*◌}
+use mathlib.Core.Path.{◌≡◌, sym, ◌∙◌}
+use mathlib.Core.Bool.{true, false, cond, ◌&&◌}
+use native.Mathlib.Omega.{arith}
+use native.Mathlib.Nat.{add_assoc}
+use borrow.Author.Tests.{le-leb, lt-leb, eq-eqb, ne_eqb, not-true, not-false}
+use lib.Dec.{eqb}
+use lib.ListN.{drop}
+use Rattle.wire.specs.Bytes.{u16_at}
+use Rattle.wire.specs.Record.{refusal}
+use Rattle.wire.specs.SheetFormat.{claim_length, claim_fields, claim_names, left_of, right_of, all_within, u16s}
+use Rattle.claim_records.specs.Body.{claim_body}
+use Rattle.wire.proofs.Fields.{field_at, read_at, fields_at}
+use Rattle.claim_records.proofs.BodyLaws.{whole_length, lists_end}
+use Rattle.claim_records.proofs.body.lists_refusal.Goals.{After-lists_allowed}
+use Rattle.claim_records.proofs.body.lists_refusal.Goals.{Else-not-lists_allowed}
+use Rattle.claim_records.proofs.body.lists_refusal.Goals.{Start}
+use Rattle.claim_records.proofs.body.lists_refusal.Goals as goal
+
+-- kind and length
+lead : (c : Start) → let r = drop c.args.at c.args.s.now in (eqb (u16_at r 2) 4 ≡ false) × (u16_at r 0 ≡ c.args.len)
+lead c =
+    let s = c.args.s.now in (
+      ne_eqb _ _ (λ e. let z : u16_at s (c.args.at + 2) ≡ 4 = sym (field_at s c.args.at 2) ∙ e in omega arith),
+      whole_length _ _ _ c.requires.0,
+    )
+
+-- the fields passed
+allowed : (c : Else-not-lists_allowed) → c.lists_allowed.result ≡ true
+allowed c = not-false c.lists_allowed.result c.if-not-lists_allowed.false
+
+-- m and n give the length
+ends : (c : Else-not-lists_allowed) → 6 + 2 * (c.u16_at-m.result + c.u16_at-n.result)
+    ≡ c.args.len
+ends c = lists_end _ _ _ (sym c.lists_allowed.ensures ∙ allowed c)
+
+-- the length passed
+past : (c : After-lists_allowed) → let a = c.args in let s = a.s.now in
+    refusal (claim_body a.names (drop a.at s))
+    ≡ cond c.lists_allowed.result
+    (cond (all_within a.names (u16s s (a.at + 8) c.u16_at-m.result)
+    && all_within a.names (u16s s (a.at + 8 + 2 * c.u16_at-m.result) c.u16_at-n.result)) 0 5) 4
+unfolding refusal claim_body claim_length claim_fields claim_names left_of right_of
+past c =
+    let l = lead (c.Start) in
+    let a = c.args in
+    let s = a.s.now in
+    simp (
+      l.0,
+      l.1,
+      eq-eqb _ _ c.if-len-ne0.false,
+      le-leb _ _ c.if-len-lt10.false,
+      le-leb _ _ c.if-len.false,
+      read_at s a.at 4 _ c.u16_at-m.ensures,
+      read_at s a.at 6 _ c.u16_at-n.ensures,
+      sym c.lists_allowed.ensures,
+      fields_at,
+      sym (add_assoc a.at 8 (2 * c.u16_at-m.result)),
+    )
+
+pub returns-then-len-ne0 : goal.returns-then-len-ne0
+unfolding refusal claim_body claim_length
+returns-then-len-ne0 c = let l = lead (goal.at.returns-then-len-ne0 c).Start in simp (l.0, l.1, ne_eqb _ _ c.if-len-ne0.true)
+
+pub returns-then-len-lt10 : goal.returns-then-len-lt10
+unfolding refusal claim_body claim_length
+returns-then-len-lt10 c =
+    let l = lead (goal.at.returns-then-len-lt10 c).Start in
+    simp (l.0, l.1, eq-eqb _ _ c.if-len-ne0.false, lt-leb _ _ c.if-len-lt10.true)
+
+pub returns-then-len : goal.returns-then-len
+unfolding refusal claim_body claim_length
+returns-then-len c =
+    let l = lead (goal.at.returns-then-len c).Start in
+    simp (l.0, l.1, eq-eqb _ _ c.if-len-ne0.false, le-leb _ _ c.if-len-lt10.false, lt-leb _ _ c.if-len.true)
+
+pub returns-then-not-lists_allowed : goal.returns-then-not-lists_allowed
+returns-then-not-lists_allowed c = simp (past (goal.at.returns-then-not-lists_allowed c).After-lists_allowed, not-true c.lists_allowed.result c.if-not-lists_allowed.true)
+
+pub names_allowed-requires : goal.names_allowed-requires
+names_allowed-requires c = let e = ends c in omega arith
+
+pub returns-then-not-names_allowed : goal.returns-then-not-names_allowed
+returns-then-not-names_allowed c =
+    simp (
+  past (goal.at.returns-then-not-names_allowed c).After-lists_allowed,
+  allowed (goal.at.returns-then-not-names_allowed c).Else-not-lists_allowed,
+  sym c.names_allowed.ensures
+      ∙ not-true c.names_allowed.result c.if-not-names_allowed.true,
+)
+
+pub names_allowed-requires-2 : goal.names_allowed-requires-2
+names_allowed-requires-2 c = let e = ends (goal.at.names_allowed-requires-2 c).Else-not-lists_allowed in omega arith
+
+pub returns-then-not-names_allowed-2 : goal.returns-then-not-names_allowed-2
+returns-then-not-names_allowed-2 c =
+    simp (
+  past (goal.at.returns-then-not-names_allowed-2 c).After-lists_allowed,
+  allowed (goal.at.returns-then-not-names_allowed-2 c).Else-not-lists_allowed,
+  sym c.names_allowed.ensures
+      ∙ not-false c.names_allowed.result c.if-not-names_allowed.false,
+  sym c.names_allowed-2.ensures ∙ not-true c.names_allowed-2.result c.if-not-names_allowed-2.true,
+)
+
+pub returns : goal.returns
+returns c =
+    simp (
+  past (goal.at.returns c).After-lists_allowed,
+  allowed (goal.at.returns c).Else-not-lists_allowed,
+  sym c.names_allowed.ensures
+      ∙ not-false c.names_allowed.result c.if-not-names_allowed.false,
+  sym c.names_allowed-2.ensures ∙ not-false c.names_allowed-2.result c.if-not-names_allowed-2.false,
+)

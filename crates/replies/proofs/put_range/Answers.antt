@@ -1,0 +1,18 @@
+use Rattle.replies.proofs.WrittenLaws.{range_put}
+use Rattle.replies.proofs.put_range.Goals as goal
+
+pub returns : goal.returns
+returns c =
+    let w = range_put _ _ _ _ _ _ _ _ _ _ _ _
+    c.put_u16.ensures
+    c.put_u16-2.ensures
+    c.put_u32.ensures
+    c.put_u32-2.ensures
+    c.put_u32-3.ensures
+    c.put_u32-4.ensures
+    c.requires
+    c.ranges.least.fits
+    c.ranges.greatest.fits
+    c.ranges.first.fits
+    c.ranges.count.fits in
+    (w.0, w.1)

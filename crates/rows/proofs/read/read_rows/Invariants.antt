@@ -1,0 +1,18 @@
+-- `rows::read::read_rows` meets its contract. Invariant: the reading that is left after `row` rows is the whole reading, `at` is
+-- the offset after these rows, and `last` the key of the last member of them.
+use Prim.Native.Nat.{◌-◌, ◌*◌, ◌≤◌}
+use mathlib.Core.Path.{◌≡◌}
+use Rattle.wire.specs.Edition.{edition_of, row_bytes}
+use Rattle.wire.specs.Limits.{row_limit}
+use Rattle.wire.specs.MemberKey.{key_member}
+use Rattle.wire.specs.RegisterFormat.{last_member, read_register}
+use Rattle.rows.specs.RowsRead.{rows_before}
+use Rattle.rows.proofs.RowLaws.{going}
+use Rattle.rows.proofs.read.read_rows.Given as goal
+
+abbrev pub invariant-loop-row : goal.invariant-loop-row
+invariant-loop-row l = (l.row ≤ row_limit) × (l.at ≡ row_bytes (edition_of l.edition) * l.row) × (key_member l.last ≡ last_member (rows_before (edition_of l.edition) l.register l.row))
+    × (read_register (edition_of l.edition) l.groups l.register ≡ going (edition_of l.edition) l.groups l.register l.row)
+
+abbrev pub decreases-loop-row : goal.decreases-loop-row
+decreases-loop-row l = row_limit - l.row

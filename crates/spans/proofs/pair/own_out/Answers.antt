@@ -1,0 +1,10 @@
+-- `own_out` meets its contract.
+use native.Mathlib.Omega.{arith}
+use Rattle.spans.proofs.HeldLaws.{own_out_endless, own_out_finite}
+use Rattle.spans.proofs.pair.own_out.Goals as goal
+
+pub returns-then-hi-eq-NO_END : goal.returns-then-hi-eq-NO_END
+returns-then-hi-eq-NO_END c = own_out_endless _ _ (omega arith) c.if-hi-eq-NO_END.true
+
+pub returns : goal.returns
+returns c = own_out_finite _ _ (omega arith) (omega arith) c.if-hi-eq-NO_END.false
