@@ -132,7 +132,7 @@ named_has : {X : Type 0} (A : Sets X) (g : ℕ) (x : X) → 1 ≤ g → A.has g 
 named_has A zero x p q = absurd (omega arith)
 named_has A (suc g) x p q = q
 
-pub has_union : {X : Type 0} (A : Sets X) {l : List ℕ} {g : ℕ} (x : X) → Memᴰ g l → 1 ≤ g → A.has g x ≡ true
+pub has_union : {X : Type 0} (A : Sets X) {g : ℕ} {l : List ℕ} (x : X) → Memᴰ g l → 1 ≤ g → A.has g x ≡ true
     → union A l x ≡ true
 has_union A {g = g} x (Memᴰ.head {x = h} {xs = l} e) p q =
     or_left (named A h x) (union A l x) (named_has A h x (rw e at p) (rw e at q))

@@ -1,6 +1,6 @@
 -- Fields of two and four bytes: reading what was written, and writing what was read.
 use Prim.Native.Nat.{ℕ, ◌+◌, zero, suc, ◌*◌, ◌≤◌, ◌/◌, ◌%◌, ◌<◌}
-use mathlib.Core.Path.{◌≡◌, refl, sym, ◌∙◌, ap}
+use mathlib.Core.Path.{◌≡◌, refl, sym, ◌∙◌, ap, subst}
 use mathlib.Core.Bool.{true}
 use mathlib.Core.List.{List, ◌++◌, [], ◌∷◌, flat_map, append_assoc}
 use native.Mathlib.Omega.{arith}
@@ -96,7 +96,10 @@ unfolding u16s flat_map
 u16s_le16s none c = refl
 u16s_le16s (more {x} {xs} h f) c =
     let b = le16 x ++ (flat_map le16 xs ++ c) in
-    rw (append_assoc, u16_le16 x (flat_map le16 xs ++ c) h, ← u16s_drop 2 b 0 (length xs), drop_le16_append, u16s_le16s f c)
+    let first : u16_at b 0 ≡ x = u16_le16 x (flat_map le16 xs ++ c) h in
+    let later : u16s b 2 (length xs) ≡ xs = sym (u16s_drop 2 b 0 (length xs)) ∙ (rw drop_le16_append (u16s_le16s f c)) in
+    subst (λ (z : List ℕ). u16_at z 0 ∷ u16s z 2 (length xs) ≡ x ∷ xs) (sym (append_assoc (le16 x) (flat_map le16 xs) c))
+    (rw (first, later))
 
 -- writing what was read
 low_byte : (a q : ℕ) → a < 256 → ((a + 256 * q) % 256 ≡ a) × ((a + 256 * q) / 256 ≡ q)

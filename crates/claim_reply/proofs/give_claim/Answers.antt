@@ -3,7 +3,6 @@ use mathlib.Core.Path.{refl, sym, ◌∙◌}
 use mathlib.Core.Bool.{false≢true}
 use mathlib.Core.Logic.{⊎_elim}
 use native.Mathlib.Omega.{arith}
-use borrow.Author.Tests.{not-true, not-false}
 use borrow.Author.Rules.{rules}
 use Rattle.tables.specs.SheetIn.{sheet_in}
 use Rattle.claim_records.proofs.ClaimTableLaws.{length_claims_in}
@@ -16,21 +15,21 @@ pub returns-then-not-some_fit : goal.returns-then-not-some_fit
 unfolding sheet_in
 returns-then-not-some_fit c =
     as_read (λ d. ClaimVerdict _ d _) c.requires.reads
-    (once_none_fit (λ p. false≢true (sym (not-true _ c.if-not-some_fit.true) ∙ c.some_fit.ensures.1 p))
+    (once_none_fit (λ p. false≢true (sym c.if-not-some_fit.true ∙ c.some_fit.ensures.1 p))
     c.refuse.ensures)
 
 pub returns-then-claim-eq0 : goal.returns-then-claim-eq0
 unfolding sheet_in
 returns-then-claim-eq0 c =
     as_read (λ d. ClaimVerdict _ d _) c.requires.reads
-    (once_some_fit (c.some_fit.ensures.0 (not-false _ c.if-not-some_fit.false))
+    (once_some_fit (c.some_fit.ensures.0 c.if-not-some_fit.false)
     (record { unnumbered = λ o. c.refuse-then-claim-eq0.ensures; numbered = λ a b. absurd (omega arith) }))
 
 pub returns-then-head-claim : goal.returns-then-head-claim
 unfolding sheet_in
 returns-then-head-claim c =
     as_read (λ d. ClaimVerdict _ d _) c.requires.reads
-    (once_some_fit (c.some_fit.ensures.0 (not-false _ c.if-not-some_fit.false))
+    (once_some_fit (c.some_fit.ensures.0 c.if-not-some_fit.false)
     (record { unnumbered = λ o. c.refuse-then-head-claim.ensures; numbered = λ a b. absurd (omega (arith, simp length_claims_in at b)) }))
 
 pub give_verdict-requires : goal.give_verdict-requires
@@ -47,7 +46,7 @@ returns c =
     let w = c.requires in
     let x = c.claim_in-c.ensures in
     as_read (λ d. ClaimVerdict _ d _) w.reads
-    (once_some_fit (c.some_fit.ensures.0 (not-false _ c.if-not-some_fit.false))
+    (once_some_fit (c.some_fit.ensures.0 c.if-not-some_fit.false)
     (record {
       unnumbered = λ o. absurd (⊎_elim c.if-claim-eq0.false (λ b. omega (arith, simp length_claims_in at b)) o);
       numbered = λ a b.

@@ -1,7 +1,7 @@
 -- `count_refusal` meets its contract: the tests in the code's order are those of a count.
 use mathlib.Core.Path.{◌≡◌, sym, ◌∙◌}
 use mathlib.Core.Bool.{cond}
-use borrow.Author.Tests.{le-leb, lt-leb, eq-eqb, ne_eqb, not-true, not-false}
+use borrow.Author.Tests.{le-leb, lt-leb, eq-eqb, ne_eqb}
 use lib.ListN.{drop}
 use Rattle.wire.specs.Bytes.{u16_at}
 use Rattle.wire.specs.Record.{refusal}
@@ -52,7 +52,7 @@ past c =
     )
 
 pub returns-then-not-names_allowed : goal.returns-then-not-names_allowed
-returns-then-not-names_allowed c = simp (past (goal.at.returns-then-not-names_allowed c).After-names_allowed, not-true c.names_allowed.result c.if-not-names_allowed.true)
+returns-then-not-names_allowed c = simp (past (goal.at.returns-then-not-names_allowed c).After-names_allowed, c.if-not-names_allowed.true)
 
 pub returns : goal.returns
-returns c = simp (past (goal.at.returns c).After-names_allowed, not-false c.names_allowed.result c.if-not-names_allowed.false)
+returns c = simp (past (goal.at.returns c).After-names_allowed, c.if-not-names_allowed.false)

@@ -4,7 +4,7 @@ use mathlib.Core.Path.{◌≡◌, sym, ◌∙◌}
 use mathlib.Core.Bool.{true, false, cond, ◌&&◌}
 use native.Mathlib.Omega.{arith}
 use native.Mathlib.Nat.{add_assoc}
-use borrow.Author.Tests.{le-leb, lt-leb, eq-eqb, ne_eqb, not-true, not-false}
+use borrow.Author.Tests.{le-leb, lt-leb, eq-eqb, ne_eqb}
 use lib.Dec.{eqb}
 use lib.ListN.{drop}
 use Rattle.wire.specs.Bytes.{u16_at}
@@ -28,7 +28,7 @@ lead c =
 
 -- the fields passed
 allowed : (c : Else-not-lists_allowed) → c.lists_allowed.result ≡ true
-allowed c = not-false c.lists_allowed.result c.if-not-lists_allowed.false
+allowed c = c.if-not-lists_allowed.false
 
 -- m and n give the length
 ends : (c : Else-not-lists_allowed) → 6 + 2 * (c.u16_at-m.result + c.u16_at-n.result)
@@ -76,7 +76,7 @@ returns-then-len c =
     simp (l.0, l.1, eq-eqb _ _ c.if-len-ne0.false, le-leb _ _ c.if-len-lt10.false, lt-leb _ _ c.if-len.true)
 
 pub returns-then-not-lists_allowed : goal.returns-then-not-lists_allowed
-returns-then-not-lists_allowed c = simp (past (goal.at.returns-then-not-lists_allowed c).After-lists_allowed, not-true c.lists_allowed.result c.if-not-lists_allowed.true)
+returns-then-not-lists_allowed c = simp (past (goal.at.returns-then-not-lists_allowed c).After-lists_allowed, c.if-not-lists_allowed.true)
 
 pub names_allowed-requires : goal.names_allowed-requires
 names_allowed-requires c = let e = ends c in omega arith
@@ -87,7 +87,7 @@ returns-then-not-names_allowed c =
   past (goal.at.returns-then-not-names_allowed c).After-lists_allowed,
   allowed (goal.at.returns-then-not-names_allowed c).Else-not-lists_allowed,
   sym c.names_allowed.ensures
-      ∙ not-true c.names_allowed.result c.if-not-names_allowed.true,
+      ∙ c.if-not-names_allowed.true,
 )
 
 pub names_allowed-requires-2 : goal.names_allowed-requires-2
@@ -99,8 +99,8 @@ returns-then-not-names_allowed-2 c =
   past (goal.at.returns-then-not-names_allowed-2 c).After-lists_allowed,
   allowed (goal.at.returns-then-not-names_allowed-2 c).Else-not-lists_allowed,
   sym c.names_allowed.ensures
-      ∙ not-false c.names_allowed.result c.if-not-names_allowed.false,
-  sym c.names_allowed-2.ensures ∙ not-true c.names_allowed-2.result c.if-not-names_allowed-2.true,
+      ∙ c.if-not-names_allowed.false,
+  sym c.names_allowed-2.ensures ∙ c.if-not-names_allowed-2.true,
 )
 
 pub returns : goal.returns
@@ -109,6 +109,6 @@ returns c =
   past (goal.at.returns c).After-lists_allowed,
   allowed (goal.at.returns c).Else-not-lists_allowed,
   sym c.names_allowed.ensures
-      ∙ not-false c.names_allowed.result c.if-not-names_allowed.false,
-  sym c.names_allowed-2.ensures ∙ not-false c.names_allowed-2.result c.if-not-names_allowed-2.false,
+      ∙ c.if-not-names_allowed.false,
+  sym c.names_allowed-2.ensures ∙ c.if-not-names_allowed-2.false,
 )

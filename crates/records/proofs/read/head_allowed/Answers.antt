@@ -3,7 +3,7 @@ use Prim.Native.Nat.{◌≤◌}
 use mathlib.Core.Path.{◌≡◌, sym, ◌∙◌}
 use mathlib.Core.Bool.{true}
 use native.Mathlib.Omega.{arith}
-use borrow.Author.Tests.{le-leb, lt-leb, not-true, not-false}
+use borrow.Author.Tests.{le-leb, lt-leb}
 use lib.Dec.{eqb}
 use Rattle.wire.specs.Edition.{edition_number, edition_of, group_limit}
 use Rattle.records.proofs.read.head_allowed.Goals.{Else-group_limit-groups}
@@ -12,13 +12,13 @@ use Rattle.records.proofs.read.head_allowed.Goals as goal
 
 -- an edition has the number, and the groups are not too many
 known : (c : Else-not-is_edition) → let a = c.args in eqb a.edition (edition_number (edition_of a.edition)) ≡ true
-known c = sym c.is_edition.ensures ∙ not-false c.is_edition.result c.if-not-is_edition.false
+known c = sym c.is_edition.ensures ∙ c.if-not-is_edition.false
 
 few : (c : Else-group_limit-groups) → let a = c.args in a.groups ≤ group_limit (edition_of a.edition)
 few c = omega arith
 
 pub returns-then-not-is_edition : goal.returns-then-not-is_edition
-returns-then-not-is_edition c = simp (sym c.is_edition.ensures ∙ not-true c.is_edition.result c.if-not-is_edition.true)
+returns-then-not-is_edition c = simp (sym c.is_edition.ensures ∙ c.if-not-is_edition.true)
 
 pub returns-then-groups-lt1 : goal.returns-then-groups-lt1
 returns-then-groups-lt1 c = simp (known (goal.at.returns-then-groups-lt1 c).Else-not-is_edition, lt-leb _ _ c.if-groups-lt1.true)

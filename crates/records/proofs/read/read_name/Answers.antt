@@ -2,7 +2,7 @@
 use Prim.Native.Nat.{◌+◌, ◌-◌, ◌≤◌, ◌<◌}
 use mathlib.Core.Path.{sym, ap, ◌∙◌}
 use native.Mathlib.Omega.{arith}
-use borrow.Author.Tests.{le-leb, lt-leb, not-true, not-false}
+use borrow.Author.Tests.{le-leb, lt-leb}
 use Rattle.wire.specs.Record.{refusal}
 use Rattle.wire.specs.Edition.{edition_of, label_limit}
 use Rattle.wire.specs.SheetFormat.{name_tests, used}
@@ -60,7 +60,7 @@ returns-then-not-label_allowed c =
       le-leb _ _ (short (goal.at.returns-then-not-label_allowed c).Else-label_limit-len),
       label_at a.s.now a.at,
       l.whole.says,
-      sym c.label_allowed.ensures ∙ not-true c.label_allowed.result c.if-not-label_allowed.true,
+      sym c.label_allowed.ensures ∙ c.if-not-label_allowed.true,
     ))
 
 pub returns-then-groups-group : goal.returns-then-groups-group
@@ -77,7 +77,7 @@ returns-then-groups-group c =
       label_at a.s.now a.at,
       l.whole.says,
       sym c.label_allowed.ensures
-          ∙ not-false c.label_allowed.result c.if-not-label_allowed.false,
+          ∙ c.if-not-label_allowed.false,
       read_at a.s.now a.at 4 _ c.u16_at-group.ensures,
       lt-leb _ _ c.if-groups-group.true,
     ))
@@ -99,7 +99,7 @@ returns c =
       label_at s a.at,
       l.whole.says,
       sym c.label_allowed.ensures
-          ∙ not-false c.label_allowed.result c.if-not-label_allowed.false,
+          ∙ c.if-not-label_allowed.false,
       group,
       le-leb _ _ c.if-groups-group.false,
     ))

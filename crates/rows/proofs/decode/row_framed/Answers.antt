@@ -3,7 +3,6 @@ use Prim.Native.Nat.{◌<◌}
 use mathlib.Core.Path.{◌≡◌, sym, ◌∙◌}
 use mathlib.Core.Bool.{true}
 use native.Mathlib.Omega.{arith}
-use borrow.Author.Tests.{not-true, not-false}
 use Rattle.wire.specs.Edition.{edition_of}
 use Rattle.wire.proofs.EditionFacts.{row_parts}
 use Rattle.wire.specs.Member.{is_side}
@@ -33,7 +32,7 @@ fields c =
     }
 
 sided : (c : Else-not-is_side) → is_side c.u16_at-side.result ≡ true
-sided c = sym c.is_side.ensures ∙ not-false c.is_side.result c.if-not-is_side.false
+sided c = sym c.is_side.ensures ∙ c.if-not-is_side.false
 
 named : (c : Else-number-eq0) → 0 < c.u32_at-number.result
 named c = omega (arith, c.if-number-eq0.false)
@@ -41,7 +40,7 @@ named c = omega (arith, c.if-number-eq0.false)
 pub returns-then-not-is_side : goal.returns-then-not-is_side
 returns-then-not-is_side c =
     front_no_side _ (fields (goal.at.returns-then-not-is_side c).After-u16_at-side) _
-    (sym c.is_side.ensures ∙ not-true c.is_side.result c.if-not-is_side.true)
+    (sym c.is_side.ensures ∙ c.if-not-is_side.true)
 
 pub returns-then-number-eq0 : goal.returns-then-number-eq0
 returns-then-number-eq0 c = front_nobody _ (fields (goal.at.returns-then-number-eq0 c).After-u16_at-side) (sided (goal.at.returns-then-number-eq0 c).Else-not-is_side) _ (omega (arith, c.if-number-eq0.true))
