@@ -10,13 +10,7 @@ use Rattle.claims.proofs.names.groups_meant.Goals as goal
 
 pub loop-i-init : goal.loop-i-init
 loop-i-init c =
-    (
-  omega arith,
-  omega arith,
-  refl,
-  let s =
-      (goal.at.loop-i-init c).Start in meant_first s.args.sheet.now s.args.from s.args.n s.args.names.now,
-)
+    (omega arith, omega arith, refl, meant_first c.args.sheet.now c.args.from c.args.n c.args.names.now)
 
 pub overflow_add-from : goal.overflow_add-from
 overflow_add-from c = omega (arith, c.requires.0.long)
@@ -41,7 +35,7 @@ loop-i-preserved c =
       c.add_meant-k.auto.list ∙ v.2,
       meant_next c.args.sheet.now c.args.from c.args.n c.loop-i.i c.args.names.now
           (take c.loop-i.k c.loop-i.list) _ _ (omega arith)
-          (rw m (goal.at.loop-i-preserved c).At-loop-i c.add_meant-k.ensures.list_after) v.3,
+          (rw m at c.add_meant-k.ensures.list_after) v.3,
     )
 
 pub shape_of-list : goal.shape_of-list
@@ -50,5 +44,4 @@ shape_of-list c = c.loop-i.invariant.2
 pub returns : goal.returns
 returns c =
     let v = c.loop-i.invariant in
-    let e = meant_last c.args.sheet.now c.args.from c.args.n c.loop-i.i c.args.names.now _ _ (omega arith) v.3 in
-    (omega arith, (e, listed_length c.loop-i.list _ c.loop-i.k (omega (arith, v.0, v.1, v.2, c.requires.1)) e))
+    let e = meant_last c.args.sheet.now c.args.from c.args.n c.loop-i.i c.args.names.now _ _ (omega arith) v.3 in record { upper_bound = omega arith; list_after = e; value = listed_length c.loop-i.list _ c.loop-i.k (omega (arith, v.0, v.1, v.2, c.requires.1)) e; }
