@@ -30,8 +30,8 @@ few c =
     let a = c.args in
     rows_most (edition_of a.from) a.groups a.register.now _ (sym (rows_read c))
 
-bytes_fit : (c : After-row_bytes) → c.row_bytes.result * c.in-Count.n < 4294967296
-bytes_fit c = rw c.row_bytes.ensures (rows_fit _ _ (few (c.In-Count)))
+bytes_fit : (c : After-row_bytes) → c.in-Count.n ≤ row_limit → c.row_bytes.result * c.in-Count.n < 4294967296
+bytes_fit c f = rw c.row_bytes.ensures (rows_fit _ _ f)
 
 bytes-said : (c : After-row_bytes) → let a = c.args in let e = edition_of a.edition in
     let n = c.in-Count.n in
@@ -42,7 +42,7 @@ bytes-said c =
     rows_length (edition_of a.edition) (edition_of a.from) a.register.now n ∙ ap (λ k. k * n) (sym c.row_bytes.ensures)
 
 pub overflow_mul-bytes : goal.overflow_mul-bytes
-overflow_mul-bytes c = let l = bytes_fit c in search rules
+overflow_mul-bytes c = let l = bytes_fit c (few (goal.at.overflow_mul-bytes c).In-Count) in search rules
 
 pub returns-then-reply-bytes : goal.returns-then-reply-bytes
 returns-then-reply-bytes c =
@@ -57,7 +57,7 @@ put_rows_in-requires c =
     (there, rw (← c.row_bytes.ensures) c.if-reply-bytes.false)
 
 pub overflow_cast-bytes : goal.overflow_cast-bytes
-overflow_cast-bytes c = let l = bytes_fit (goal.at.overflow_cast-bytes c).After-row_bytes in search rules
+overflow_cast-bytes c = let l = bytes_fit (goal.at.overflow_cast-bytes c).After-row_bytes (few (goal.at.overflow_cast-bytes c).In-Count) in search rules
 
 pub returns-in-Refused : goal.returns-in-Refused
 returns-in-Refused c =
