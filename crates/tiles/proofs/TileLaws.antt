@@ -13,7 +13,6 @@ use Rattle.laws.specs.Digit.{digit}
 use Rattle.laws.proofs.Cases.{compare_le, compare_eq, split}
 use Rattle.laws.proofs.Digits.{digit_or, digit_beyond, digit_of_zero}
 use Rattle.wire.specs.Capacity.{group_capacity}
-use Rattle.meaning.specs.OfRecords.{members}
 use Rattle.rows.specs.RowsRead.{word_bits, WordAt}
 use Rattle.bit_matrix.specs.Matrix.{Transposed}
 use Rattle.columns.specs.Columns.{column_digit}

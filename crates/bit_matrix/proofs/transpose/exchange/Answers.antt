@@ -1,5 +1,4 @@
 -- `exchange` meets its contract. Invariant: the words below 2 * i are exchanged.
-use Prim.Native.Nat.{◌-◌}
 use mathlib.Core.Path.{refl}
 use native.Mathlib.Omega.{arith}
 use borrow.Author.Rules.{rules}
@@ -21,7 +20,7 @@ pub bounds-to-i-in-loop-i : goal.bounds-to-i-in-loop-i
 bounds-to-i-in-loop-i c = simp length-set (omega arith)
 
 pub loop-i-preserved : goal.loop-i-preserved
-loop-i-preserved c = (search rules, exchanged_more c.loop-i.i c.requires.mask.0 (search rules) (c.shared_slice_known-1.given _).fits c.loop-i.invariant.1)
+loop-i-preserved c = (search rules, exchanged_more c.loop-i.i c.requires.mask.0 (search rules) (c.type_inv.from _).fits c.loop-i.invariant.1)
 
 pub returns : goal.returns
 returns c = record { each = λ r d l. c.loop-i.invariant.1.each r d (omega arith) }

@@ -3,23 +3,23 @@ use Rattle.bit_matrix.proofs.TransposeLaws.{step_32, step_16, step_8, step_4, st
 use borrow.Author.Rules.{rules}
 use Rattle.bit_matrix.proofs.transpose.transpose.Goals as goal
 
-pub exchange-requires : goal.exchange-requires
-exchange-requires c = ((step_32.mask, search rules), search rules)
+pub exchange-requires-clause-mask : goal.exchange-requires-clause-mask
+exchange-requires-clause-mask c = (step_32.mask, search rules)
 
-pub exchange-requires-2 : goal.exchange-requires-2
-exchange-requires-2 c = ((step_16.mask, search rules), search rules)
+pub exchange-requires-2-clause-mask : goal.exchange-requires-2-clause-mask
+exchange-requires-2-clause-mask c = (step_16.mask, search rules)
 
-pub exchange-requires-3 : goal.exchange-requires-3
-exchange-requires-3 c = ((step_8.mask, search rules), search rules)
+pub exchange-requires-3-clause-mask : goal.exchange-requires-3-clause-mask
+exchange-requires-3-clause-mask c = (step_8.mask, search rules)
 
-pub exchange-requires-4 : goal.exchange-requires-4
-exchange-requires-4 c = ((step_4.mask, search rules), search rules)
+pub exchange-requires-4-clause-mask : goal.exchange-requires-4-clause-mask
+exchange-requires-4-clause-mask c = (step_4.mask, search rules)
 
-pub exchange-requires-5 : goal.exchange-requires-5
-exchange-requires-5 c = ((step_2.mask, search rules), search rules)
+pub exchange-requires-5-clause-mask : goal.exchange-requires-5-clause-mask
+exchange-requires-5-clause-mask c = (step_2.mask, search rules)
 
-pub exchange-requires-6 : goal.exchange-requires-6
-exchange-requires-6 c = ((step_1.mask, search rules), search (rules, (exchange-requires-5 (goal.at.exchange-requires-6 c).After-slice_known-6-1 _).1))
+pub exchange-requires-6-clause-mask : goal.exchange-requires-6-clause-mask
+exchange-requires-6-clause-mask c = (step_1.mask, search rules)
 
 pub returns : goal.returns
 returns c =

@@ -1,7 +1,7 @@
 -- `registers::counts::count_column` meets its contract. Invariant: the ones of the words before w are counted.
 use borrow.Author.Rules.{rules}
 use native.Mathlib.Omega.{arith}
-use Prim.Native.Nat.{◌-◌, ◌*◌, ◌≤◌}
+use Prim.Native.Nat.{◌*◌, ◌≤◌}
 use mathlib.Core.Path.{◌≡◌, refl, sym}
 use lib.Count.{ones, ones-le}
 use Rattle.laws.specs.Sum.{sum}

@@ -1,6 +1,4 @@
 -- `rows::decode::bit_above` meets its contract. Invariant: no bit of the words before k is above the groups.
-use Prim.Native.Nat.{◌-◌}
-use mathlib.Core.Bool.{false}
 use native.Mathlib.Omega.{arith}
 use Rattle.wire.specs.Edition.{edition_of}
 use Rattle.wire.proofs.EditionFacts.{groups_within}
@@ -28,12 +26,11 @@ returns-then-word_above c =
     (above_on c.loop-k.invariant.2 c.word_at.ensures (rw c.if-word_above.true at c.word_above.ensures))
 
 pub loop-k-preserved : goal.loop-k-preserved
-loop-k-preserved c =
-    (
-      c.loop-k.invariant.0,
-      omega (arith, c.loop-k.invariant.1),
-      above_on c.loop-k.invariant.2 c.word_at.ensures (rw c.if-word_above.false at c.word_above.ensures),
-    )
+loop-k-preserved c = (
+  c.loop-k.invariant.0,
+  omega (arith, c.loop-k.invariant.1),
+  above_on c.loop-k.invariant.2 c.word_at.ensures (rw c.if-word_above.false at c.word_above.ensures),
+)
 
 pub returns : goal.returns
 returns c =

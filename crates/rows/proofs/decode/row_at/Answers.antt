@@ -21,8 +21,7 @@ returns-then-u32_at-row_frame c =
     (λ e. omega (arith, c.if-u32_at-row_frame.true, c.u32_at.ensures, c.row_frame.ensures, e)))
 
 pub row_framed-requires : goal.row_framed-requires
-row_framed-requires c =
-    (
+row_framed-requires c = (
   omega (arith, c.row_bytes-whole.ensures),
   omega
       (arith, c.if-u32_at-row_frame.false, c.u32_at.ensures, c.row_frame.ensures),

@@ -25,7 +25,7 @@ fields : (c : After-u16_at-side)
 fields c =
     record {
       whole = c.requires.0;
-      bytes = λ i. (c.shared_slice_known-1.given i).fits;
+      bytes = λ i. (c.type_inv.register i).fits;
       frame = c.requires.1;
       numbered = c.u32_at-number.ensures;
       sided = c.u16_at-side.ensures;

@@ -9,4 +9,4 @@ unfolding membership_bytes
 u64_at-requires c = search rules
 
 pub returns : goal.returns
-returns c = rw c.u64_at.ensures (word_at _ _ _ (λ i. (c.shared_slice_known-1.given i).fits))
+returns c = rw c.u64_at.ensures (word_at _ _ _ (λ i. (c.type_inv.register i).fits))

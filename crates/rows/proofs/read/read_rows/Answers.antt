@@ -1,7 +1,6 @@
 -- `rows::read::read_rows` meets its contract. Invariant: the reading that is left after `row` rows is the whole reading, `at` is
 -- the offset after these rows, and `last` the key of the last member of them.
 use borrow.Author.Rules.{rules}
-use Prim.Native.Nat.{◌-◌}
 use mathlib.Core.Path.{◌≡◌, sym, ◌∙◌}
 use native.Mathlib.Omega.{arith}
 use Rattle.wire.specs.Limits.{row_limit}

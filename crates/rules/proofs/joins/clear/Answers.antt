@@ -1,7 +1,6 @@
 -- `registers::joins::clear` meets its contract. Invariant: the words below w are 0.
 use borrow.Author.Rules.{rules}
 use native.Mathlib.Omega.{arith}
-use Prim.Native.Nat.{◌-◌}
 use mathlib.Core.Path.{refl}
 use Rattle.columns.proofs.ColumnLaws.{words_to_none, words_to_more}
 use Rattle.rules.proofs.joins.clear.Goals as goal

@@ -2,7 +2,6 @@
 use borrow.Author.Rules.{rules}
 use native.Mathlib.Omega.{arith}
 use native.Mathlib.Nat.{le_refl}
-use Prim.Native.Nat.{◌-◌}
 use mathlib.Core.Path.{refl}
 use Rattle.columns.proofs.ColumnLaws.{words_to_none, words_to_more}
 use Rattle.rules.proofs.joins.join_column.Goals as goal

@@ -1,7 +1,7 @@
 -- `registers::check::block_breaks` meets its contract. Invariant: the number is 0 where none of the members seen breaks the rule.
 use borrow.Author.Rules.{rules}
 use native.Mathlib.Omega.{arith}
-use Prim.Native.Nat.{◌+◌, ◌-◌, ◌*◌}
+use Prim.Native.Nat.{◌+◌, ◌*◌}
 use mathlib.Core.Path.{◌≡◌}
 use Rattle.rows.specs.RowsRead.{word_bits}
 use Rattle.columns.specs.Columns.{block_words, block_members}

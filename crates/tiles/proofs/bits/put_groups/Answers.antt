@@ -40,4 +40,4 @@ loop-number-preserved c =
 pub returns : goal.returns
 returns c =
     let l = c.loop-number in
-    groups_all_taken (rw (no_ones_left l.false l.invariant.1.0 (omega arith)) at l.invariant.1.1.1)
+    groups_all_taken (rw (no_ones_left l.left l.invariant.1.0 (omega arith)) at l.invariant.1.1.1)

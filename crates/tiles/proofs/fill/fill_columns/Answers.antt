@@ -2,7 +2,7 @@
 -- put. Each row stands at its offset, so that the walk ends behind the last one only.
 use borrow.Author.Rules.{rules}
 use native.Mathlib.Omega.{arith}
-use Prim.Native.Nat.{ℕ, ◌-◌, ◌≤◌}
+use Prim.Native.Nat.{ℕ, ◌≤◌}
 use mathlib.Core.Path.{◌≡◌, refl, ◌∙◌}
 use lib.ListN.{length-replicate}
 use Rattle.wire.specs.Limits.{row_limit}
@@ -12,11 +12,11 @@ use Rattle.rows.proofs.RowLaws.{held_within, last_start, Stands, row_stands, not
 use Rattle.tiles.proofs.FillLaws.{zeros}
 use Rattle.tiles.proofs.FillLaws.{members_within, with_row_most, filled_columns, rows_put_none, tiles_within, room_wanted}
 use Rattle.tiles.proofs.FillLaws.{rows_put_more}
-use Rattle.tiles.proofs.fill.fill_columns.Goals.{In-Row-2}
+use Rattle.tiles.proofs.fill.fill_columns.Goals.{In-Row}
 use Rattle.tiles.proofs.fill.fill_columns.Goals as goal
 
 -- and hands it up
-found : (c : In-Row-2)
+found : (c : In-Row)
     → Stands (edition_of c.args.edition)
     c.args.register.now c.loop-row.row
     c.in-Row.r
@@ -25,8 +25,7 @@ found c =
     row_stands _ c.requires.1.1.0 c.loop-row-test.true l.invariant.1.0 l.invariant.1.1.0 _ (rw c.in-Row.is at c.row_of.ensures)
 
 pub loop-row-init : goal.loop-row-init
-loop-row-init c =
-    (
+loop-row-init c = (
   search rules,
   (
     omega arith,
@@ -64,7 +63,7 @@ pub make_room-tiles-requires : goal.make_room-tiles-requires
 make_room-tiles-requires c =
     let l = c.loop-row in
     let p = l.invariant.1.1.1.1.1.1.1 in
-    let wanted = room_wanted (found (goal.at.make_room-tiles-requires c).In-Row-2) p c.with_row-members.ensures in
+    let wanted = room_wanted (found (goal.at.make_room-tiles-requires c).In-Row) p c.with_row-members.ensures in
     let most : c.with_row-members.result ≤ row_limit =
     omega (
       arith,
@@ -101,11 +100,10 @@ pub overflow_sub-members-in-Row : goal.overflow_sub-members-in-Row
 overflow_sub-members-in-Row c = omega (arith, c.make_room-tiles.ensures.begun)
 
 pub put_row-requires : goal.put_row-requires
-put_row-requires c =
-    (
-      held_within _ _ _ _ _ (rw c.in-Row.is at c.row_of.ensures),
-      (omega (arith, c.make_room-tiles.ensures.begun, c.make_room-tiles.ensures.within), search rules),
-    )
+put_row-requires c = (
+  held_within _ _ _ _ _ (rw c.in-Row.is at c.row_of.ensures),
+  (omega (arith, c.make_room-tiles.ensures.begun, c.make_room-tiles.ensures.within), search rules),
+)
 
 pub returns-in-End : goal.returns-in-End
 returns-in-End c =
@@ -127,7 +125,7 @@ overflow_step-row c =
 pub loop-row-preserved : goal.loop-row-preserved
 loop-row-preserved c =
     let l = c.loop-row in
-    let s = found (goal.at.loop-row-preserved c).In-Row-2 in (
+    let s = found (goal.at.loop-row-preserved c).In-Row in (
       search rules,
       (
         s.next,

@@ -1,7 +1,6 @@
 -- `columns::tiles::clear_tile` meets its contract. Invariant: the words below i are 0.
 use borrow.Author.Rules.{rules}
 use native.Mathlib.Omega.{arith}
-use Prim.Native.Nat.{◌-◌}
 use mathlib.Core.Path.{refl}
 use Rattle.columns.proofs.ColumnLaws.{words_to_none, words_to_more}
 use Rattle.tiles.proofs.tile.clear_tile.Goals as goal

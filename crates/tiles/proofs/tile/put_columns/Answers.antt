@@ -1,7 +1,6 @@
 -- `columns::tiles::put_columns` meets its contract. Invariant: the words of the first j groups are put.
 use borrow.Author.Rules.{rules}
 use native.Mathlib.Omega.{arith}
-use Prim.Native.Nat.{◌-◌}
 use mathlib.Core.Path.{◌≡◌, refl}
 use Rattle.rows.specs.RowsRead.{word_bits}
 use Rattle.tiles.proofs.TileLaws.{columns_put_none, columns_put_more}

@@ -1,7 +1,6 @@
 -- `columns::tiles::put_members` meets its contract. Invariant: the first i members are put.
 use borrow.Author.Rules.{rules}
 use native.Mathlib.Omega.{arith}
-use Prim.Native.Nat.{◌-◌}
 use mathlib.Core.Path.{◌≡◌, refl}
 use Rattle.rows.specs.RowsRead.{word_bits}
 use Rattle.tiles.proofs.TileLaws.{members_none, members_more, members_all}

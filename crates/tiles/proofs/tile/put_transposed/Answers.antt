@@ -1,7 +1,6 @@
 -- `columns::tiles::put_transposed` meets its contract. Invariant: the groups of the tile's first k words are put.
 use borrow.Author.Rules.{rules}
 use native.Mathlib.Omega.{arith}
-use Prim.Native.Nat.{◌-◌}
 use mathlib.Core.Path.{◌≡◌, refl}
 use Rattle.tiles.proofs.TileLaws.{tile_put_none, tile_put_more}
 use Rattle.tiles.proofs.tile.put_transposed.Goals as goal
