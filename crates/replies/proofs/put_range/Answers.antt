@@ -15,4 +15,4 @@ returns c =
     c.ranges.greatest.fits
     c.ranges.first.fits
     c.ranges.count.fits in
-    (w.0, w.1)
+    record { kept = w.0; put = w.1 }

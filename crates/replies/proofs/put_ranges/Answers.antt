@@ -1,4 +1,3 @@
-use Prim.Native.Nat.{◌-◌}
 use mathlib.Core.Path.{◌≡◌, refl}
 use native.Mathlib.Omega.{arith}
 use borrow.Author.Rules.{rules}
@@ -28,4 +27,4 @@ pub returns : goal.returns
 returns c =
     let i = c.loop-g.invariant in
     let e : c.loop-g.g ≡ c.args.size = omega arith in
-    (rw e at i.1.1.0, rw e at i.1.1.1)
+    record { kept = rw e at i.1.1.0; put = rw e at i.1.1.1 }

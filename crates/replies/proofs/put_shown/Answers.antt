@@ -12,4 +12,4 @@ returns c =
     c.requires
     c.ranges.first.fits c.ranges.count.fits
     c.ranges.mark.fits in
-    (w.0, w.1)
+    record { kept = w.0; put = w.1 }

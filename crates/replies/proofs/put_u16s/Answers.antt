@@ -1,5 +1,5 @@
 -- `put_u16s` meets its contract. The invariant: the first i fields are in the buffer, and nothing else changed.
-use Prim.Native.Nat.{◌-◌, ◌*◌}
+use Prim.Native.Nat.{◌*◌}
 use mathlib.Core.Path.{◌≡◌, refl}
 use native.Mathlib.Omega.{arith}
 use borrow.Author.Rules.{rules}
@@ -23,7 +23,7 @@ loop-i-preserved c =
         (
           wrote_then i.1.1.0 (wrote_u16 (2 * n) _ p) (omega arith) (omega arith) (omega arith) (omega arith),
           u16s_more _ a.fields.now n i.1.1.1 p (omega (arith, i.1.1.0.sized))
-              (omega (arith, c.shared_slice_known-in-loop-i-1.given n)),
+              (omega (arith, c.type_inv.fields n)),
         ),
       ),
     )
@@ -32,4 +32,4 @@ pub returns : goal.returns
 returns c =
     let i = c.loop-i.invariant in
     let e : c.loop-i.i ≡ length c.args.fields.now = omega arith in
-    (rw e at i.1.1.0, rw e at i.1.1.1)
+    record { kept = rw e at i.1.1.0; put = rw e at i.1.1.1 }

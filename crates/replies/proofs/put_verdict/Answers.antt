@@ -7,4 +7,4 @@ pub returns : goal.returns
 returns c =
     let w = c.put_u16s.ensures in
     let n = c.verdict_number.ensures in
-    (w.kept, record { sized = w.put 0 (omega arith); kind = w.put 1 (omega arith); verdict = w.put 2 (omega arith) ∙ n })
+    record { kept = w.kept; put = record { sized = w.put 0 (omega arith); kind = w.put 1 (omega arith); verdict = w.put 2 (omega arith) ∙ n } }

@@ -11,10 +11,7 @@ use Rattle.choosing.proofs.choose.choose.Goals as goal
 pub measure_sheet-requires : goal.measure_sheet-requires
 measure_sheet-requires c =
     let w = c.requires.0.grown in
-    let small = w.small in (
-      record { tabled = w; flags_long = c.requires.1; last_long = omega arith; prev_long = omega arith },
-      record { spans_long = omega arith; after_long = omega arith },
-    )
+    let small = w.small in record { long = record { tabled = w; flags_long = c.requires.1; last_long = omega arith; prev_long = omega arith }; lent = record { spans_long = omega arith; after_long = omega arith }; }
 
 pub returns-then-root : goal.returns-then-root
 returns-then-root c =
@@ -30,20 +27,17 @@ divide-requires c =
     let r = c.at_state-root in
     let m = c.measure_sheet in
     let n = size_in c.args.groups.now c.args.size in
-    let e = r.ensures ∙ c.pair_at.ensures b in (
-      (
+    let e = r.ensures ∙ c.pair_at.ensures b in record { tabled = (
         w,
         folded_table (spans_measured _ _ w.tree) m.ensures (record {
           spans_long = omega (arith, w.small, m.kept.1.1.1.1.1.0);
           after_long = omega (arith, w.small, m.kept.1.1.1.1.1.1.0);
         }),
-      ),
-      (
+      ); size_in_bounds = (
         c.requires.0.sizes_long,
         c.requires.0.marks_long,
         subst (In r.result.least) e (least_in_law _ _ c.if-root.false (omega arith)),
-      ),
-    )
+      ); }
 
 pub returns : goal.returns
 returns c =

@@ -52,10 +52,7 @@ divide_son-requires c =
     let i = c.loop-i.invariant in
     let m = c.loop-i.i in
     let k = c.give.auto in
-    let e : m + 1 - 1 ≡ m = omega arith in (
-      c.requires.tabled,
-      (
-        (
+    let e : m + 1 - 1 ≡ m = omega arith in record { tabled = c.requires.tabled; le_g = (
           omega arith,
           omega arith,
           record {
@@ -64,10 +61,7 @@ divide_son-requires c =
             rest_long = omega (arith, i.4, c.requires.tabled.0.small);
             states_long = omega (arith, i.5, c.requires.tabled.0.small);
           },
-        ),
-        rw e i.8,
-      ),
-    )
+        ); divided_to = rw e i.8; }
 
 pub loop-i-preserved : goal.loop-i-preserved
 loop-i-preserved c =

@@ -7,15 +7,16 @@ use Rattle.measuring.proofs.fitting.measure.Goals as goal
 pub measure_sheet-requires : goal.measure_sheet-requires
 measure_sheet-requires c =
     let p = c.requires in
-    let room = p.0.small in (
-      record {
+    let room = p.0.small in
+    record {
+      long = record {
         tabled = p.0;
         flags_long = simp length-replicate room;
         last_long = simp length-replicate room;
         prev_long = simp length-replicate room;
-      },
-      p.1,
-    )
+      };
+      lent = p.1;
+    }
 
 pub returns : goal.returns
 returns c =

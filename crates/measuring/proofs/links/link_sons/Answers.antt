@@ -1,7 +1,7 @@
 -- `link_sons` meets its contract. Invariant: the groups up to n are linked.
 use mathlib.Core.Path.{◌≡◌, refl, subst}
 use native.Mathlib.Omega.{arith}
-use Prim.Native.Nat.{◌+◌, ◌-◌}
+use Prim.Native.Nat.{◌+◌}
 use Rattle.tables.specs.SheetIn.{sheet_in}
 use Rattle.tables.proofs.SheetInLaws.{parent_below}
 use Rattle.measuring.specs.Links.{Links}
@@ -29,14 +29,13 @@ pub loop-n-smaller : goal.loop-n-smaller
 loop-n-smaller c = omega arith
 
 pub loop-n-preserved : goal.loop-n-preserved
-loop-n-preserved c =
-    (
-      omega arith,
-      omega arith,
-      omega arith,
-      links_step c.args.groups.now c.args.size _ _ _ _ c.loop-n.n _ c.requires.0.tree c.loop-n-test.true
-          c.parent_of-p.ensures c.loop-n.invariant.3 c.link_one.ensures,
-    )
+loop-n-preserved c = (
+  omega arith,
+  omega arith,
+  omega arith,
+  links_step c.args.groups.now c.args.size _ _ _ _ c.loop-n.n _ c.requires.0.tree c.loop-n-test.true
+      c.parent_of-p.ensures c.loop-n.invariant.3 c.link_one.ensures,
+)
 
 pub shape_of-last : goal.shape_of-last
 shape_of-last c = c.loop-n.invariant.1

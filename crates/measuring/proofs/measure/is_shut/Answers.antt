@@ -1,7 +1,7 @@
 -- `is_shut` meets its contract.
-use mathlib.Core.Logic.{⊎_elim}
 use borrow.Author.Tests.{eq-eqb, ne_eqb}
 use Rattle.measuring.specs.Tables.{shut_by}
+use Rattle.measuring.proofs.measure.is_shut.Goals.{then-is_same+else-son-ne0, else-is_same}
 use Rattle.measuring.proofs.measure.is_shut.Goals as goal
 
 pub returns-then-other-ne0 : goal.returns-then-other-ne0
@@ -23,4 +23,7 @@ pub returns : goal.returns
 unfolding shut_by
 returns c =
     rw (← c.is_same.ensures, c.is_cover.ensures)
-    (⊎_elim (λ w. rw (w.0.taken, eq-eqb _ _ w.1.left)) (λ w. rw w.left) c.if-is_same.branch)
+    (elim c.if-is_same.branch [
+      | then-is_same+else-son-ne0 w ↦ rw (w.if-is_same.true, eq-eqb _ _ w.if-son-ne0.false)
+      | else-is_same w ↦ rw w.if-is_same.false
+    ])

@@ -5,18 +5,20 @@ use Rattle.measuring.proofs.measure.measure_sheet.Goals as goal
 
 pub measure_group-requires : goal.measure_group-requires
 measure_group-requires c =
-    let g = c.requires.long in (
-      record {
+    let g = c.requires.long in
+    record {
+      readable = record {
         long = record {
           tabled = g.tabled;
           flags_long = g.flags_long;
           last_long = omega (arith, c.link_sons.auto.last);
-          prev_long = omega (arith, c.link_sons.auto.prev.0);
+          prev_long = omega (arith, c.link_sons.auto.prev);
         };
         links = c.link_sons.ensures;
-      },
-      (c.requires.lent, g.tabled.rooted.one),
-    )
+      };
+      lent = c.requires.lent;
+      group = g.tabled.rooted.one;
+    }
 
 pub returns : goal.returns
 returns c =
