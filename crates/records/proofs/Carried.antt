@@ -4,7 +4,6 @@ use mathlib.Core.Path.{◌≡◌, ◌∙◌, refl, ap, sym}
 use mathlib.Core.List.{List, []}
 use native.Mathlib.Omega.{arith}
 use borrow.Author.Tests.{ne_eqb, eqb-true, eqb-false}
-use denote.Enum.Declared.{tag_of}
 use lib.ListN.{drop, length, get_or, take, length-take, length-drop}
 use lib.Seq.{ext_get_or, get_or-take, get_or-drop}
 use lib.Dec.{eqb}
@@ -14,7 +13,6 @@ use Rattle.claim_records.specs.declared.claim.Claim.{Claim}
 use Rattle.records.specs.declared.record.Head.{Head}
 use Rattle.records.specs.declared.record.Group.{Group}
 use Rattle.records.specs.declared.record.Name.{Name}
-use Rattle.records.specs.contracts.record.Record.{the_type}
 use Rattle.tables.specs.declared.names.Meant.{Meant}
 use Rattle.laws.proofs.Cases.{split}
 use Rattle.laws.proofs.TabulateLaws.{length_tabulate, get_d_tabulate}
@@ -80,16 +78,52 @@ sort (group g) = 1
 sort (name n) = 2
 sort (claim c) = 3
 
-tag_sort : (s : List ℕ) (at : ℕ) (x : Record) → tag_of the_type x ≡ sort (record_as s at x).1
-unfolding record_as
-tag_sort s at (record_of.Head h) = refl
-tag_sort s at (record_of.Group g) = refl
-tag_sort s at (record_of.Name n) = refl
-tag_sort s at (record_of.Claim c) = refl
+sort_of : {tests : List ℕ → List Test} {value : List ℕ → Value} {s : List ℕ} {at : ℕ} {x : Record} → Handed tests value s at x →
+    sort (record_as s at x).1 ≡ sort (value (drop at s))
+sort_of w = ap (λ p. sort p.1) w.carries
 
-pub tag_of_handed : {tests : List ℕ → List Test} {value : List ℕ → Value} {s : List ℕ} {at : ℕ} {x : Record} → Handed tests value s at x →
-    tag_of the_type x ≡ sort (value (drop at s))
-tag_of_handed {s = s} {at = at} {x = x} w = tag_sort s at x ∙ ap (λ p. sort p.1) w.carries
+module _ (s : List ℕ) (at : ℕ) where
+  some_head : (x : Record) → sort (record_as s at x).1 ≡ 0 → ((h : Head) → x ≡ record_of.Head h → ⊥) → ⊥
+  unfolding record_as
+  some_head (record_of.Head h) e f = f h refl
+  some_head (record_of.Group g) e f = omega arith
+  some_head (record_of.Name n) e f = omega arith
+  some_head (record_of.Claim c) e f = omega arith
+
+  some_group : (x : Record) → sort (record_as s at x).1 ≡ 1 → ((g : Group) → x ≡ record_of.Group g → ⊥) → ⊥
+  unfolding record_as
+  some_group (record_of.Head h) e f = omega arith
+  some_group (record_of.Group g) e f = f g refl
+  some_group (record_of.Name n) e f = omega arith
+  some_group (record_of.Claim c) e f = omega arith
+
+  some_name : (x : Record) → sort (record_as s at x).1 ≡ 2 → ((n : Name) → x ≡ record_of.Name n → ⊥) → ⊥
+  unfolding record_as
+  some_name (record_of.Head h) e f = omega arith
+  some_name (record_of.Group g) e f = omega arith
+  some_name (record_of.Name n) e f = f n refl
+  some_name (record_of.Claim c) e f = omega arith
+
+  some_claim : (x : Record) → sort (record_as s at x).1 ≡ 3 → ((c : Claim) → x ≡ record_of.Claim c → ⊥) → ⊥
+  unfolding record_as
+  some_claim (record_of.Head h) e f = omega arith
+  some_claim (record_of.Group g) e f = omega arith
+  some_claim (record_of.Name n) e f = omega arith
+  some_claim (record_of.Claim c) e f = f c refl
+
+-- a record that was handed up is one of the sort that was read
+module _ {tests : List ℕ → List Test} {s : List ℕ} {at : ℕ} {x : Record} where
+  pub head_handed : Handed tests (λ b. head (head_of b)) s at x → ((h : Head) → x ≡ record_of.Head h → ⊥) → ⊥
+  head_handed w f = some_head s at x (sort_of w) f
+
+  pub group_handed : Handed tests (λ b. group (group_of b)) s at x → ((g : Group) → x ≡ record_of.Group g → ⊥) → ⊥
+  group_handed w f = some_group s at x (sort_of w) f
+
+  pub name_handed : Handed tests (λ b. name (name_of b)) s at x → ((n : Name) → x ≡ record_of.Name n → ⊥) → ⊥
+  name_handed w f = some_name s at x (sort_of w) f
+
+  pub claim_handed : Handed tests (λ b. claim (claim_of b)) s at x → ((c : Claim) → x ≡ record_of.Claim c → ⊥) → ⊥
+  claim_handed w f = some_claim s at x (sort_of w) f
 
 -- what a record of each sort carries
 module _ {tests : List ℕ → List Test} {s : List ℕ} {at : ℕ} {x : Record} where

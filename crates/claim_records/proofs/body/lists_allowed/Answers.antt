@@ -14,17 +14,17 @@ returns-then-n-lt1 c = simp (le-leb _ _ c.if-m-lt1.false, le-leb _ _ c.if-m-gt-L
 pub returns-then-n-gt-LIST : goal.returns-then-n-gt-LIST
 returns-then-n-gt-LIST c =
     simp (
-  le-leb _ _ c.if-m-lt1.false,
-  le-leb _ _ c.if-m-gt-LIST.false,
-  le-leb _ _ c.if-n-lt1.false,
-  lt-leb _ _ c.if-n-gt-LIST.true,
-)
+      le-leb _ _ c.if-m-lt1.false,
+      le-leb _ _ c.if-m-gt-LIST.false,
+      le-leb _ _ c.if-n-lt1.false,
+      lt-leb _ _ c.if-n-gt-LIST.true,
+    )
 
 pub returns : goal.returns
 returns c =
     simp (
-  le-leb _ _ c.if-m-lt1.false,
-  le-leb _ _ c.if-m-gt-LIST.false,
-  le-leb _ _ c.if-n-lt1.false,
-  le-leb _ _ c.if-n-gt-LIST.false,
-)
+      le-leb _ _ c.if-m-lt1.false,
+      le-leb _ _ c.if-m-gt-LIST.false,
+      le-leb _ _ c.if-n-lt1.false,
+      le-leb _ _ c.if-n-gt-LIST.false,
+    )

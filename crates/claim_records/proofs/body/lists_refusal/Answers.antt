@@ -1,7 +1,8 @@
 -- `lists_refusal` meets its contract: the tests in the code's order are those of an inside or an apart.
-use Prim.Native.Nat.{◌+◌, ◌*◌}
+use Prim.Native.Nat.{ℕ, ◌+◌, ◌*◌, ◌≤◌}
 use mathlib.Core.Path.{◌≡◌, sym, ◌∙◌}
 use mathlib.Core.Bool.{true, false, cond, ◌&&◌}
+use mathlib.Core.List.{List}
 use native.Mathlib.Omega.{arith}
 use native.Mathlib.Nat.{add_assoc}
 use borrow.Author.Tests.{le-leb, lt-leb, eq-eqb, ne_eqb}
@@ -10,21 +11,20 @@ use lib.ListN.{drop}
 use Rattle.wire.specs.Bytes.{u16_at}
 use Rattle.wire.specs.Record.{refusal}
 use Rattle.wire.specs.SheetFormat.{claim_length, claim_fields, claim_names, left_of, right_of, all_within, u16s}
-use Rattle.claim_records.specs.Body.{claim_body}
+use Rattle.claim_records.specs.Body.{Whole, claim_body}
 use Rattle.wire.proofs.Fields.{field_at, read_at, fields_at}
 use Rattle.claim_records.proofs.BodyLaws.{whole_length, lists_end}
 use Rattle.claim_records.proofs.body.lists_refusal.Goals.{After-lists_allowed}
 use Rattle.claim_records.proofs.body.lists_refusal.Goals.{Else-not-lists_allowed}
-use Rattle.claim_records.proofs.body.lists_refusal.Goals.{Start}
 use Rattle.claim_records.proofs.body.lists_refusal.Goals as goal
 
 -- kind and length
-lead : (c : Start) → let r = drop c.args.at c.args.s.now in (eqb (u16_at r 2) 4 ≡ false) × (u16_at r 0 ≡ c.args.len)
-lead c =
-    let s = c.args.s.now in (
-      ne_eqb _ _ (λ e. let z : u16_at s (c.args.at + 2) ≡ 4 = sym (field_at s c.args.at 2) ∙ e in omega arith),
-      whole_length _ _ _ c.requires.0,
-    )
+lead : (s : List ℕ) (at len : ℕ) → Whole s at len × (5 ≤ u16_at s (at + 2)) →
+    let r = drop at s in (eqb (u16_at r 2) 4 ≡ false) × (u16_at r 0 ≡ len)
+lead s at len w = (
+  ne_eqb _ _ (λ e. let z : u16_at s (at + 2) ≡ 4 = sym (field_at s at 2) ∙ e in let l = w.1 in omega arith),
+  whole_length _ _ _ w.0,
+)
 
 -- the fields passed
 allowed : (c : Else-not-lists_allowed) → c.lists_allowed.result ≡ true
@@ -43,7 +43,7 @@ past : (c : After-lists_allowed) → let a = c.args in let s = a.s.now in
     && all_within a.names (u16s s (a.at + 8 + 2 * c.u16_at-m.result) c.u16_at-n.result)) 0 5) 4
 unfolding refusal claim_body claim_length claim_fields claim_names left_of right_of
 past c =
-    let l = lead (c.Start) in
+    let l = lead _ _ _ c.requires in
     let a = c.args in
     let s = a.s.now in
     simp (
@@ -61,18 +61,18 @@ past c =
 
 pub returns-then-len-ne0 : goal.returns-then-len-ne0
 unfolding refusal claim_body claim_length
-returns-then-len-ne0 c = let l = lead (goal.at.returns-then-len-ne0 c).Start in simp (l.0, l.1, ne_eqb _ _ c.if-len-ne0.true)
+returns-then-len-ne0 c = let l = lead _ _ _ c.requires in simp (l.0, l.1, ne_eqb _ _ c.if-len-ne0.true)
 
 pub returns-then-len-lt10 : goal.returns-then-len-lt10
 unfolding refusal claim_body claim_length
 returns-then-len-lt10 c =
-    let l = lead (goal.at.returns-then-len-lt10 c).Start in
+    let l = lead _ _ _ c.requires in
     simp (l.0, l.1, eq-eqb _ _ c.if-len-ne0.false, lt-leb _ _ c.if-len-lt10.true)
 
 pub returns-then-len : goal.returns-then-len
 unfolding refusal claim_body claim_length
 returns-then-len c =
-    let l = lead (goal.at.returns-then-len c).Start in
+    let l = lead _ _ _ c.requires in
     simp (l.0, l.1, eq-eqb _ _ c.if-len-ne0.false, le-leb _ _ c.if-len-lt10.false, lt-leb _ _ c.if-len.true)
 
 pub returns-then-not-lists_allowed : goal.returns-then-not-lists_allowed
@@ -84,11 +84,11 @@ names_allowed-requires c = let e = ends c in omega arith
 pub returns-then-not-names_allowed : goal.returns-then-not-names_allowed
 returns-then-not-names_allowed c =
     simp (
-  past (goal.at.returns-then-not-names_allowed c).After-lists_allowed,
-  allowed (goal.at.returns-then-not-names_allowed c).Else-not-lists_allowed,
-  sym c.names_allowed.ensures
-      ∙ c.if-not-names_allowed.true,
-)
+      past (goal.at.returns-then-not-names_allowed c).After-lists_allowed,
+      allowed (goal.at.returns-then-not-names_allowed c).Else-not-lists_allowed,
+      sym c.names_allowed.ensures
+          ∙ c.if-not-names_allowed.true,
+    )
 
 pub names_allowed-requires-2 : goal.names_allowed-requires-2
 names_allowed-requires-2 c = let e = ends (goal.at.names_allowed-requires-2 c).Else-not-lists_allowed in omega arith
@@ -96,19 +96,19 @@ names_allowed-requires-2 c = let e = ends (goal.at.names_allowed-requires-2 c).E
 pub returns-then-not-names_allowed-2 : goal.returns-then-not-names_allowed-2
 returns-then-not-names_allowed-2 c =
     simp (
-  past (goal.at.returns-then-not-names_allowed-2 c).After-lists_allowed,
-  allowed (goal.at.returns-then-not-names_allowed-2 c).Else-not-lists_allowed,
-  sym c.names_allowed.ensures
-      ∙ c.if-not-names_allowed.false,
-  sym c.names_allowed-2.ensures ∙ c.if-not-names_allowed-2.true,
-)
+      past (goal.at.returns-then-not-names_allowed-2 c).After-lists_allowed,
+      allowed (goal.at.returns-then-not-names_allowed-2 c).Else-not-lists_allowed,
+      sym c.names_allowed.ensures
+          ∙ c.if-not-names_allowed.false,
+      sym c.names_allowed-2.ensures ∙ c.if-not-names_allowed-2.true,
+    )
 
 pub returns : goal.returns
 returns c =
     simp (
-  past (goal.at.returns c).After-lists_allowed,
-  allowed (goal.at.returns c).Else-not-lists_allowed,
-  sym c.names_allowed.ensures
-      ∙ c.if-not-names_allowed.false,
-  sym c.names_allowed-2.ensures ∙ c.if-not-names_allowed-2.false,
-)
+      past (goal.at.returns c).After-lists_allowed,
+      allowed (goal.at.returns c).Else-not-lists_allowed,
+      sym c.names_allowed.ensures
+          ∙ c.if-not-names_allowed.false,
+      sym c.names_allowed-2.ensures ∙ c.if-not-names_allowed-2.false,
+    )

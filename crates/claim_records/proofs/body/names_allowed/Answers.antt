@@ -1,5 +1,4 @@
 -- `names_allowed` meets its contract. The invariant: the numbers that are left are within the limit just where all of them are.
-use Prim.Native.Nat.{◌-◌}
 use mathlib.Core.Path.{sym, ◌∙◌}
 use borrow.Author.Rules.{rules}
 use native.Mathlib.Omega.{arith}
@@ -25,11 +24,11 @@ returns-then-names-x c =
 pub loop-i-preserved : goal.loop-i-preserved
 loop-i-preserved c =
     let a = c.args in (
-  search rules,
-  sym (within_pass a.s.now a.names a.at a.n _ (omega arith) _
-      c.u16_at.ensures c.if-x-lt1.false c.if-names-x.false)
-      ∙ c.loop-i.invariant.1,
-)
+      search rules,
+      sym (within_pass a.s.now a.names a.at a.n _ (omega arith) _
+          c.u16_at.ensures c.if-x-lt1.false c.if-names-x.false)
+          ∙ c.loop-i.invariant.1,
+    )
 
 pub returns : goal.returns
 returns c = sym (within_end _ _ _ _ _ c.loop-i-test.false) ∙ c.loop-i.invariant.1

@@ -1,7 +1,7 @@
 -- `label_allowed` meets its contract. The invariant: the bytes so far, with those that are left, are as good as all of them.
-use Prim.Native.Nat.{◌+◌, ◌-◌}
+use Prim.Native.Nat.{◌+◌}
 use mathlib.Core.Path.{sym, ap, ◌∙◌}
-use mathlib.Core.Bool.{Bool, ◌&&◌, and_assoc, and_true}
+use mathlib.Core.Bool.{Bool, ◌&&◌, and_assoc, and-true}
 use borrow.Author.Rules.{rules}
 use native.Mathlib.Omega.{arith}
 use native.Mathlib.Nat.{add-sub_cancel_left}
@@ -21,4 +21,4 @@ loop-i-preserved c =
     )
 
 pub returns : goal.returns
-returns c = sym (and_true _) ∙ ap (λ (x : Bool). c.loop-i.allowed && x) (sym (label_end _ _ _ c.loop-i-test.false)) ∙ c.loop-i.invariant.1
+returns c = sym (and-true _) ∙ ap (λ (x : Bool). c.loop-i.allowed && x) (sym (label_end _ _ _ c.loop-i-test.false)) ∙ c.loop-i.invariant.1

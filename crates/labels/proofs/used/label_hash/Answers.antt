@@ -1,5 +1,4 @@
 -- `label_hash` meets its contract. The invariant: the bytes that are left, after those with the hash so far, have the label's hash.
-use Prim.Native.Nat.{◌-◌}
 use mathlib.Core.Path.{sym, ◌∙◌}
 use borrow.Author.Rules.{rules}
 use native.Mathlib.Omega.{arith}
@@ -12,14 +11,13 @@ loop-i-init c =
     (omega arith, (omega arith, hash_start a.s.now a.at _ (omega arith)))
 
 pub overflow_cast-h : goal.overflow_cast-h
-overflow_cast-h c = omega (arith, (c.shared_slice_known-in-loop-i-1.given c.loop-i.i).fits)
+overflow_cast-h c = omega (arith, (c.type_inv.s c.loop-i.i).fits)
 
 pub overflow_add-h : goal.overflow_add-h
-overflow_add-h c = omega (arith, (c.shared_slice_known-in-loop-i-1.given c.loop-i.i).fits)
+overflow_add-h c = omega (arith, (c.type_inv.s c.loop-i.i).fits)
 
 pub loop-i-preserved : goal.loop-i-preserved
-loop-i-preserved c =
-    (
+loop-i-preserved c = (
   search rules,
   (
     omega arith,

@@ -1,7 +1,5 @@
 -- `used_before` meets its contract. The invariant: none of the names passed has the label.
-use Prim.Native.Nat.{◌-◌}
 use mathlib.Core.Path.{◌≡◌, sym, ◌∙◌}
-use mathlib.Core.Bool.{false}
 use borrow.Author.Rules.{rules}
 use native.Mathlib.Omega.{arith}
 use Rattle.labels.proofs.Strings.{used_none, used_more, used_found}
@@ -11,8 +9,7 @@ pub loop-j-init : goal.loop-j-init
 loop-j-init c = (search rules, used_none _ _ _)
 
 pub same_label-requires : goal.same_label-requires
-same_label-requires c =
-    (
+same_label-requires c = (
   c.requires.1.1 _ c.loop-j-test.true,
   c.requires.1.0,
 )
@@ -23,8 +20,7 @@ returns-then-same_label c =
     (sym c.same_label.ensures ∙ c.if-same_label.true))
 
 pub loop-j-preserved : goal.loop-j-preserved
-loop-j-preserved c =
-    (
+loop-j-preserved c = (
   search rules,
   used_more _ _ _ _ c.loop-j.invariant.1
       (sym c.same_label.ensures ∙ c.if-same_label.false),

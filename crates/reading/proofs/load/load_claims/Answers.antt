@@ -1,9 +1,8 @@
 -- `load_claims` meets its contract. The invariant: to read what is left from here
 -- is to read all, and the tables have the claims so far.
-use types.Run.{miss}
-use Prim.Native.Nat.{◌+◌, ◌-◌, ◌≤◌}
+use Prim.Native.Nat.{◌+◌, ◌≤◌}
 use mathlib.Core.Path.{◌≡◌, refl, ap, ◌∙◌}
-use mathlib.Core.List.{◌∷◌}
+use mathlib.Core.List.{[]}
 use borrow.Author.Rules.{rules}
 use native.Mathlib.Omega.{arith}
 use lib.ListN.{length}
@@ -13,11 +12,10 @@ use Rattle.records.specs.Answers.{claim}
 use Rattle.reading.specs.Loaded.{passed_as}
 use Rattle.records.specs.declared.record.Answer.TheVariants as answer
 use Rattle.records.proofs.Fields.{claim_whole, claim_alone}
-use Rattle.records.proofs.Carried.{Handed, answered_record, answered_refusal, tag_of_handed, claim_bytes_law}
+use Rattle.records.proofs.Carried.{Handed, answered_record, answered_refusal, claim_handed, claim_bytes_law}
 use Rattle.wire.proofs.Passing.{never_read}
 use Rattle.reading.proofs.Many.{left_start, left_stop, left_done, held_more, claim_again}
 use Rattle.reading.proofs.load.load_claims.Goals.{After-claim_bytes-at}
-use Rattle.reading.proofs.load.load_claims.Goals.{After-put_claim-arg-in-loop-i-1}
 use Rattle.reading.proofs.load.load_claims.Goals.{In-Record}
 use Rattle.reading.proofs.load.load_claims.Goals as goal
 
@@ -26,16 +24,13 @@ taken : (c : In-Record) →
     Handed (claim_tests c.args.names []) (λ b. claim (claim_of b)) c.args.s.now c.loop-i.at c.in-Record.rec
 taken c = answered_record c.read_claim-answer.ensures.answers c.in-Record.is
 
--- the tables have room for it
-room : (c : After-put_claim-arg-in-loop-i-1) → let l = c.loop-i in ClaimRoom l.claims l.offsets l.i
-room c = record { numbers = omega arith; offset = omega arith }
-
 -- what follows it
 next : (c : After-claim_bytes-at) → let l = c.loop-i in
+    Handed (claim_tests c.args.names []) (λ b. claim (claim_of b)) c.args.s.now l.at c.in-Record.rec →
     l.at + c.claim_bytes-at.result ≤ length c.args.s.now
-next c =
-    let e = claim_bytes_law _ (taken (c.In-Record)) c.in-Claim.is (c.claim_bytes-at.ensures _) in
-    let r = claim_whole c.args.s.now c.loop-i.at c.args.names [] (taken (c.In-Record)).pass in
+next c t =
+    let e = claim_bytes_law _ t c.in-Claim.is (c.claim_bytes-at.ensures _) in
+    let r = claim_whole c.args.s.now c.loop-i.at c.args.names [] t.pass in
     omega arith
 
 pub loop-i-init : goal.loop-i-init
@@ -54,28 +49,29 @@ returns-in_default c =
     }
 
 pub returns-in_default-rec : goal.returns-in_default-rec
-returns-in_default-rec c = absurd (miss (0 ∷ 1 ∷ 2 ∷ []) 3 tt (rw (tag_of_handed (taken (goal.at.returns-in_default-rec c).In-Record)) at c.in_default-rec.keys2))
+returns-in_default-rec c = absurd (claim_handed (taken (goal.at.returns-in_default-rec c).In-Record) c.in_default-rec.not-Claim)
 
 pub put_claim-requires : goal.put_claim-requires
-put_claim-requires c = room c
+put_claim-requires c = record { numbers = omega arith; offset = omega arith }
 
 pub overflow_add-at : goal.overflow_add-at
-overflow_add-at c = let e = next c in omega arith
+overflow_add-at c = let e = next c (taken (goal.at.overflow_add-at c).In-Record) in omega arith
 
 pub loop-i-preserved : goal.loop-i-preserved
 loop-i-preserved c =
     let l = c.loop-i in
     let put = c.put_claim in
-    let w = taken (goal.at.loop-i-preserved c).In-Record in (
+    let w = taken (goal.at.loop-i-preserved c).In-Record in
+    let room : ClaimRoom l.claims l.offsets l.i = record { numbers = omega arith; offset = omega arith } in (
       search rules,
       (
-        next c,
+        next (goal.at.loop-i-preserved c).After-claim_bytes-at w,
         (
           (put.auto.claims ∙ l.invariant.1.1.0.0, put.auto.offsets ∙ l.invariant.1.1.0.1),
           (
-            claim_again _ l.invariant.1.1.1.0 c.loop-i-test.true (room (goal.at.loop-i-preserved c).After-put_claim-arg-in-loop-i-1) w c.in-Claim.is put.ensures
+            claim_again _ l.invariant.1.1.1.0 c.loop-i-test.true room w c.in-Claim.is put.ensures
                 (c.claim_bytes-at.ensures _),
-            held_more (room (goal.at.loop-i-preserved c).After-put_claim-arg-in-loop-i-1) put.ensures c.args.s.now c.args.names l.invariant.1.1.1.1
+            held_more room put.ensures c.args.s.now c.args.names l.invariant.1.1.1.1
                 (c.read_claim-answer.ensures.held _
                 (c.in-Record.is ∙ ap answer.Record c.in-Claim.is)),
           ),

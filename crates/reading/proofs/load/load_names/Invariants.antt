@@ -2,6 +2,7 @@
 -- is to read all, and the tables have the names so far.
 use Prim.Native.Nat.{◌+◌, ◌-◌, ◌≤◌}
 use mathlib.Core.Path.{◌≡◌}
+use mathlib.Core.List.{[]}
 use lib.ListN.{length}
 use Rattle.wire.specs.Edition.{edition_of}
 use Rattle.wire.specs.SheetFormat.{name_tests, name_of}

@@ -1,66 +1,41 @@
 -- `load_records` meets its contract: the stages one after another, each from where the one before stopped.
-use Prim.Native.Nat.{◌+◌, ◌≤◌}
+use Prim.Native.Nat.{ℕ, ◌+◌}
 use mathlib.Core.Path.{◌≡◌, sym, ◌∙◌}
 use mathlib.Core.List.{List}
 use native.Mathlib.Omega.{arith}
-use lib.ListN.{length, drop}
-use Rattle.wire.specs.SheetFormat.{HeadRecord, GroupRecord, NameRecord, ClaimRecord}
+use lib.ListN.{drop}
+use Rattle.reading.specs.declared.load.Passed.{Passed}
+use Rattle.reading.specs.declared.load.Passed.TheVariants.{To}
+use Rattle.wire.specs.SheetFormat.{HeadRecord, GroupRecord, NameRecord, group_tests, group_of}
 use Rattle.wire.specs.SheetFormat.{name_of, closing, read_claims, read_names, read_groups}
-use Rattle.tables.specs.Groups.{groups_in}
 use Rattle.claim_records.specs.ClaimTable.{claims_in}
 use Rattle.records.specs.Answers.{head_record}
 use Rattle.tables.specs.RecordsIn.{records_in}
-use Rattle.reading.specs.Loaded.{goes_on, loaded_as}
+use Rattle.reading.specs.Loaded.{goes_on, loaded_as, Goes, NamesGo, ClaimsGo}
 use Rattle.wire.proofs.Passing.{never_read}
 use Rattle.reading.proofs.Stages.{group_stage, name_stage, claim_stage, bytes_follow, at_end, went_on, went, turned_loads}
 use Rattle.reading.proofs.Stages.{names_grouped}
-use Rattle.reading.proofs.load.load_records.Goals.{In-To}
-use Rattle.reading.proofs.load.load_records.Goals.{In-To-c}
-use Rattle.reading.proofs.load.load_records.Goals.{In-To-n}
 use Rattle.reading.proofs.load.load_records.Goals as goal
 
-abbrev head : In-To → HeadRecord
-head c = head_record c.args.h
+-- what is left after each stage that went on: the names come after the groups, the claims after the names, then the end
+module _ (h : HeadRecord) (s : List ℕ) (gs : List GroupRecord) {p : Passed} {at : ℕ} where
+  to_names : p ≡ To at → Goes group_tests group_of s 12 h.groups 2 p gs →
+      read_names h (2 + h.groups) gs (drop at s) ≡ read_groups h (drop 12 s)
+  to_names e g = went (λ at. read_names h (2 + h.groups) gs (drop at s)) e (group_stage h s 12 p gs g)
 
-abbrev groups : In-To → List GroupRecord
-groups c = groups_in c.load_groups-g.new.1.1.1.0 (head c).groups
+  to_claims : (from : ℕ) (names labels : List ℕ) → p ≡ To at → NamesGo h.edition h.groups s from h.names p names labels →
+      read_names h (2 + h.groups) gs (drop from s) ≡ read_groups h (drop 12 s) →
+      read_claims h gs (2 + h.groups + h.names) (records_in name_of s labels h.names) (drop at s) ≡ read_groups h (drop 12 s)
+  to_claims from names labels e g w =
+      went (λ at. read_claims h gs (2 + h.groups + h.names) (records_in name_of s labels h.names) (drop at s)) e
+      (name_stage h s from p gs names labels g ∙ w)
 
-abbrev names : In-To-n → List NameRecord
-names c = records_in name_of c.args.s.now c.load_names-n.new.1.1.1.1.1.1.0 (head (c.In-To)).names
-
-abbrev claims : In-To-c → List ClaimRecord
-claims c = let tables = c.load_claims-c.new.1.1.1.1.1 in claims_in c.args.s.now tables.0 tables.1.0 (head (c.In-To)).claims
-
--- the names come after the groups
-names-next : (c : In-To) →
-    read_names (head c) (2 + (head c).groups) (groups c) (drop c.in-To.at_names c.args.s.now)
-    ≡ read_groups (head c) (drop 12 c.args.s.now)
-names-next c =
-    went (λ at. read_names (head c) (2 + (head c).groups) (groups c) (drop at c.args.s.now)) c.in-To.is
-    (group_stage (head c) c.args.s.now 12 _ (groups c) c.load_groups-g.ensures)
-
-names-room : (c : In-To) → c.in-To.at_names ≤ length c.args.s.now
-names-room c = c.load_groups-g.ensures.room _ (went_on c.in-To.is)
-
--- the claims come after the names
-claims-next : (c : In-To-n) → read_claims (head (c.In-To)) (groups (c.In-To)) (2 + (head (c.In-To)).groups + (head (c.In-To)).names) (names c) (drop c.in-To-n.at_claims c.args.s.now)
-    ≡ read_groups (head (c.In-To)) (drop 12 c.args.s.now)
-claims-next c =
-    went (λ at. read_claims (head (c.In-To)) (groups (c.In-To)) (2 + (head (c.In-To)).groups + (head (c.In-To)).names) (names c) (drop at c.args.s.now))
-    c.in-To-n.is
-    (name_stage (head (c.In-To)) c.args.s.now _ _ (groups (c.In-To)) _ _ c.load_names-n.ensures ∙ names-next (c.In-To))
-
-claims-room : (c : In-To-n) → c.in-To-n.at_claims ≤ length c.args.s.now
-claims-room c = c.load_names-n.ensures.reads.room _ (went_on c.in-To-n.is)
-
--- the end comes after the claims
-end-next : (c : In-To-c) → closing (head (c.In-To)).edition (groups (c.In-To)) (names (c.In-To-n)) (2 + (head (c.In-To)).groups + (head (c.In-To)).names + (head (c.In-To)).claims) (claims c)
-    (drop c.in-To-c.end c.args.s.now)
-    ≡ read_groups (head (c.In-To)) (drop 12 c.args.s.now)
-end-next c =
-    went (λ at. closing (head (c.In-To)).edition (groups (c.In-To)) (names (c.In-To-n)) (2 + (head (c.In-To)).groups + (head (c.In-To)).names + (head (c.In-To)).claims) (claims c)
-    (drop at c.args.s.now)) c.in-To-c.is
-    (claim_stage (head (c.In-To)) c.args.s.now _ _ _ (groups (c.In-To)) (names (c.In-To-n)) _ _ c.load_claims-c.ensures ∙ claims-next (c.In-To-n))
+  to_end : (from first : ℕ) (ns : List NameRecord) (claims offsets : List ℕ) → p ≡ To at →
+      ClaimsGo h.names first s from h.claims p claims offsets → read_claims h gs first ns (drop from s) ≡ read_groups h (drop 12 s) →
+      closing h.edition gs ns (first + h.claims) (claims_in s claims offsets h.claims) (drop at s) ≡ read_groups h (drop 12 s)
+  to_end from first ns claims offsets e g w =
+      went (λ at. closing h.edition gs ns (first + h.claims) (claims_in s claims offsets h.claims) (drop at s)) e
+      (claim_stage h s from first p gs ns claims offsets g ∙ w)
 
 pub returns-in_default : goal.returns-in_default
 returns-in_default c =
@@ -69,44 +44,44 @@ returns-in_default c =
     (group_stage (head_record a.h) a.s.now 12 _ _ c.load_groups-g.ensures)
 
 pub load_names-n-requires : goal.load_names-n-requires
-load_names-n-requires c = (names-room (goal.at.load_names-n-requires c).In-To, (omega arith, (omega arith, omega arith)))
+load_names-n-requires c = (c.load_groups-g.ensures.room _ (went_on c.in-To.is), (omega arith, (omega arith, omega arith)))
 
 pub returns-in_default-n : goal.returns-in_default-n
 returns-in_default-n c =
     turned_loads _ c.in_default-n.is c.turned_back-in_default-n.ensures
-    (name_stage (head (goal.at.returns-in_default-n c).In-To) c.args.s.now _ _ _ _ _ c.load_names-n.ensures ∙ names-next (goal.at.returns-in_default-n c).In-To)
+    (name_stage (head_record c.args.h) c.args.s.now _ _ _ _ _ c.load_names-n.ensures ∙ to_names (head_record c.args.h) c.args.s.now _ c.in-To.is c.load_groups-g.ensures)
 
 pub load_claims-c-requires : goal.load_claims-c-requires
 load_claims-c-requires c =
     let pre = c.requires.1 in
     let limits = pre.0 in
-    (claims-room (goal.at.load_claims-c-requires c).In-To-n, (limits.few_claims, (omega arith, (pre.1.claim_room, pre.1.offset_room))))
+    (c.load_names-n.ensures.reads.room _ (went_on c.in-To-n.is), (limits.few_claims, (omega arith, (pre.1.claim_room, pre.1.offset_room))))
 
 pub returns-in_default-c : goal.returns-in_default-c
 returns-in_default-c c =
     turned_loads _ c.in_default-c.is c.turned_back-in_default-c.ensures
-    (claim_stage (head (goal.at.returns-in_default-c c).In-To) c.args.s.now _ _ _ _ _ _ _ c.load_claims-c.ensures ∙ claims-next (goal.at.returns-in_default-c c).In-To-n)
+    (claim_stage (head_record c.args.h) c.args.s.now _ _ _ _ _ _ _ c.load_claims-c.ensures ∙ to_claims (head_record c.args.h) c.args.s.now _ _ _ _ c.in-To-n.is c.load_names-n.ensures (to_names (head_record c.args.h) c.args.s.now _ c.in-To.is c.load_groups-g.ensures))
 
 pub shape_of-groups-then-end-s : goal.shape_of-groups-then-end-s
-shape_of-groups-then-end-s c = c.load_groups-g.auto.groups.0
+shape_of-groups-then-end-s c = c.load_groups-g.auto.groups
 
 pub returns-then-end-s : goal.returns-then-end-s
 unfolding goes_on loaded_as
 returns-then-end-s c =
     record {
-  reads = sym (bytes_follow _ _ _ _ _ _ _ c.if-end-s.true) ∙ end-next (goal.at.returns-then-end-s c).In-To-c;
-  held = λ h e. never_read e;
-}
+      reads = sym (bytes_follow _ _ _ _ _ _ _ c.if-end-s.true) ∙ to_end (head_record c.args.h) c.args.s.now _ _ _ _ _ _ c.in-To-c.is c.load_claims-c.ensures (to_claims (head_record c.args.h) c.args.s.now _ _ _ _ c.in-To-n.is c.load_names-n.ensures (to_names (head_record c.args.h) c.args.s.now _ c.in-To.is c.load_groups-g.ensures));
+      held = λ h e. never_read e;
+    }
 
 pub returns : goal.returns
 unfolding goes_on loaded_as
 returns c =
-    let tables = c.load_names-n.last.1.1.1.1.1 in
+    let tables = c.load_names-n.new in
     record {
-      reads = sym (at_end _ _ _ _ _ _ _ c.if-end-s.false) ∙ end-next (goal.at.returns c).In-To-c;
-      held = λ h e. let z : head (goal.at.returns c).In-To ≡ h = cc in rw (← z) (record {
+      reads = sym (at_end _ _ _ _ _ _ _ c.if-end-s.false) ∙ to_end (head_record c.args.h) c.args.s.now _ _ _ _ _ _ c.in-To-c.is c.load_claims-c.ensures (to_claims (head_record c.args.h) c.args.s.now _ _ _ _ c.in-To-n.is c.load_names-n.ensures (to_names (head_record c.args.h) c.args.s.now _ c.in-To.is c.load_groups-g.ensures));
+      held = λ h e. let z : head_record c.args.h ≡ h = cc in rw (← z) (record {
         limits = c.requires.1.0;
-        named = names_grouped c.args.s.now tables.0 tables.1.0 (head (goal.at.returns c).In-To).names
+        named = names_grouped c.args.s.now tables.names tables.labels (head_record c.args.h).names
             (c.load_names-n.ensures.grouped _ (went_on c.in-To-n.is));
         whole = c.load_names-n.ensures.whole _ (went_on c.in-To-n.is);
         claimed = c.load_claims-c.ensures.held _ (went_on c.in-To-c.is);

@@ -1,11 +1,9 @@
 -- `load_sheet` meets its contract: the head, and then the records after it.
-use types.Run.{miss}
 use mathlib.Core.Path.{◌∙◌}
-use mathlib.Core.List.{◌∷◌}
 use Rattle.wire.specs.SheetFormat.{head_tests, head_of}
 use Rattle.records.specs.Answers.{head}
 use Rattle.reading.specs.Loaded.{goes_on, loaded_as}
-use Rattle.records.proofs.Carried.{Handed, answered_record, answered_refusal, tag_of_handed}
+use Rattle.records.proofs.Carried.{Handed, answered_record, answered_refusal, head_handed}
 use Rattle.wire.proofs.Passing.{never_read}
 use Rattle.reading.proofs.Stages.{head_refused, head_limits, head_goes}
 use Rattle.reading.proofs.load.load_sheet.Goals.{In-Record}
@@ -24,7 +22,7 @@ returns-in_default c =
     record { reads = head_refused _ _ q.0 q.1; held = λ h e. never_read e }
 
 pub returns-in_default-rec : goal.returns-in_default-rec
-returns-in_default-rec c = absurd (miss (1 ∷ 2 ∷ 3 ∷ []) 0 tt (rw (tag_of_handed (taken (goal.at.returns-in_default-rec c).In-Record)) at c.in_default-rec.keys2))
+returns-in_default-rec c = absurd (head_handed (taken (goal.at.returns-in_default-rec c).In-Record) c.in_default-rec.not-Head)
 
 pub load_records-requires : goal.load_records-requires
 load_records-requires c = let l = head_limits (taken (goal.at.load_records-requires c).In-Record) c.in-Head.is in (l.0, (l.1, c.requires))

@@ -26,38 +26,38 @@ returns-then-groups-lt1 c = simp (known (goal.at.returns-then-groups-lt1 c).Else
 pub returns-then-group_limit-groups : goal.returns-then-group_limit-groups
 returns-then-group_limit-groups c =
     simp (
-  known (goal.at.returns-then-group_limit-groups c).Else-not-is_edition,
-  le-leb _ _ c.if-groups-lt1.false,
-  ← c.group_limit.ensures,
-  lt-leb _ _
-      c.if-group_limit-groups.true,
-)
+      known (goal.at.returns-then-group_limit-groups c).Else-not-is_edition,
+      le-leb _ _ c.if-groups-lt1.false,
+      ← c.group_limit.ensures,
+      lt-leb _ _
+          c.if-group_limit-groups.true,
+    )
 
 pub returns-then-names-gt-NAMES : goal.returns-then-names-gt-NAMES
 returns-then-names-gt-NAMES c =
     simp (
-  known (goal.at.returns-then-names-gt-NAMES c).Else-not-is_edition,
-  le-leb _ _ c.if-groups-lt1.false,
-  le-leb _ _ (few (goal.at.returns-then-names-gt-NAMES c).Else-group_limit-groups),
-  lt-leb _ _ c.if-names-gt-NAMES.true,
-)
+      known (goal.at.returns-then-names-gt-NAMES c).Else-not-is_edition,
+      le-leb _ _ c.if-groups-lt1.false,
+      le-leb _ _ (few (goal.at.returns-then-names-gt-NAMES c).Else-group_limit-groups),
+      lt-leb _ _ c.if-names-gt-NAMES.true,
+    )
 
 pub returns-then-claims-gt-CLAIMS : goal.returns-then-claims-gt-CLAIMS
 returns-then-claims-gt-CLAIMS c =
     simp (
-  known (goal.at.returns-then-claims-gt-CLAIMS c).Else-not-is_edition,
-  le-leb _ _ c.if-groups-lt1.false,
-  le-leb _ _ (few (goal.at.returns-then-claims-gt-CLAIMS c).Else-group_limit-groups),
-  le-leb _ _ c.if-names-gt-NAMES.false,
-  lt-leb _ _ c.if-claims-gt-CLAIMS.true,
-)
+      known (goal.at.returns-then-claims-gt-CLAIMS c).Else-not-is_edition,
+      le-leb _ _ c.if-groups-lt1.false,
+      le-leb _ _ (few (goal.at.returns-then-claims-gt-CLAIMS c).Else-group_limit-groups),
+      le-leb _ _ c.if-names-gt-NAMES.false,
+      lt-leb _ _ c.if-claims-gt-CLAIMS.true,
+    )
 
 pub returns : goal.returns
 returns c =
     simp (
-  known (goal.at.returns c).Else-not-is_edition,
-  le-leb _ _ c.if-groups-lt1.false,
-  le-leb _ _ (few (goal.at.returns c).Else-group_limit-groups),
-  le-leb _ _ c.if-names-gt-NAMES.false,
-  le-leb _ _ c.if-claims-gt-CLAIMS.false,
-)
+      known (goal.at.returns c).Else-not-is_edition,
+      le-leb _ _ c.if-groups-lt1.false,
+      le-leb _ _ (few (goal.at.returns c).Else-group_limit-groups),
+      le-leb _ _ c.if-names-gt-NAMES.false,
+      le-leb _ _ c.if-claims-gt-CLAIMS.false,
+    )

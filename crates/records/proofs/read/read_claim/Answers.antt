@@ -1,6 +1,7 @@
 -- `read_claim` meets its contract: frame, kind, and then the tests of what follows.
 use Prim.Native.Nat.{◌+◌, ◌≤◌}
 use mathlib.Core.Path.{◌≡◌, sym, ◌∙◌}
+use mathlib.Core.List.{[]}
 use native.Mathlib.Omega.{arith}
 use lib.ListN.{drop}
 use Rattle.wire.specs.Bytes.{u16_at}
@@ -21,12 +22,12 @@ led c = frame_led c.requires c.frame-len.ensures c.if-len-lt2.false
 
 kinds : (c : After-u16_at-kind) → let k = c.u16_at-kind.result in
     (4 ≤ k) × ((k ≤ last_claim) × (u16_at c.args.s.now (c.args.at + 2) ≡ k))
-kinds c = let w = led (c.Else-len-lt2) in let a = c.args in
+kinds c = let w = frame_led c.requires c.frame-len.ensures c.if-len-lt2.false in let a = c.args in
     let e = read_at a.s.now a.at 2 _ c.u16_at-kind.ensures in (omega arith, (omega arith, sym c.u16_at-kind.ensures))
 
 passes : (c : Else-n-ne0) → let a = c.args in
     refusal (claim_tests a.names [] (drop a.at a.s.now)) ≡ 0
-passes c = claim_past _ (led (c.Else-len-lt2)) ∙ sym c.body_refusal-n.ensures ∙ c.if-n-ne0.false
+passes c = claim_past _ (frame_led c.requires c.frame-len.ensures c.if-len-lt2.false) ∙ sym c.body_refusal-n.ensures ∙ c.if-n-ne0.false
 
 pub returns-then-len-lt2 : goal.returns-then-len-lt2
 unfolding refusal claim_tests

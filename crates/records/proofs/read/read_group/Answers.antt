@@ -1,5 +1,5 @@
 -- `read_group` meets its contract: the tests in the code's order are those of the format.
-use Prim.Native.Nat.{◌+◌}
+use Prim.Native.Nat.{ℕ, ◌+◌}
 use mathlib.Core.Path.{◌≡◌, sym, ◌∙◌}
 use mathlib.Core.Bool.{true, cond}
 use mathlib.Core.List.{List}
@@ -10,19 +10,17 @@ use Rattle.wire.specs.Bytes.{u16_at}
 use Rattle.wire.specs.Record.{framed, refusal}
 use Rattle.wire.specs.SheetFormat.{GroupRecord, group_tests, group_of}
 use Rattle.records.specs.Answers.{record_as}
-use Rattle.records.proofs.Fields.{frame_led, frame_refused, one_kind, led_kind}
+use Rattle.records.proofs.Fields.{Led, frame_led, frame_refused, one_kind, led_kind}
 use Rattle.wire.proofs.Fields.{read_at}
 use Rattle.claim_records.proofs.BodyLaws.{whole_length}
 use Rattle.records.proofs.Carried.{answer_refused, answer_record}
 use Rattle.records.proofs.read.read_group.Goals.{After-parent_allowed}
-use Rattle.records.proofs.read.read_group.Goals.{Else-len-ne10}
 use Rattle.records.proofs.read.read_group.Goals as goal
 
 -- kind and length, where they are the record's
-lead : (c : Else-len-ne10) → let a = c.args in
-    let r = drop a.at a.s.now in (framed r ≡ true) × ((u16_at r 2 ≡ 2) × (u16_at r 0 ≡ 10))
-lead c = let w = frame_led c.requires c.frame-len.ensures c.if-len-lt2.false in
-    (w.frame, (led_kind w, whole_length _ _ _ w.whole ∙ c.if-len-ne10.false))
+lead : (s : List ℕ) (at len : ℕ) → Led s at 2 2 len → len ≡ 10 →
+    let r = drop at s in (framed r ≡ true) × ((u16_at r 2 ≡ 2) × (u16_at r 0 ≡ 10))
+lead s at len w e = (w.frame, (led_kind w, whole_length _ _ _ w.whole ∙ e))
 
 pub returns-then-len-lt2 : goal.returns-then-len-lt2
 unfolding refusal group_tests
@@ -40,7 +38,7 @@ pub returns-then-lo-gt-BOUND : goal.returns-then-lo-gt-BOUND
 unfolding refusal group_tests
 returns-then-lo-gt-BOUND c =
     λ gs e.
-    let l = lead (goal.at.returns-then-lo-gt-BOUND c).Else-len-ne10 in
+    let l = lead _ _ _ (frame_led c.requires c.frame-len.ensures c.if-len-lt2.false) c.if-len-ne10.false in
     let a = c.args in
     let s = a.s.now in
     answer_refused (λ z. omega arith) (simp (
@@ -56,7 +54,7 @@ pub returns-then-mode-gt-MODE : goal.returns-then-mode-gt-MODE
 unfolding refusal group_tests
 returns-then-mode-gt-MODE c =
     λ gs e.
-    let l = lead (goal.at.returns-then-mode-gt-MODE c).Else-len-ne10 in
+    let l = lead _ _ _ (frame_led c.requires c.frame-len.ensures c.if-len-lt2.false) c.if-len-ne10.false in
     let a = c.args in
     let s = a.s.now in
     answer_refused (λ z. omega arith) (simp (
@@ -75,7 +73,7 @@ past : (c : After-parent_allowed) → let a = c.args in
     refusal (group_tests gs (drop a.at a.s.now)) ≡ cond c.parent_allowed.result 0 5
 unfolding refusal group_tests
 past c gs e =
-    let l = lead (c.Else-len-ne10) in
+    let l = lead _ _ _ (frame_led c.requires c.frame-len.ensures c.if-len-lt2.false) c.if-len-ne10.false in
     let a = c.args in
     let s = a.s.now in
     simp (
@@ -98,7 +96,7 @@ returns-then-parent_allowed c =
     let a = c.args in
     let s = a.s.now in
     answer_record (simp (past (goal.at.returns-then-parent_allowed c).After-parent_allowed gs e, c.if-parent_allowed.true)) (simp (
-      (lead (goal.at.returns-then-parent_allowed c).Else-len-ne10).1.0,
+      (lead _ _ _ (frame_led c.requires c.frame-len.ensures c.if-len-lt2.false) c.if-len-ne10.false).1.0,
       read_at s a.at 4 _ c.u16_at.ensures,
       read_at s a.at 6 _ c.u16_at-lo.ensures,
       read_at s a.at 8 _ c.u16_at-hi.ensures,
