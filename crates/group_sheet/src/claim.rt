@@ -7,8 +7,7 @@ use reading::load::{Loaded, load_sheet};
 use replies::pairs::refuse;
 use tables::limits::{CLAIM_TABLE, GROUP_TABLE, LABEL_TABLE, NAME_TABLE, OFFSET_TABLE};
 
-#[unsafe(no_mangle)]
-pub extern "C" fn sheet_claim(sheet: &[u8], claim: u32, reply: &mut [u8]) -> u64
+pub fn sheet_claim(sheet: &[u8], claim: u32, reply: &mut [u8]) -> u64
     ensures { ClaimCall sheet.now claim (call reply.old result reply.new) }
 {
     let mut groups = [0u16; GROUP_TABLE];

@@ -6,29 +6,25 @@ ghost use Rattle.conversion_reply.specs.ConversionReply.{SheetConversion, Regist
 use conversion_reply::{convert_register, convert_sheet};
 use wire::edition::{EDITION_1, EDITION_2};
 
-#[unsafe(no_mangle)]
-pub extern "C" fn sheet_to_edition1(sheet: &[u8], reply: &mut [u8]) -> u64
+pub fn sheet_to_edition1(sheet: &[u8], reply: &mut [u8]) -> u64
     ensures { SheetConversion edition1 sheet.now (call reply.old result reply.new) }
 {
     convert_sheet(sheet, EDITION_1, reply)
 }
 
-#[unsafe(no_mangle)]
-pub extern "C" fn sheet_to_edition2(sheet: &[u8], reply: &mut [u8]) -> u64
+pub fn sheet_to_edition2(sheet: &[u8], reply: &mut [u8]) -> u64
     ensures { SheetConversion edition2 sheet.now (call reply.old result reply.new) }
 {
     convert_sheet(sheet, EDITION_2, reply)
 }
 
-#[unsafe(no_mangle)]
-pub extern "C" fn sheet_register_to_edition1(sheet: &[u8], register: &[u8], reply: &mut [u8]) -> u64
+pub fn sheet_register_to_edition1(sheet: &[u8], register: &[u8], reply: &mut [u8]) -> u64
     ensures { RegisterConversion edition1 sheet.now register.now (call reply.old result reply.new) }
 {
     convert_register(sheet, register, EDITION_1, reply)
 }
 
-#[unsafe(no_mangle)]
-pub extern "C" fn sheet_register_to_edition2(sheet: &[u8], register: &[u8], reply: &mut [u8]) -> u64
+pub fn sheet_register_to_edition2(sheet: &[u8], register: &[u8], reply: &mut [u8]) -> u64
     ensures { RegisterConversion edition2 sheet.now register.now (call reply.old result reply.new) }
 {
     convert_register(sheet, register, EDITION_2, reply)

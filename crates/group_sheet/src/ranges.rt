@@ -7,8 +7,7 @@ use reading::load::{Loaded, load_tree};
 use replies::pairs::refuse;
 use tables::limits::GROUP_TABLE;
 
-#[unsafe(no_mangle)]
-pub extern "C" fn sheet_ranges(sheet: &[u8], reply: &mut [u8]) -> u64
+pub fn sheet_ranges(sheet: &[u8], reply: &mut [u8]) -> u64
     ensures { RangesCall sheet.now (call reply.old result reply.new) }
 {
     let mut groups = [0u16; GROUP_TABLE];

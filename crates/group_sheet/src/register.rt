@@ -7,8 +7,7 @@ use register_reply::give_check;
 use replies::pairs::refuse;
 use tables::limits::GROUP_TABLE;
 
-#[unsafe(no_mangle)]
-pub extern "C" fn sheet_register(sheet: &[u8], register: &[u8], reply: &mut [u8]) -> u64
+pub fn sheet_register(sheet: &[u8], register: &[u8], reply: &mut [u8]) -> u64
     ensures { RegisterCall sheet.now register.now (call reply.old result reply.new) }
 {
     let mut groups = [0u16; GROUP_TABLE];

@@ -1,15 +1,16 @@
 // The program: a sheet from standard input, of which at most 16,384 bytes are taken, gives a line for each group and each
-// claim, or the line of its refusal.
+// claim, or the line of its refusal. A read or a write that fails ends it with that error.
 // Document 01, "Worked sheets", the printed case; document 02, card 5 (how many bytes).
 #![tactic(auto)]
 
-ghost use Rattle.std.specs.Prelude.{◌<◌, ◌≡◌};
+ghost use Rattle.std.specs.Prelude.{◌<◌, ◌≡◌, ◌≤◌, IfOk, length};
 ghost use Rattle.wire.specs.Capacity.{group_capacity};
 
-use libc::{STDIN_FILENO, STDOUT_FILENO};
 use replies::pairs::PAIR;
 use replies::{RANGE_BYTES, SHOWN_BYTES, VERDICT_BYTES};
 use spans::span::NO_GREATEST;
+use std::io;
+use std::io::Read;
 use tables::limits::{CLAIMS, GROUP_CAPACITY};
 
 // most bytes that are taken as a sheet
@@ -40,99 +41,114 @@ fn byte(x: u8) -> u64
     x as u64
 }
 
-fn number(n: u64) {
-    io::print_decimal(STDOUT_FILENO, n);
+fn number(rt: &impl Print, n: u64) -> io::Result<()> {
+    print!(rt; "{n}")
 }
 
-fn text(s: &[u8]) {
-    io::write_all(STDOUT_FILENO, s);
+fn text(rt: &impl Print, s: &[u8]) -> io::Result<()> {
+    rt.write_all(s)
 }
 
-fn after_space(n: u64) {
-    text(b" ");
-    number(n);
+fn after_space(rt: &impl Print, n: u64) -> io::Result<()> {
+    text(rt, b" ")?;
+    number(rt, n)
 }
 
 // The greatest count, a hyphen where there is none.
-fn greatest(n: u64) {
+fn greatest(rt: &impl Print, n: u64) -> io::Result<()> {
     if n == NO_GREATEST as u64 {
-        text(b" -");
-        return;
+        return text(rt, b" -");
     }
-    after_space(n);
+    after_space(rt, n)
 }
 
-fn print_refusal(answer: u64) {
-    text(b"refused");
-    after_space(answer / PAIR);
-    after_space(answer % PAIR);
-    text(b"\n");
+fn print_refusal(rt: &impl Print, answer: u64) -> io::Result<()> {
+    text(rt, b"refused")?;
+    after_space(rt, answer / PAIR)?;
+    after_space(rt, answer % PAIR)?;
+    text(rt, b"\n")
 }
 
 // The line of the group numbered i + 1.
-fn print_group(reply: &[u8], i: usize)
+fn print_group(rt: &impl Print, reply: &[u8], i: usize) -> io::Result<()>
     requires { i < group_capacity }
 {
-    number(i as u64 + 1);
+    number(rt, i as u64 + 1)?;
     let at = RANGE_BYTES * i;
-    after_space(field(reply, at + 4));
-    greatest(field(reply, at + 8));
-    after_space(field(reply, at + 12));
-    after_space(field(reply, at + 16));
-    text(b"\n");
+    after_space(rt, field(reply, at + 4))?;
+    greatest(rt, field(reply, at + 8))?;
+    after_space(rt, field(reply, at + 12))?;
+    after_space(rt, field(reply, at + 16))?;
+    text(rt, b"\n")
 }
 
-fn print_groups(reply: &[u8], size: u64) {
+fn print_groups(rt: &impl Print, reply: &[u8], size: u64) -> io::Result<()> {
     let mut i: usize = 0;
     while i < GROUP_CAPACITY {
         if size <= i as u64 {
-            return;
+            return Ok(());
         }
-        print_group(reply, i);
+        print_group(rt, reply, i)?;
         i += 1;
     }
+    Ok(())
 }
 
 // The line of one claim; answers whether there is such a claim.
-fn print_claim(sheet: &[u8], claim: u32) -> bool {
+fn print_claim(rt: &impl Print, sheet: &[u8], claim: u32) -> io::Result<bool> {
     let mut reply = [0u8; SHOWN_SETS_BYTES];
     let answer = group_sheet::claim::sheet_claim(sheet, claim, &mut reply);
     if answer / PAIR != 0 {
-        return false;
+        return Ok(false);
     }
-    text(b"claim");
-    after_space(claim as u64);
+    text(rt, b"claim")?;
+    after_space(rt, claim as u64)?;
     if reply[4] == 1 {
-        text(b" holds\n");
+        text(rt, b" holds\n")?;
     } else {
-        text(b" denied\n");
+        text(rt, b" denied\n")?;
     }
-    true
+    Ok(true)
 }
 
-fn print_claims(sheet: &[u8]) {
+fn print_claims(rt: &impl Print, sheet: &[u8]) -> io::Result<()> {
     let mut k: u32 = 1;
     while k <= CLAIMS as u32 {
-        if !print_claim(sheet, k) {
-            return;
+        if !print_claim(rt, sheet, k)? {
+            return Ok(());
         }
         k += 1;
     }
+    Ok(())
 }
 
-fn report(sheet: &[u8]) {
+fn report(rt: &impl Print, sheet: &[u8]) -> io::Result<()> {
     let mut reply = [0u8; RANGES_BYTES];
     let answer = group_sheet::ranges::sheet_ranges(sheet, &mut reply);
     if answer / PAIR != 0 {
-        print_refusal(answer);
-        return;
+        return print_refusal(rt, answer);
     }
-    print_groups(&reply, answer % PAIR / RANGE_BYTES as u64);
-    print_claims(sheet);
+    print_groups(rt, &reply, answer % PAIR / RANGE_BYTES as u64)?;
+    print_claims(rt, sheet)
 }
 
-fn main() {
+// Reads until the sheet's room is full or the input ends, and answers how many bytes it took.
+fn take_sheet(from: &mut impl Read, sheet: &mut [u8]) -> io::Result<usize>
+    ensures { IfOk result (λ n. n ≤ length sheet.new) }
+{
+    let mut taken = 0;
+    while taken < sheet.len() {
+        let n = from.read(&mut sheet[taken..])?;
+        if n == 0 {
+            break;
+        }
+        taken += n;
+    }
+    Ok(taken)
+}
+
+fn main(rt: HostRuntime) -> io::Result<()> {
     let mut sheet = [0u8; SHEET_BYTES];
-    let n = io::read_full(STDIN_FILENO, &mut sheet);
-    report(&sheet[..n]);
+    let n = take_sheet(&mut rt.stdin(), &mut sheet)?;
+    report(&rt, &sheet[..n])
 }
