@@ -2,4 +2,3 @@
 // the binary digits of a word. Mathematics only, for every crate above: `specs/Sum` and `specs/Digit` have what counts and bits are made
 // of, `specs/Tabulate` and `specs/Lowest` what lists of first values and the lowest digit are, `proofs/` the laws.
 #![tactic(auto)]
-

@@ -2,4 +2,3 @@
 // the root down. Mathematics only: `specs/` has spans, the fold, choices and witnesses, which contracts cite, `proofs/` that they are exact.
 // `spans`, `measuring`, `ranging`, `runs`, `choosing` and `questions` meet it in code. After `proofs/Possible` no sets are left, only numbers.
 #![tactic(auto)]
-
