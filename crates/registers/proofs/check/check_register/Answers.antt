@@ -17,11 +17,11 @@ use Rattle.registers.specs.Tallies.{Counted}
 use Rattle.tiles.proofs.FillLaws.{zeros}
 use Rattle.registers.proofs.CheckLaws.{checked_refused, tallied_refused, others_none, columns_counted, members_most, checked_columns, tallied_columns}
 use Rattle.registers.proofs.check.check_register.Goals.{After-count_groups}
-use Rattle.registers.proofs.check.check_register.Goals.{In-Count-2}
+use Rattle.registers.proofs.check.check_register.Goals.{In-Count}
 use Rattle.registers.proofs.check.check_register.Goals as goal
 
 -- the rows are read
-rows_read : (c : In-Count-2)
+rows_read : (c : In-Count)
     → read (rows_before (edition_of c.args.edition)
     c.args.register.now c.in-Count.rows)
     ≡ read_register (edition_of c.args.edition)
@@ -32,9 +32,9 @@ rows_read c = rw c.in-Count.is at c.read_rows.ensures
 -- the counts are those of the columns
 counted : (c : After-count_groups)
     → Counted (sheet_in c.args.groups.now
-    c.args.size) (column_sets c.fill_columns-n.new.1.1.1.1.0
+    c.args.size) (column_sets c.fill_columns-n.new.columns
     c.fill_columns-n.result)
-    c.count_groups.new.1.1.1.0
+    c.count_groups.new.counts
 counted c =
     let z = size_in c.args.groups.now c.args.size in
     columns_counted _ (omega (arith, z, c.requires.0.small)) c.fill_columns-n.ensures c.blocks_for.ensures (rw z c.count_groups.ensures)
@@ -44,25 +44,25 @@ gather_sons-requires c = (c.requires.0, (le_refl son_starts, (le_refl group_capa
 
 pub fill_columns-n-requires : goal.fill_columns-n-requires
 fill_columns-n-requires c =
-    let r = rows_read (goal.at.fill_columns-n-requires c).In-Count-2 in (
+    let r = rows_read (goal.at.fill_columns-n-requires c).In-Count in (
       c.requires.0.small,
       (rows_most _ _ _ _ r, (rows_readable _ _ _ _ r, (le_refl columns_length, record { each = zeros columns_length }))),
     )
 
 pub blocks_for-requires : goal.blocks_for-requires
-blocks_for-requires c = members_most _ _ _ _ (rows_read (goal.at.blocks_for-requires c).In-Count-2) c.fill_columns-n.ensures
+blocks_for-requires c = members_most _ _ _ _ (rows_read (goal.at.blocks_for-requires c).In-Count) c.fill_columns-n.ensures
 
 pub scan-requires : goal.scan-requires
 scan-requires c =
     let z = size_in c.args.groups.now c.args.size in (
       c.requires.0,
       record {
-        columns = le_of_eq (sym c.fill_columns-n.auto.columns.0);
-        members = members_most _ _ _ _ (rows_read (goal.at.scan-requires c).In-Count-1) c.fill_columns-n.ensures;
+        columns = le_of_eq (sym c.fill_columns-n.auto.columns);
+        members = members_most _ _ _ _ (rows_read (goal.at.scan-requires c).In-Count) c.fill_columns-n.ensures;
         others = λ h i y. others_none c.fill_columns-n.ensures h i y.first (omega (arith, y.last, z, c.requires.0.small));
         sons = c.gather_sons.ensures;
-        long = omega (arith, c.count_groups.auto.counts.0);
-        counts = counted (goal.at.scan-requires c).After-count_groups-arg-1;
+        long = omega (arith, c.count_groups.auto.counts);
+        counts = counted (goal.at.scan-requires c).After-count_groups;
         some_words = le_refl column_words;
         two_words = le_refl column_words;
       },
@@ -77,6 +77,6 @@ pub returns-in-Count : goal.returns-in-Count
 returns-in-Count c =
     let z : (sheet_in c.args.groups.now c.args.size).size ≤ c.args.size
     = omega (arith, size_in c.args.groups.now c.args.size) in (
-      checked_columns _ z _ _ _ _ (rows_read (goal.at.returns-in-Count c).In-Count-1) c.fill_columns-n.ensures _ c.requires.0.tree c.scan.ensures,
-      tallied_columns _ z _ _ _ _ (rows_read (goal.at.returns-in-Count c).In-Count-1) c.fill_columns-n.ensures _ _ (counted (goal.at.returns-in-Count c).After-count_groups-arg-1),
+      checked_columns _ z _ _ _ _ (rows_read (goal.at.returns-in-Count c).In-Count) c.fill_columns-n.ensures _ c.requires.0.tree c.scan.ensures,
+      tallied_columns _ z _ _ _ _ (rows_read (goal.at.returns-in-Count c).In-Count) c.fill_columns-n.ensures _ _ (counted (goal.at.returns-in-Count c).After-count_groups),
     )

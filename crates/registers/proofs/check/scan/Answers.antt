@@ -1,9 +1,8 @@
 -- `registers::check::scan` meets its contract. Invariants: nothing is broken at the groups before g, by the rules before `rule`,
 -- by the members of the blocks before b.
 use borrow.Author.Rules.{rules}
-use Prim.Native.Nat.{◌+◌, ◌-◌, ◌*◌, ◌<◌}
+use Prim.Native.Nat.{◌+◌, ◌*◌, ◌<◌}
 use mathlib.Core.Path.{refl, sym, ◌∙◌}
-use mathlib.Core.Logic.{⊎_elim}
 use native.Mathlib.Omega.{arith}
 use Rattle.tables.proofs.SheetInLaws.{size_in, group_in_law, parent_below}
 use Rattle.columns.specs.Columns.{block_members}
@@ -11,7 +10,7 @@ use Rattle.tables.specs.Groups.{parent_in}
 use Rattle.rules.proofs.JoinLaws.{sons_readable}
 use Rattle.registers.proofs.ScanLaws.{members_none, members_more, rules_none, groups_none}
 use Rattle.registers.proofs.ScanLaws.{groups_more, scan_fits, rules_member, rules_not, rules_count, scan_member, scan_count}
-use Rattle.registers.proofs.check.scan.Goals.{In-scan}
+use Rattle.registers.proofs.check.scan.Goals.{In-scan, then-rule-lt5+then-may_break+else-loop-b-test, then-rule-lt5+else-may_break, else-rule-lt5+else-count_breaks}
 use Rattle.registers.proofs.check.scan.Goals as goal
 
 -- a group's parent comes before it
@@ -59,7 +58,7 @@ loop-b-init c = (search rules, (c.loop-rule.invariant.1.1.0, members_none _ _ _ 
 pub block_breaks-requires : goal.block_breaks-requires
 block_breaks-requires c =
     let p = c.requires in
-    let b = below (goal.at.block_breaks-requires c).After-blocks_for-blocks in
+    let b = below (goal.at.block_breaks-requires c).In-scan in
     let m = c.blocks_for-blocks.ensures.most in
     record {
       columns = p.1.columns;
@@ -79,42 +78,42 @@ pub loop-rule-preserved : goal.loop-rule-preserved
 loop-rule-preserved c =
     let p = c.requires in
     let f = c.blocks_for-blocks.ensures in
-    ⊎_elim
-    (λ w. (
-      search rules,
-      (
-        omega (arith, w.0.taken),
+    elim c.if-rule-lt5.branch [
+      | then-rule-lt5+then-may_break+else-loop-b-test w ↦ (
+        search rules,
         (
-          w.5 ∙ w.3.inv.1.0,
-          rules_member p.0 p.1 _ _ c.scan.invariant.0 (omega arith) f c.join_asked.ensures
-              c.loop-rule.invariant.1.1.1 w.0.taken _ (omega (arith, w.4.left)) (rw c.parent_of-p.ensures at w.3.inv.1.1),
+          omega (arith, w.if-rule-lt5.true),
+          (
+            w.answer-is ∙ w.loop-b.invariant.1.0,
+            rules_member p.0 p.1 _ _ c.scan.invariant.0 (omega arith) f c.join_asked.ensures
+                c.loop-rule.invariant.1.1.1 w.if-rule-lt5.true _ (omega (arith, w.loop-b-test.false))
+                (rw c.parent_of-p.ensures at w.loop-b.invariant.1.1),
+          ),
         ),
-      ),
-    ))
-    (⊎_elim
-    (λ w. (
-      search rules,
-      (
-        omega (arith, w.0.taken),
+      )
+      | then-rule-lt5+else-may_break w ↦ (
+        search rules,
         (
-          w.3 ∙ c.loop-rule.invariant.1.1.0,
-          rules_not p.0 p.1 _ _ c.scan.invariant.0 (omega arith) f c.join_asked.ensures
-              c.loop-rule.invariant.1.1.1 w.0.taken (sym w.1.ensures ∙ w.2.left),
+          omega (arith, w.if-rule-lt5.true),
+          (
+            w.answer-is ∙ c.loop-rule.invariant.1.1.0,
+            rules_not p.0 p.1 _ _ c.scan.invariant.0 (omega arith) f c.join_asked.ensures
+                c.loop-rule.invariant.1.1.1 w.if-rule-lt5.true (sym w.may_break.ensures ∙ w.if-may_break.false),
+          ),
         ),
-      ),
-    ))
-    (λ w. (
-      search rules,
-      (
-        omega arith,
+      )
+      | else-rule-lt5+else-count_breaks w ↦ (
+        search rules,
         (
-          w.3 ∙ c.loop-rule.invariant.1.1.0,
-          rules_count p.0 p.1 _ _ c.scan.invariant.0 (omega arith) f c.join_asked.ensures
-              c.loop-rule.invariant.1.1.1 w.0.left (sym w.1.ensures ∙ w.2.left),
+          omega arith,
+          (
+            w.answer-is ∙ c.loop-rule.invariant.1.1.0,
+            rules_count p.0 p.1 _ _ c.scan.invariant.0 (omega arith) f c.join_asked.ensures
+                c.loop-rule.invariant.1.1.1 w.if-rule-lt5.false (sym w.count_breaks.ensures ∙ w.if-count_breaks.false),
+          ),
         ),
-      ),
-    )))
-    c.if-rule-lt5.branch
+      )
+    ]
 
 pub scan-preserved : goal.scan-preserved
 scan-preserved c =
