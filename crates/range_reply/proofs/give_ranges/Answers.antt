@@ -22,7 +22,7 @@ returns-then-reply-bytes c =
 pub put-requires : goal.put-requires
 put-requires c =
     let w = c.measure.ensures in
-    record { measured = w.decreases (w.told.0 c.if-not-measure.false); room = c.if-reply-bytes.false }
+    record { measured = w.measured (w.told.0 c.if-not-measure.false); room = c.if-reply-bytes.false }
 
 pub returns : goal.returns
 returns c =

@@ -11,7 +11,7 @@ use Rattle.choosing.proofs.choose.choose.Goals as goal
 pub measure_sheet-requires : goal.measure_sheet-requires
 measure_sheet-requires c =
     let w = c.requires.0.grown in
-    let small = w.small in record { long = record { tabled = w; flags_long = c.requires.1; last_long = omega arith; prev_long = omega arith }; lent = record { spans_long = omega arith; after_long = omega arith }; }
+    let small = w.small in record { long = record { tabled = w; flags_long = c.requires.1; last_long = omega arith; prev_long = omega arith }; lent = record { spans_long = omega arith; after_long = omega arith } }
 
 pub returns-then-root : goal.returns-then-root
 returns-then-root c =
@@ -27,17 +27,20 @@ divide-requires c =
     let r = c.at_state-root in
     let m = c.measure_sheet in
     let n = size_in c.args.groups.now c.args.size in
-    let e = r.ensures ∙ c.pair_at.ensures b in record { tabled = (
+    let e = r.ensures ∙ c.pair_at.ensures b in record {
+      tabled = (
         w,
         folded_table (spans_measured _ _ w.tree) m.ensures (record {
-          spans_long = omega (arith, w.small, m.kept.1.1.1.1.1.0);
-          after_long = omega (arith, w.small, m.kept.1.1.1.1.1.1.0);
+          spans_long = omega (arith, w.small, m.auto.spans);
+          after_long = omega (arith, w.small, m.auto.after);
         }),
-      ); size_in_bounds = (
+      );
+      size_in_bounds = (
         c.requires.0.sizes_long,
         c.requires.0.marks_long,
         subst (In r.result.least) e (least_in_law _ _ c.if-root.false (omega arith)),
-      ); }
+      );
+    }
 
 pub returns : goal.returns
 returns c =
@@ -48,7 +51,7 @@ returns c =
     let small = room_span w
     (λ i. omega (
       arith,
-      c.shared_slice_known-1.given i,
+      c.type_inv.groups i,
     ))
     (spans_measured _ _ w.tree) 1 w.rooted.one b in
     chose_some (spans_measured _ _ w.tree) c.measure_sheet.ensures b _ _ _ _

@@ -52,16 +52,20 @@ divide_son-requires c =
     let i = c.loop-i.invariant in
     let m = c.loop-i.i in
     let k = c.give.auto in
-    let e : m + 1 - 1 ≡ m = omega arith in record { tabled = c.requires.tabled; le_g = (
-          omega arith,
-          omega arith,
-          record {
-            sizes_long = omega (arith, i.2, k.sizes, c.requires.size_in_bounds.0);
-            marks_long = omega (arith, i.3, k.marks, c.requires.size_in_bounds.1);
-            rest_long = omega (arith, i.4, c.requires.tabled.0.small);
-            states_long = omega (arith, i.5, c.requires.tabled.0.small);
-          },
-        ); divided_to = rw e i.8; }
+    let e : m + 1 - 1 ≡ m = omega arith in record {
+      tabled = c.requires.tabled;
+      le_g = (
+        omega arith,
+        omega arith,
+        record {
+          sizes_long = omega (arith, i.2, k.sizes, c.requires.size_in_bounds.0);
+          marks_long = omega (arith, i.3, k.marks, c.requires.size_in_bounds.1);
+          rest_long = omega (arith, i.4, c.requires.tabled.0.small);
+          states_long = omega (arith, i.5, c.requires.tabled.0.small);
+        },
+      );
+      divided_to = rw e i.8;
+    }
 
 pub loop-i-preserved : goal.loop-i-preserved
 loop-i-preserved c =

@@ -75,7 +75,8 @@ returns c =
     let g = c.args.g.0 in
     let kind = kind_table _ _ p g _ _ t k c.mode_of.ensures c.kind_of.ensures in
     let rest = rest_table p g c.requires.tabled.1 k c.pair_at.ensures in
-    let share = shared_alike rest c.pair_at-2.ensures (rw kind at d.ensures) in record { divided_to_2 = rw (l.rest_after, l.states_after, e.sizes_after, e.marks_after, e.rest_after, e.states_after)
+    let share = shared_alike rest c.pair_at-2.ensures (rw kind at d.ensures) in record {
+      divided_to_2 = rw (l.rest_after, l.states_after, e.sizes_after, e.marks_after, e.rest_after, e.states_after)
           (divided_more t.tree c.requires.tabled.1.measured c.args.sizes.now c.args.marks.now c.args.rest.now
           c.args.states.now p g d.result.rest d.result.son d.result.rest_in d.result.son_in k
           (record {
@@ -84,9 +85,11 @@ returns c =
             rest_long = omega (arith, r.rest_long);
             states_long = omega (arith, r.states_long);
           })
-          c.requires.divided_to share); sizes_unchanged = (
+          c.requires.divided_to share);
+      sizes_unchanged = (
         ap (λ t. number_in t 1) e.sizes_after
             ∙ number_other c.args.sizes.now g 1 d.result.son (omega arith) (omega arith) (λ o. omega arith),
         ap (λ t. marked_in t 1) e.marks_after
             ∙ mark_other c.args.marks.now g 1 (bit d.result.son_in) (omega arith) (omega arith) (λ o. omega arith),
-      ); }
+      );
+    }

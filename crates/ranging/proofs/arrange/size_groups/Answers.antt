@@ -34,7 +34,7 @@ loop-i-preserved c =
       c.put_size.auto.left ∙ l.invariant.3,
       search rules,
       search rules,
-      λ first f a. size_step c.requires.arrangeable _ _ _ c.parent_group-p.ensures.0 _ refl c.type_size.ensures
+      λ first f a. size_step c.requires.arrangeable _ _ _ c.parent_group-p.ensures.0 _ refl c.size_of-n.ensures
           c.put_size.ensures first f a (rw e (l.invariant.6 first f a)),
     )
 

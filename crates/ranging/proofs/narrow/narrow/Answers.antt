@@ -11,18 +11,17 @@ use Rattle.ranging.proofs.NarrowedLaws.{narrowed_root, narrow_step, narrowed_all
 use Rattle.ranging.proofs.narrow.narrow.Goals as goal
 
 pub loop-i-init : goal.loop-i-init
-loop-i-init c =
-    (
-      search rules,
-      search rules,
-      search rules,
-      search rules,
-      search rules,
-      search rules,
-      λ z m. let root = out_held _ _ _ _ c.out_at-root.ensures ∙ m.spanned 1 c.requires.tabled.0.rooted.one in
-          narrowed_root c.requires.tabled.0.tree c.requires.tabled.0.rooted (c.put_span.ensures.put ∙ root)
-          (c.put_span-2.ensures.put ∙ root),
-    )
+loop-i-init c = (
+  search rules,
+  search rules,
+  search rules,
+  search rules,
+  search rules,
+  search rules,
+  λ z m. let root = out_held _ _ _ _ c.out_at-root.ensures ∙ m.spanned 1 c.requires.tabled.0.rooted.one in
+      narrowed_root c.requires.tabled.0.tree c.requires.tabled.0.rooted (c.put_span.ensures.put ∙ root)
+      (c.put_span-2.ensures.put ∙ root),
+)
 
 pub out_at-others-requires : goal.out_at-others-requires
 out_at-others-requires c = omega (arith, c.requires.tabled.1, c.loop-i-test.true)

@@ -40,7 +40,7 @@ pub start_son-requires : goal.start_son-requires
 start_son-requires c =
     let i = c.loop-i.invariant in
     let n = c.loop-i.i in
-    let e : n + 1 - 1 ≡ n = omega arith in record { startable = startable_kept c.requires (i.2 ∙ simp length-set) (i.3 ∙ simp length-set); le_g = (omega arith, omega arith); started = rw e i.4; }
+    let e : n + 1 - 1 ≡ n = omega arith in record { startable = startable_kept c.requires (i.2 ∙ simp length-set) (i.3 ∙ simp length-set); le_g = (omega arith, omega arith); started = rw e i.4 }
 
 pub loop-i-preserved : goal.loop-i-preserved
 loop-i-preserved c = (omega arith, omega arith, search rules, search rules, c.start_son.ensures)
