@@ -18,7 +18,6 @@ use Rattle.meaning.specs.Tree.{Tree, Rooted}
 use Rattle.meaning.specs.Sons.{only, is_son, sons}
 use Rattle.meaning.specs.Claim.{counted}
 use Rattle.meaning.specs.Place.{all_say}
-use Rattle.meaning.specs.Shown.{above}
 use Rattle.meaning.proofs.SonLaws.{son_of_law, son_is}
 use Rattle.sizes.specs.Balanced.{Balanced, Choice, Sizes}
 use Rattle.sizes.specs.Span.{smaller}

@@ -28,6 +28,6 @@ returns c =
     c.write_row.ensures
     ∙ ap (λ r. sets a.out.now a.to (encode_row e r))
     (row_in_read e (edition_of a.from) a.register.now
-    (λ i. (c.shared_slice_known-1.given i).fits) a.at c.u32_at-number.ensures c.u16_at-side.ensures
+    (λ i. (c.type_inv.register i).fits) a.at c.u32_at-number.ensures c.u16_at-side.ensures
     c.word_of.ensures c.word_of-2.ensures
     c.word_of-3.ensures c.word_of-4.ensures)

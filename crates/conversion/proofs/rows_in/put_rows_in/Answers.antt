@@ -1,5 +1,5 @@
 -- `put_rows_in` meets its contract. The invariant: the rows so far stand at the front, and nothing else was stored.
-use Prim.Native.Nat.{◌+◌, ◌-◌, ◌≤◌}
+use Prim.Native.Nat.{◌+◌, ◌≤◌}
 use mathlib.Core.Path.{◌≡◌, refl}
 use mathlib.Core.List.{flat_map}
 use native.Mathlib.Omega.{arith}

@@ -1,5 +1,5 @@
 -- `may_go` meets its contract. The invariant: no label so far is too long.
-use Prim.Native.Nat.{◌-◌, ◌≤◌}
+use Prim.Native.Nat.{◌≤◌}
 use mathlib.Core.Path.{◌≡◌}
 use native.Mathlib.Omega.{arith}
 use borrow.Author.Rules.{rules}
@@ -14,9 +14,9 @@ few l = omega (arith, l.group_limit.ensures, l.if-group_limit-head.false)
 pub returns-then-group_limit-head : goal.returns-then-group_limit-head
 returns-then-group_limit-head c =
     record {
-  gives = λ d at. many_groups (edition_of c.args.edition) at
-      (omega (arith, c.group_limit.ensures, c.if-group_limit-head.true));
-}
+      gives = λ d at. many_groups (edition_of c.args.edition) at
+          (omega (arith, c.group_limit.ensures, c.if-group_limit-head.true));
+    }
 
 pub loop-j-init : goal.loop-j-init
 loop-j-init c = (search rules, (c.label_limit-longest.ensures, λ j l. absurd (omega arith)))

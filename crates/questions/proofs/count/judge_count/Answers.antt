@@ -8,9 +8,8 @@ judge_group-requires c =
     (c.requires.0, rw e at c.requires.1, rw e at c.requires.2)
 
 pub returns-in-Empty : goal.returns-in-Empty
-returns-in-Empty c = (rw c.in-Empty.is (c.judge_empty.ensures _), refl)
+returns-in-Empty c = record { judged = rw c.in-Empty.is (c.judge_empty.ensures _); groups_unchanged = refl }
 
 pub returns-in-Group : goal.returns-in-Group
 returns-in-Group c =
-    let j = c.judge_group.ensures in
-    (rw c.in-Group.is j.judged, j.groups_unchanged)
+    let j = c.judge_group.ensures in record { judged = rw c.in-Group.is j.judged; groups_unchanged = j.groups_unchanged }

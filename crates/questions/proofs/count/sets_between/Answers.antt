@@ -18,7 +18,7 @@ any_sets-r-requires c =
     }
 
 pub set_lo-requires-2 : goal.set_lo-requires-2
-set_lo-requires-2 c = (c.requires.1, omega (arith, c.requires.2, c.requires.0.grown.long, c.set_hi-2.kept.0, c.set_hi.kept.0, c.set_lo.kept.0))
+set_lo-requires-2 c = (c.requires.1, omega (arith, c.requires.2, c.requires.0.grown.long, c.set_hi-2.auto.groups, c.set_hi.auto.groups, c.set_lo.auto.groups))
 
 pub returns : goal.returns
 returns c =
@@ -28,10 +28,10 @@ returns c =
     let lo = c.lo_of-lo.ensures in
     let hi = c.hi_of-hi.ensures in
     let e = c.set_lo.ensures in
-    let o = c.set_hi.ensures in (
-      between_sized a.groups.now a.size a.g.0 a.least a.most c.requires.1 c.requires.2 w.grown.long
-          (omega (arith, w.grown.long, c.set_lo.kept.0))
+    let o = c.set_hi.ensures in record {
+      sized = between_sized a.groups.now a.size a.g.0 a.least a.most c.requires.1 c.requires.2 w.grown.long
+          (omega (arith, w.grown.long, c.set_lo.auto.groups))
           (rw (c.larger.ensures, lo) at e) (rw (c.smaller.ensures, hi) at o) (omega (arith, hi)) (omega arith)
-          c.any_sets-r.ensures,
-      stored_back a.groups.now (i + 1) (i + 2) _ _ e o lo hi c.set_hi-2.ensures c.set_lo-2.ensures,
-    )
+          c.any_sets-r.ensures;
+      groups_unchanged = stored_back a.groups.now (i + 1) (i + 2) _ _ e o lo hi c.set_hi-2.ensures c.set_lo-2.ensures;
+    }

@@ -1,7 +1,6 @@
 -- `ask_left` meets its contract. Apart: none of the first j groups shares a member with g.
-use Prim.Native.Nat.{◌-◌}
 use mathlib.Core.Path.{◌≡◌, refl, ◌∙◌}
-use mathlib.Core.List.{◌∷◌}
+use mathlib.Core.List.{[], ◌∷◌}
 use native.Mathlib.Omega.{arith}
 use Rattle.questions.proofs.WitnessedLaws.{witnessed_no}
 use Rattle.questions.proofs.GroupsLaws.{listed_group}
@@ -19,20 +18,20 @@ group_at-requires c = omega (arith, c.requires.asking.1.long)
 pub ask_both-requires : goal.ask_both-requires
 ask_both-requires c =
     let h = c.group_at.ensures in
-    let w = listed_group c.requires.asking.1 c.loop-j.j (omega arith) in (
-      record {
+    let w = listed_group c.requires.asking.1 c.loop-j.j (omega arith) in record {
+      asking = record {
         grown = c.requires.asking.0.grown;
         sizes_long = omega (arith, c.requires.asking.0.sizes_long, c.loop-j.invariant.1);
         marks_long = omega (arith, c.requires.asking.0.marks_long, c.loop-j.invariant.2);
-      },
-      (c.requires.le_g.0, c.requires.le_g.1, omega (arith, w.0, h), omega (arith, w.1, h)),
-    )
+      };
+      le_g = (c.requires.le_g.0, c.requires.le_g.1, omega (arith, w.0, h), omega (arith, w.1, h));
+    }
 
 pub shape_of-sizes-then-ask_both : goal.shape_of-sizes-then-ask_both
 shape_of-sizes-then-ask_both c = c.ask_both.auto.sizes ∙ c.loop-j.invariant.1
 
 pub shape_of-marks-then-ask_both : goal.shape_of-marks-then-ask_both
-shape_of-marks-then-ask_both c = c.ask_both.auto.marks.0 ∙ c.loop-j.invariant.2
+shape_of-marks-then-ask_both c = c.ask_both.auto.marks ∙ c.loop-j.invariant.2
 
 pub returns-then-ask_both : goal.returns-then-ask_both
 unfolding broken_kind
@@ -40,7 +39,7 @@ returns-then-ask_both c =
     let h = c.group_at.ensures in
     rw c.if-shared.true
     (right_way_found (c.args.g.0 ∷ []) c.args.right.now c.args.n c.loop-j.j (omega arith) c.requires.asking.1.long
-    (rw h (goal.at.returns-then-ask_both c).At-loop-j c.ask_both.ensures) c.if-ask_both.true)
+    (rw h at c.ask_both.ensures) c.if-ask_both.true)
 
 pub loop-j-preserved : goal.loop-j-preserved
 loop-j-preserved c =
@@ -48,16 +47,16 @@ loop-j-preserved c =
     let v = c.loop-j.invariant in (
       omega arith,
       c.ask_both.auto.sizes ∙ v.1,
-      c.ask_both.auto.marks.0 ∙ v.2,
+      c.ask_both.auto.marks ∙ v.2,
       right_way_more (c.args.g.0 ∷ []) c.args.right.now c.loop-j.j (omega (arith, c.requires.asking.1.long)) v.3
-          (rw h (goal.at.loop-j-preserved c).At-loop-j c.ask_both.ensures) c.if-ask_both.false,
+          (rw h at c.ask_both.ensures) c.if-ask_both.false,
     )
 
 pub returns-then-shared : goal.returns-then-shared
 unfolding broken_kind
 returns-then-shared c =
     let e : c.loop-j.j ≡ c.args.n = omega arith in
-    rw c.if-shared.true (witnessed_no (rw e (goal.at.returns-then-shared c).At-loop-j c.loop-j.invariant.3))
+    rw c.if-shared.true (witnessed_no (rw e at c.loop-j.invariant.3))
 
 pub returns : goal.returns
 returns c = inside_tried (search rules) (omega arith) c.ask_place.ensures

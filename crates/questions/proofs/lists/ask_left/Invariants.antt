@@ -1,7 +1,7 @@
 -- `ask_left` meets its contract. Apart: none of the first j groups shares a member with g.
 use Prim.Native.Nat.{◌-◌, ◌≤◌}
 use mathlib.Core.Path.{◌≡◌}
-use mathlib.Core.List.{◌∷◌}
+use mathlib.Core.List.{[], ◌∷◌}
 use lib.ListN.{length, take}
 use Rattle.wire.specs.SheetFormat.{apart}
 use Rattle.tables.specs.SheetIn.{sheet_in}

@@ -1,5 +1,4 @@
 -- `ask_lefts` meets its contract: for none of the first i left groups is there such a member.
-use Prim.Native.Nat.{◌-◌}
 use mathlib.Core.Path.{◌≡◌, refl, ◌∙◌}
 use native.Mathlib.Omega.{arith}
 use lib.ListN.{take}
@@ -17,30 +16,30 @@ group_at-requires c = omega (arith, c.requires.listed.0.long)
 pub ask_left-requires : goal.ask_left-requires
 ask_left-requires c =
     let g = c.group_at.ensures in
-    let w = listed_group c.requires.listed.0 c.loop-i.i (omega arith) in (
-      (
+    let w = listed_group c.requires.listed.0 c.loop-i.i (omega arith) in record {
+      asking = (
         record {
           grown = c.requires.asking.grown;
           sizes_long = omega (arith, c.requires.asking.sizes_long, c.loop-i.invariant.1);
           marks_long = omega (arith, c.requires.asking.marks_long, c.loop-i.invariant.2);
         },
         c.requires.listed.1,
-      ),
-      (omega (arith, w.0, g), omega (arith, w.1, g)),
-    )
+      );
+      le_g = (omega (arith, w.0, g), omega (arith, w.1, g));
+    }
 
 pub shape_of-sizes-then-ask_left : goal.shape_of-sizes-then-ask_left
 shape_of-sizes-then-ask_left c = c.ask_left.auto.sizes ∙ c.loop-i.invariant.1
 
 pub shape_of-marks-then-ask_left : goal.shape_of-marks-then-ask_left
-shape_of-marks-then-ask_left c = c.ask_left.auto.marks.0 ∙ c.loop-i.invariant.2
+shape_of-marks-then-ask_left c = c.ask_left.auto.marks ∙ c.loop-i.invariant.2
 
 pub returns-then-ask_left : goal.returns-then-ask_left
 returns-then-ask_left c =
     let g = c.group_at.ensures in
     let a = c.args in
     left_way_found a.shared a.left.now (take a.n a.right.now) a.m c.loop-i.i (omega arith) c.requires.listed.0.long
-    (rw g (goal.at.returns-then-ask_left c).At-loop-i c.ask_left.ensures) c.if-ask_left.true
+    (rw g at c.ask_left.ensures) c.if-ask_left.true
 
 pub loop-i-preserved : goal.loop-i-preserved
 loop-i-preserved c =
@@ -49,12 +48,12 @@ loop-i-preserved c =
     let v = c.loop-i.invariant in (
       omega arith,
       c.ask_left.auto.sizes ∙ v.1,
-      c.ask_left.auto.marks.0 ∙ v.2,
+      c.ask_left.auto.marks ∙ v.2,
       left_way_more a.shared a.left.now (take a.n a.right.now) c.loop-i.i
-          (omega (arith, c.requires.listed.0.long)) v.3 (rw g (goal.at.loop-i-preserved c).At-loop-i c.ask_left.ensures) c.if-ask_left.false,
+          (omega (arith, c.requires.listed.0.long)) v.3 (rw g at c.ask_left.ensures) c.if-ask_left.false,
     )
 
 pub returns : goal.returns
 returns c =
     let e : c.loop-i.i ≡ c.args.m = omega arith in
-    witnessed_no (rw e (goal.at.returns c).At-loop-i c.loop-i.invariant.3)
+    witnessed_no (rw e at c.loop-i.invariant.3)

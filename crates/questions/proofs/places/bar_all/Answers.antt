@@ -1,5 +1,4 @@
 -- `bar_all` meets its contract: the first i groups of the list are barred.
-use Prim.Native.Nat.{◌-◌}
 use mathlib.Core.Path.{◌≡◌}
 use native.Mathlib.Omega.{arith}
 use Rattle.questions.proofs.GroupsLaws.{listed_group}
@@ -18,12 +17,11 @@ bar-requires c =
     omega (arith, w.0, w.1, c.group_at.ensures, c.loop-i.invariant.1.same)
 
 pub loop-i-preserved : goal.loop-i-preserved
-loop-i-preserved c =
-    (
-      omega arith,
-      barred_next c.args.list.now c.loop-i.i (omega (arith, c.requires.long)) c.loop-i.invariant.1
-          (rw c.group_at.ensures (goal.at.loop-i-preserved c).At-loop-i c.bar.ensures),
-    )
+loop-i-preserved c = (
+  omega arith,
+  barred_next c.args.list.now c.loop-i.i (omega (arith, c.requires.long)) c.loop-i.invariant.1
+      (rw c.group_at.ensures at c.bar.ensures),
+)
 
 pub shape_of-flags : goal.shape_of-flags
 shape_of-flags c = c.loop-i.invariant.1.same
@@ -31,4 +29,4 @@ shape_of-flags c = c.loop-i.invariant.1.same
 pub returns : goal.returns
 returns c =
     let e : c.loop-i.i ≡ c.args.n = omega arith in
-    rw e (goal.at.returns c).At-loop-i c.loop-i.invariant.1
+    rw e at c.loop-i.invariant.1
