@@ -1,6 +1,5 @@
 // The reader that walks the rows: the lent register, the number of its sheet's edition, the offset reached, and the key of the
-// member before it, 0 at first. The borrow checker covers no function over it, so each is proved by hand; the work is `row_at`'s,
-// which takes a plain slice.
+// member before it, 0 at first. The work is `row_at`'s, which takes a plain slice.
 ghost use Rattle.std.specs.Prelude.{◌≡◌};
 ghost use Rattle.wire.specs.Edition.{edition_of};
 ghost use Rattle.wire.specs.MemberKey.{key_member};
