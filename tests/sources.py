@@ -35,7 +35,7 @@ def declared(files):
     out = {}
     for path in believed(files):
         for crate, module, name in re.findall(
-                r'^use Rattle·(\w+)(?:·\w+)?\.specs\.declared\.([\w.]+)\.([A-Z]\w*)', files[path], re.M):
+                r'^use Rattle\.(\w+)\.specs\.declared\.([a-z]\w*(?:\.[a-z]\w*)*)\.([A-Z]\w*)', files[path], re.M):
             source = 'crates/%s/src/%s.rt' % (crate, module.replace('.', '/'))
             found = re.search(r'^pub enum %s \{.*?^\}' % name, files.get(source, ''), re.M | re.S)
             if not found:
@@ -56,7 +56,7 @@ def exports(files):
     out = []
     for path, text in files.items():
         if path.endswith('.rt'):
-            found = re.findall(r'#\[no_mangle\]\s*pub extern "C" fn (\w+)\(([^)]*)\)(?:\s*->\s*(\w+))?\s*?\n(.*?)^\{',
+            found = re.findall(r'#\[unsafe\(no_mangle\)\]\s*pub extern "C" fn (\w+)\(([^)]*)\)(?:\s*->\s*(\w+))?\s*?\n(.*?)^\{',
                                text, re.M | re.S)
             if 2 * len(found) != len(re.findall(r'no_mangle|extern "C"', text)):
                 raise SystemExit('%s: an export in a form that this test does not read' % path)
