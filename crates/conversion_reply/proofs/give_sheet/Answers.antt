@@ -17,5 +17,5 @@ pub returns-in-Allowed : goal.returns-in-Allowed
 returns-in-Allowed c =
     let e = edition_of c.args.edition in
     way_allowed e c.requires.0 c.may_go.ensures (λ d converted. OnceBytes (encode_sheet converted) _) c.in-Allowed.is
-    (sheet_in_law e c.args.sheet.now (λ i. (c.shared_slice_known-1.given i).fits) _ c.requires.0.reads c.args.edition
+    (sheet_in_law e c.args.sheet.now (λ i. (c.type_inv.sheet i).fits) _ c.requires.0.reads c.args.edition
     c.requires.1 c.give_edition.ensures)
