@@ -11,7 +11,6 @@ use Rattle.wire.specs.SheetFormat.{ListKind, inside, apart, place}
 use Rattle.meaning.specs.Sheet.{Sheet}
 use Rattle.meaning.specs.Tree.{Tree, Rooted}
 use Rattle.meaning.specs.Place.{lists_ask, Question}
-use Rattle.meaning.specs.Shown.{shown}
 use Rattle.sizes.specs.Witness.{HasWitness}
 use Rattle.sizes.proofs.RunsLaws.{runs_first, shown_fits_above}
 use Rattle.tables.specs.Numbers.{number_in}

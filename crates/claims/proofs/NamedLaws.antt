@@ -11,7 +11,7 @@ use lib.ListN.{length, take, length-map}
 use Rattle.claim_records.specs.declared.claim.Lists.{Lists}
 use Rattle.claim_records.specs.declared.claim.Claim.{Claim as ClaimRead}
 use Rattle.wire.specs.Bytes.{u16_at}
-use Rattle.wire.specs.SheetFormat.{ListKind, inside, apart, place, u16s, count, NameRecord}
+use Rattle.wire.specs.SheetFormat.{ListKind, inside, apart, place, u16s, NameRecord}
 use Rattle.wire.proofs.Sorts.{length_u16s}
 use Rattle.meaning.specs.Claim.{counted, within, separate}
 use Rattle.meaning.specs.Place.{Question, all_say, some_place, lists_ask}

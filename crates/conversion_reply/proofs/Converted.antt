@@ -33,7 +33,7 @@ use Rattle.claim_reply.proofs.Settled.{claim_settled}
 use Rattle.register_reply.specs.RegisterReply.{AnswerIn, Register}
 use Rattle.register_reply.proofs.Settled.{register_settled}
 use Rattle.conversion_reply.specs.ConversionReply.{SheetConversion, RegisterConversion}
-use Rattle.conversion_reply.specs.Converted.{Succeeds, reply_of, OnlyEdition, RowsKept, Copied, Back, SheetConverted, RegisterConverted}
+use Rattle.conversion_reply.specs.Converted.{Succeeds, reply_of, OnlyEdition, Copied, Back, SheetConverted, RegisterConverted}
 use Rattle.conversion_reply.proofs.GivenLaws.{sheet_length, rows_fit}
 
 -- A call that was not refused: its readings gave a value, and its reply is the bytes.

@@ -1,5 +1,4 @@
 -- `put_bytes` meets its contract. The invariant: the bytes so far are stored.
-use Prim.Native.Nat.{◌-◌}
 use mathlib.Core.Path.{◌≡◌, refl}
 use native.Mathlib.Omega.{arith}
 use native.Mathlib.Numerals.{add-one}

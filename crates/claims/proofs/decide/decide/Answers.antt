@@ -23,8 +23,8 @@ returns-then-judge c =
     let w = c.requires.0.grown in
     let j = c.judge in
     let d = j.ensures.judged.found c.if-judge.true in
-    let t = rw j.ensures.groups_unchanged at c.start_runs.ensures in record { decided = decided_shown (c.verdict_on.ensures _ _) (showing_shows w.tree w.rooted d t); groups_unchanged = j.ensures.groups_unchanged; }
+    let t = rw j.ensures.groups_unchanged at c.start_runs.ensures in record { decided = decided_shown (c.verdict_on.ensures _ _) (showing_shows w.tree w.rooted d t); groups_unchanged = j.ensures.groups_unchanged }
 
 pub returns : goal.returns
 returns c =
-    let j = c.judge in record { decided = decided_alone (c.verdict_on-2.ensures _ _) (j.ensures.judged.lacking c.if-judge.false); groups_unchanged = j.ensures.groups_unchanged; }
+    let j = c.judge in record { decided = decided_alone (c.verdict_on-2.ensures _ _) (j.ensures.judged.lacking c.if-judge.false); groups_unchanged = j.ensures.groups_unchanged }

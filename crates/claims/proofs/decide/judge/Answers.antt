@@ -21,8 +21,8 @@ judge_names-requires c = (c.requires.0, rw c.in-Lists.is at c.requires.1)
 pub returns-in-Count : goal.returns-in-Count
 unfolding claim_meant
 returns-in-Count c =
-    let j = c.judge_count.ensures in record { judged = rw c.in-Count.is (rw c.meant_by.ensures.number at j.judged); groups_unchanged = j.groups_unchanged; }
+    let j = c.judge_count.ensures in record { judged = rw c.in-Count.is (rw c.meant_by.ensures.number at j.judged); groups_unchanged = j.groups_unchanged }
 
 pub returns-in-Lists : goal.returns-in-Lists
 unfolding claim_meant
-returns-in-Lists c = record { judged = rw c.in-Lists.is c.judge_names.ensures; groups_unchanged = refl; }
+returns-in-Lists c = record { judged = rw c.in-Lists.is c.judge_names.ensures; groups_unchanged = refl }

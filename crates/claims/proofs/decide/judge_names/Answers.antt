@@ -36,10 +36,13 @@ pub ask_lists-requires : goal.ask_lists-requires
 ask_lists-requires c =
     let w = c.requires.1 in
     let l = c.groups_meant-m.ensures in
-    let r = c.groups_meant-n.ensures in record { asking = c.requires.0; listed = (
+    let r = c.groups_meant-n.ensures in record {
+      asking = c.requires.0;
+      listed = (
         meanings_listed w _ (left_named w) _ _ (omega (arith, l.upper_bound, w.held.few_left)) l.list_after,
         meanings_listed w _ (right_named w) _ _ (omega (arith, r.upper_bound, w.held.few_right, c.groups_meant-n.auto.list)) r.list_after,
-      ); }
+      );
+    }
 
 pub returns : goal.returns
 returns c =

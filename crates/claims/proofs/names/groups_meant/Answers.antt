@@ -1,5 +1,4 @@
 -- `groups_meant` meets its contract: the list has the groups of the first i names, and the others' are left.
-use Prim.Native.Nat.{◌-◌}
 use mathlib.Core.Path.{refl, ap, ◌∙◌}
 use native.Mathlib.Omega.{arith}
 use lib.ListN.{take}
@@ -44,4 +43,4 @@ shape_of-list c = c.loop-i.invariant.2
 pub returns : goal.returns
 returns c =
     let v = c.loop-i.invariant in
-    let e = meant_last c.args.sheet.now c.args.from c.args.n c.loop-i.i c.args.names.now _ _ (omega arith) v.3 in record { upper_bound = omega arith; list_after = e; value = listed_length c.loop-i.list _ c.loop-i.k (omega (arith, v.0, v.1, v.2, c.requires.1)) e; }
+    let e = meant_last c.args.sheet.now c.args.from c.args.n c.loop-i.i c.args.names.now _ _ (omega arith) v.3 in record { upper_bound = omega arith; list_after = e; value = listed_length c.loop-i.list _ c.loop-i.k (omega (arith, v.0, v.1, v.2, c.requires.1)) e }
