@@ -1,5 +1,5 @@
 -- Finite sets of members, one for each group: document 01, "Meaning", "Sets are finite sets of members." The type X of a
--- member is open; the contracts take numbers, where `renumbered-fits` says that nothing is lost by that, and of a register
+-- member is open; the contracts take numbers, where `renumbered_fits` says that nothing is lost by that, and of a register
 -- the members that its rows name.
 use Rattle.std.specs.Prelude.{ℕ, ◌<◌, ◌≡◌, Bool}
 use Rattle.laws.specs.Sum.{sum, bit}

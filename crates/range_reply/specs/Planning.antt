@@ -47,7 +47,7 @@ unfoldable pub replaced_from : List ℕ → ℕ → List GroupRecord → List Gr
 replaced_from out g [] = []
 replaced_from out g (r ∷ rs) = replaced_group out g r ∷ replaced_from out (suc g) rs
 
--- all records of the sheet; its bytes are their encoding, as those of every readable sheet are (`readable-is-encoded`)
+-- all records of the sheet; its bytes are their encoding, as those of every readable sheet are (`readable_is_encoded`)
 abbrev pub replaced : List ℕ → Records → Records
 replaced out d =
     record { edition = d.edition; groups = replaced_from out 1 d.groups; names = d.names; claims = d.claims }

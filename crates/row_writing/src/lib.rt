@@ -1,5 +1,5 @@
 // The writing of a register's rows: one row of an edition at an offset of the lent bytes, from its member, its side and the words of
-// its membership. `specs/WordsRow` says which row these are; its bytes are those that `wire` gives it (`encodeRow`).
+// its membership. `specs/WordsRow` says which row these are; its bytes are those that `wire` gives it (`encode_row`).
 // Document 01, "Registers"; document 02, cards 4 to 6.
 #![tactic(auto)]
 

@@ -46,7 +46,7 @@ row_held e b at last = held (member_of (drop at b)) (one_member (member_of (drop
 abbrev pub front_tests : Edition → Member → List ℕ → List Test
 front_tests e last b = take 3 (row_tests e 0 last b)
 
--- what stands at an offset of a register's bytes, behind the member `last` (`noMember` where no row is before)
+-- what stands at an offset of a register's bytes, behind the member `last` (`no_member` where no row is before)
 unfoldable pub front_at : Edition → List ℕ → ℕ → Member → Front
 front_at e b at last =
     cond (eqb (length (drop at b)) 0) ended

@@ -12,7 +12,7 @@ pub record Told (s : Sheet) (size first : ℕ → ℕ) : Type 0 where
   pub root : first 1 ≡ 1
   pub son : (p g : ℕ) → Son s p g → first g ≡ first_of s first size p g
 
--- No run ends above this: each group moves the end on by at most `sizeLimit`.
+-- No run ends above this: each group moves the end on by at most `size_limit`.
 abbrev pub run_limit : ℕ
 run_limit = 1 + size_limit * group_capacity
 

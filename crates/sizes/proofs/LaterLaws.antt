@@ -66,7 +66,7 @@ near_later s z p (suc k) w =
     (λ e. (h.0, λ c. rw (later_skip s z p k c e) (h.1 c)))
 
 -- A total in the fold, taken apart at the son `size - k`: states for the sons after it and for that son, whose joined
--- span has the total; then `rest_of` and `sonOf` are numbers for the two, and they make the total.
+-- span has the total; then `rest_of` and `son_of` are numbers for the two, and they make the total.
 pub record Divided (s : Sheet) (z : ℕ → Bool → Span) (p k x : ℕ) (c b d : Bool) : Type 0 where
   pub states : Makes (join_kind s p) (bit b) (bit d) (bit c)
   pub rest : In (rest_of (join_kind s p) (later s z p k b) (z (s.size - k) d) x) (later s z p k b)

@@ -11,7 +11,7 @@ use Rattle.tables.specs.Groups.{groups_in, group_fields}
 unfoldable pub sheet_in : List ℕ → ℕ → Sheet
 sheet_in t n = sheet_of (groups_in t n)
 
--- No end of an interval that the groups of a table give is above this: `noEnd` for each group.
+-- No end of an interval that the groups of a table give is above this: `no_end` for each group.
 abbrev pub size_limit : ℕ
 size_limit = no_end * group_capacity
 

@@ -1,4 +1,4 @@
--- The longest readable sheet of an edition (document 01, "Records of a sheet"; document 02, card 5) has `sheetLimit` bytes: 6,924 in
+-- The longest readable sheet of an edition (document 01, "Records of a sheet"; document 02, card 5) has `sheet_limit` bytes: 6,924 in
 -- edition 1, 10,508 in edition 2. It has all groups, all names with labels of the greatest length, and all claims with two full lists.
 use Prim.Native.Nat.{ℕ, ◌≤◌, zero, suc, ◌<◌, ◌+◌, ◌-◌, ◌/◌, ◌%◌}
 use mathlib.Core.Path.{◌≡◌, sym, subst, refl}

@@ -1,4 +1,4 @@
--- Records of one sort that follow one another: what `readMany` read, and that it reads what was encoded. One lemma each, over
+-- Records of one sort that follow one another: what `read_many` read, and that it reads what was encoded. One lemma each, over
 -- the sort: its tests, the value of a record, the encoding of a value.
 use Prim.Native.Nat.{ℕ, ◌+◌, ◌≤◌, ◌<◌, zero, suc, ◌*◌}
 use mathlib.Core.Path.{◌≡◌, refl, sym, subst, ap, ◌∙◌}

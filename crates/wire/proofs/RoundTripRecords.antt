@@ -87,7 +87,7 @@ group_back gs b k p =
     let f = group_frame gs b p in
     fields_read b k f.frame 4 f.size 2 f.kind
 
--- what `many-encoded` asks of a sort of record
+-- what `many_encoded` asks of a sort of record
 abbrev pub Good : {A : Type 0} → (List ℕ → List Test) → (List ℕ → A) → A → List ℕ → List ℕ → Type 0
 Good tests value y b c = Pass (tests b) × (value b ≡ y) × (after b ≡ c)
 

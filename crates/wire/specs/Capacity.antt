@@ -3,7 +3,7 @@ use Rattle.std.specs.Prelude.{ℕ, ◌+◌, ◌*◌}
 use Rattle.wire.specs.Limits.{name_limit, claim_limit, list_limit}
 use Rattle.wire.specs.Edition.{Edition, group_limit, label_limit}
 
--- the groups that tables hold; no edition has more (`groups-within`)
+-- the groups that tables hold; no edition has more (`groups_within`)
 abbrev pub group_capacity : ℕ
 group_capacity = 256
 

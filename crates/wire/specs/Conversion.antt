@@ -17,7 +17,7 @@ names_towards e r (n ∷ ns) next =
     onward (refusal (test 17 (leb (length n.label) (label_limit e)) ∷ [])) r (names_towards e (r + 1) ns next)
 
 -- "16: more than 128 groups": more than edition e has. A sheet of edition e meets neither, and no limit of edition 2 is below that of
--- edition 1, so "both are met only towards edition 1" (`towards-own`, `towards-second`).
+-- edition 1, so "both are met only towards edition 1" (`towards_own`, `towards_second`).
 unfoldable pub towards : Edition → Records → Reading Records
 towards e d =
     onward (refusal (test 16 (leb (length d.groups) (group_limit e)) ∷ [])) 0

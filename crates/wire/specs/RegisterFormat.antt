@@ -33,13 +33,13 @@ unfoldable pub clear_above : Row → ℕ → ℕ → Bool
 clear_above r groups zero = true
 clear_above r groups (suc n) = cond (in_group r (groups + suc n)) false (clear_above r groups n)
 
--- the last row's member, `noMember` where there is no row
+-- the last row's member, `no_member` where there is no row
 unfoldable pub last_member : List Row → Member
 last_member [] = no_member
 last_member (r ∷ []) = r.member
 last_member (r ∷ (q ∷ rs)) = last_member (q ∷ rs)
 
--- The tests of a row behind the member `last` (`noMember` where no row is before), under a sheet of edition e with `groups`
+-- The tests of a row behind the member `last` (`no_member` where no row is before), under a sheet of edition e with `groups`
 -- groups: 11, it is cut, or its kind or length is wrong; 15, its side is neither 1 nor 2; 12, its number is 0, or its pair is below
 -- `last`; 13, a bit above the groups is set.
 unfoldable pub row_tests : Edition → ℕ → Member → List ℕ → List Test
