@@ -12,7 +12,7 @@ unfoldable pub edition_number : Edition → ℕ
 edition_number edition1 = 1
 edition_number edition2 = 2
 
--- the edition with the number n, where one has it: that is so exactly where n is `editionNumber (edition_of n)`
+-- the edition with the number n, where one has it: that is so exactly where n is `edition_number (edition_of n)`
 unfoldable pub edition_of : ℕ → Edition
 edition_of n = cond (eqb n (edition_number edition2)) edition2 edition1
 

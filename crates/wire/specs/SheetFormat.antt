@@ -29,7 +29,7 @@ pub data ListKind : Type 0 where
   apart : ListKind
   place : ListKind
 
--- the number of such a kind, and the kind with the number n: that is so exactly where n is `listNumber (list_kind_of n)`
+-- the number of such a kind, and the kind with the number n: that is so exactly where n is `list_number (list_kind_of n)`
 unfoldable pub list_number : ListKind → ℕ
 list_number inside = 5
 list_number apart = 6
