@@ -33,7 +33,8 @@ fn exchange(from: &[u64], at: usize, to: &mut [u64], s: u32, mask: u64)
     }
 }
 
-// the transpose of the matrix whose rows are the 64 words of `from` from an index on
+// the transpose of the matrix whose rows are the 64 words of `from` from an index on, by itself: so its loops become vectors
+#[inline(never)]
 pub fn transpose(from: &[u64], at: usize, to: &mut [u64], spare: &mut [u64])
     requires { (at + side ≤ length from.now) × ((side ≤ length to.old) × (side ≤ length spare.old)) }
     ensures { Transposed from.now at to.new }

@@ -18,10 +18,11 @@ use Rattle.sizes.proofs.LaterLaws.{later_none, later_son, later_skip}
 use Rattle.sizes.proofs.Exact.{sound}
 use Rattle.sizes.proofs.BoundsLaws.{weight_least}
 use Rattle.tables.specs.SheetIn.{size_limit}
+use Rattle.spans.specs.declared.pair.Pair.{Pair}
 use Rattle.spans.specs.Held.{AlikeBoth, top_of, span_of}
 use Rattle.spans.proofs.HeldLaws.{none_of, some_of}
 use Rattle.measuring.specs.Pairs.{pair_in}
-use Rattle.measuring.specs.Done.{Lent, AllDone}
+use Rattle.measuring.specs.Done.{AllDone}
 use Rattle.measuring.proofs.DoneLaws.{joined_alike}
 use Rattle.choosing.specs.Divided.{Folded, Dividend}
 use Rattle.choosing.specs.Chosen.{Chose}
@@ -38,7 +39,7 @@ later_eq s z y p h (suc k) c =
     ∙ sym (later_son s y p k c e))
     (λ e. later_skip s z p k c e ∙ later_eq s z y p h k c ∙ sym (later_skip s y p k c e))
 
-module _ {s : Sheet} {may : ℕ → Bool → Bool} {z : ℕ → Bool → Span} {spans after : List ℕ} (m : Measured s may z)
+module _ {s : Sheet} {may : ℕ → Bool → Bool} {z : ℕ → Bool → Span} {spans after : List Pair} (m : Measured s may z)
     (w : AllDone s z spans after) where
   -- the spans in the table are measured
   pub measured_table : Measured s may (pair_in spans)
@@ -49,14 +50,13 @@ module _ {s : Sheet} {may : ℕ → Bool → Bool} {z : ℕ → Bool → Span} {
         (sym (later_eq s (pair_in spans) z p (λ g k. w.spanned g k.group) s.size c));
   }
 
-  pub folded_table : Lent s.size spans after → Folded s spans after
-  folded_table l = record {
+  pub folded_table : Folded s spans after
+  folded_table = record {
     may = may;
     measured = measured_table;
     followed = λ p g j c.
         w.followed p g j c ∙ ap (λ i. later s z i (s.size - g) c) j.under
         ∙ sym (later_eq s (pair_in spans) z p (λ h o. w.spanned h o.group) (s.size - g) c);
-    lent = l;
   }
 
   -- no number for the root, no choice

@@ -5,7 +5,8 @@ use mathlib.Core.Bool.{Bool, true, false}
 use mathlib.Core.List.{List}
 use native.Mathlib.Omega.{arith}
 use native.Mathlib.Nat.{le_refl}
-use lib.ListN.{length, set, length-set}
+use lib.ListN.{length, set, length-set, get_or}
+use lib.Seq.{get_or-set_same, get_or-set_other}
 use lib.Dec.{eqb}
 use Rattle.laws.specs.Sum.{bit}
 use Rattle.laws.proofs.Cases.{compare_eq}
@@ -15,15 +16,17 @@ use Rattle.meaning.specs.Tree.{Tree}
 use Rattle.meaning.proofs.SonLaws.{son_parent}
 use Rattle.sizes.specs.Span.{Span, In, Kind}
 use Rattle.sizes.specs.Fold.{join_kind, later, Measured}
-use Rattle.tables.specs.Groups.{group_in}
-use Rattle.tables.specs.SheetIn.{sheet_in, Tabled}
+use Rattle.tables.specs.declared.groups.Group.{Group as TableGroup}
+use Rattle.tables.specs.declared.table.Groups.{Groups}
+use Rattle.tables.specs.Entry.{no_group}
+use Rattle.tables.specs.SheetIn.{sheet_in}
 use Rattle.tables.specs.Numbers.{number_in}
 use Rattle.tables.proofs.NumbersLaws.{number_same, number_other}
 use Rattle.spans.specs.Held.{AlikeBoth, mode_kind}
-use Rattle.measuring.specs.Pairs.{pair_in}
 use Rattle.measuring.proofs.TablesLaws.{kind_in_law}
 use Rattle.choosing.specs.Parted.{Parted, Divisible, Shared}
-use Rattle.choosing.specs.Divided.{marked_in, RoomFor, DividedTo, Dividend, Folded}
+use Rattle.choosing.specs.declared.parts.Part.{Part}
+use Rattle.choosing.specs.Divided.{marked_in, no_part, left_in, state_in, RoomFor, DividedTo, Dividend}
 use Rattle.choosing.proofs.PartedLaws.{parted_root, parted_more, parted_divisible, parted_choice}
 
 pub bit_mark : (c : Bool) → eqb (bit c) 1 ≡ c
@@ -44,69 +47,77 @@ bits_more t g c a l w h b k =
     (λ e. rw (e, number_same t g (bit c) a l) (bit_most c))
     (λ n. rw (number_other t g h (bit c) a b n) (w h b (omega arith)))
 
+-- what is left to the later sons, stored at group g
+part_same : (t : List Part) (g : ℕ) (p : Part) → 1 ≤ g → g ≤ length t → get_or (set t (g - 1) p) (g - 1) no_part ≡ p
+part_same t g p a l = get_or-set_same t (g - 1) p no_part (omega arith)
+
+part_other : (t : List Part) (g h : ℕ) (p : Part) → 1 ≤ g → 1 ≤ h → (h ≡ g → ⊥)
+    → get_or (set t (g - 1) p) (h - 1) no_part ≡ get_or t (h - 1) no_part
+part_other t g h p a b n = get_or-set_other t (g - 1) (h - 1) p no_part (λ e. n (omega arith))
+
 module _ {s : Sheet} {may : ℕ → Bool → Bool} {z : ℕ → Bool → Span} (t : Tree s) (m : Measured s may z) where
-  pub divided_root : (sizes marks rest states : List ℕ) (r : ℕ) (c : Bool) → Group s 1 → RoomFor 1 sizes marks rest states
+  pub divided_root : (sizes marks : List ℕ) (left : List Part) (r : ℕ) (c : Bool) → Group s 1 → RoomFor 1 sizes marks left
       → In r (z 1 c)
-      → DividedTo s z (set sizes 0 r) (set marks 0 (bit c)) (set rest 0 r) (set states 0 (bit c)) 1
-  divided_root sizes marks rest states r c q l h =
+      → DividedTo s z (set sizes 0 r) (set marks 0 (bit c)) (set left 0 (record { number = r; inn = c })) 1
+  divided_root sizes marks left r c q l h =
       let one : 1 ≤ 1 = le_refl 1 in
       let a = number_same sizes 1 r one l.sizes_long in
       let b = mark_same marks 1 c one l.marks_long in
+      let d = part_same left 1 (record { number = r; inn = c }) one l.left_long in
       record {
-        parted = parted_root t m q (rw (a, b) h) (number_same rest 1 r one l.rest_long ∙ sym a)
-            (mark_same states 1 c one l.states_long ∙ sym b);
+        parted = parted_root t m q (rw (a, b) h) (ap (λ p. p.number) d ∙ sym a) (ap (λ p. p.inn) d ∙ sym b);
         bits = bits_more marks 1 c one l.marks_long (λ h i j. absurd (omega arith));
       }
 
-  pub divided_divisible : {sizes marks rest states : List ℕ} (p g : ℕ) → Son s p g → DividedTo s z sizes marks rest states (g - 1)
-      → Divisible (join_kind s p) (later s z p (s.size - g)) (z g) (number_in rest p) (marked_in states p)
+  pub divided_divisible : {sizes marks : List ℕ} {left : List Part} (p g : ℕ) → Son s p g → DividedTo s z sizes marks left (g - 1)
+      → Divisible (join_kind s p) (later s z p (s.size - g)) (z g) (left_in left p) (state_in left p)
   divided_divisible p zero k w = absurd (omega (arith, k.group.first))
   divided_divisible p (suc i) k w =
       let e : suc i - 1 ≡ i = omega arith in
       parted_divisible t m p i k (rw e at w.parted)
 
-  pub divided_more : (sizes marks rest states : List ℕ) (p g x y : ℕ) (b d : Bool) → Son s p g
-      → RoomFor s.size sizes marks rest states → DividedTo s z sizes marks rest states (g - 1)
-      → Shared (join_kind s p) (later s z p (s.size - g)) (z g) (number_in rest p) (marked_in states p) x b y d
-      → DividedTo s z (set sizes (g - 1) y) (set marks (g - 1) (bit d)) (set (set rest (g - 1) y) (p - 1) x)
-      (set (set states (g - 1) (bit d)) (p - 1) (bit b)) g
-  divided_more sizes marks rest states p zero x y b d k l w v = absurd (omega (arith, k.group.first))
-  divided_more sizes marks rest states p (suc i) x y b d k l w v =
-      let g : ℕ = suc i in
+  pub divided_more : (sizes marks : List ℕ) (left : List Part) (p g : ℕ) (o n : Part) → Son s p g
+      → RoomFor s.size sizes marks left → DividedTo s z sizes marks left (g - 1)
+      → Shared (join_kind s p) (later s z p (s.size - g)) (z g) (left_in left p) (state_in left p) o.number o.inn n.number n.inn
+      → DividedTo s z (set sizes (g - 1) n.number) (set marks (g - 1) (bit n.inn)) (set (set left (g - 1) n) (p - 1) o) g
+  divided_more sizes marks left p zero o n k l w v = absurd (omega (arith, k.group.first))
+  divided_more sizes marks left p (suc i) o n k l w v =
       let first : 1 ≤ suc i = omega arith in
       let e : suc i - 1 ≡ i = omega arith in
       let q = son_parent t k in
       let apart : suc i ≡ p → ⊥ = λ o. omega (arith, t.before (suc i) k.group, k.under) in
       let last = k.group.last in
+      let y : ℕ = n.number in
+      let d : Bool = n.inn in
       let size : number_in (set sizes (suc i - 1) y) (suc i) ≡ y = number_same sizes (suc i) y first (omega
       (arith, l.sizes_long)) in
       let mark : marked_in (set marks (suc i - 1) (bit d)) (suc i) ≡ d = mark_same marks (suc i) d first (omega
       (arith, l.marks_long)) in
-      let up : number_in (set (set rest (suc i - 1) y) (p - 1) x) p ≡ x =
-      number_same (set rest (suc i - 1) y) p x q.first (simp length-set (omega (arith, l.rest_long))) in
-      let state : marked_in (set (set states (suc i - 1) (bit d)) (p - 1) (bit b)) p ≡ b =
-      mark_same (set states (suc i - 1) (bit d)) p b q.first (simp length-set (omega (arith, l.states_long))) in
+      let up : get_or (set (set left (suc i - 1) n) (p - 1) o) (p - 1) no_part ≡ o =
+      part_same (set left (suc i - 1) n) p o q.first (simp length-set (omega (arith, l.left_long))) in
+      let number : left_in (set (set left (suc i - 1) n) (p - 1) o) p ≡ o.number = ap (λ x. x.number) up in
+      let state : state_in (set (set left (suc i - 1) n) (p - 1) o) p ≡ o.inn = ap (λ x. x.inn) up in
+      let own : get_or (set (set left (suc i - 1) n) (p - 1) o) (suc i - 1) no_part ≡ n =
+      part_other (set left (suc i - 1) n) p (suc i) o q.first first apart ∙ part_same left (suc i) n first (omega (arith, l.left_long)) in
+      let other : (h : ℕ) → 1 ≤ h → (h ≡ suc i → ⊥) → (h ≡ p → ⊥)
+      → get_or (set (set left (suc i - 1) n) (p - 1) o) (h - 1) no_part ≡ get_or left (h - 1) no_part =
+      λ h a b c. part_other (set left (suc i - 1) n) p h o q.first a c ∙ part_other left (suc i) h n first a b in
       record {
-        parted = parted_more t m p i k (subst (Parted s z (number_in sizes) (marked_in marks) (number_in rest)
-            (marked_in states)) e w.parted)
+        parted = parted_more t m p i k (subst (Parted s z (number_in sizes) (marked_in marks) (left_in left) (state_in left)) e w.parted)
             (record {
-              share = rw (size, mark, up, state) v;
-              own_rest = number_other (set rest (suc i - 1) y) p (suc i) x q.first first apart
-                  ∙ number_same rest (suc i) y first (omega (arith, l.rest_long)) ∙ sym size;
-              own_state = mark_other (set states (suc i - 1) (bit d)) p (suc i) (bit b) q.first first apart
-                  ∙ mark_same states (suc i) d first (omega (arith, l.states_long)) ∙ sym mark;
+              share = rw (size, mark, number, state) v;
+              own_rest = ap (λ x. x.number) own ∙ sym size;
+              own_state = ap (λ x. x.inn) own ∙ sym mark;
               numbers = λ h a n. number_other sizes (suc i) h y first a n;
               marks = λ h a n. mark_other marks (suc i) h (bit d) first a n;
-              rests = λ h a n o. number_other (set rest (suc i - 1) y) p h x q.first a o
-                  ∙ number_other rest (suc i) h y first a n;
-              states = λ h a n o. mark_other (set states (suc i - 1) (bit d)) p h (bit b) q.first a o
-                  ∙ mark_other states (suc i) h (bit d) first a n;
+              rests = λ h a b c. ap (λ x. x.number) (other h a b c);
+              states = λ h a b c. ap (λ x. x.inn) (other h a b c);
             });
         bits = bits_more marks (suc i) d first (omega (arith, l.marks_long)) w.bits;
       }
 
-pub divided_all : {s : Sheet} {z : ℕ → Bool → Span} {sizes marks rest states : List ℕ} {r : ℕ} {c : Bool} → Tree s
-    → DividedTo s z sizes marks rest states s.size → number_in sizes 1 ≡ r → marked_in marks 1 ≡ c → Dividend s z r c sizes marks
+pub divided_all : {s : Sheet} {z : ℕ → Bool → Span} {sizes marks : List ℕ} {left : List Part} {r : ℕ} {c : Bool} → Tree s
+    → DividedTo s z sizes marks left s.size → number_in sizes 1 ≡ r → marked_in marks 1 ≡ c → Dividend s z r c sizes marks
 divided_all t w e o = record {
   choice = λ may m. parted_choice t m w.parted;
   root = e;
@@ -129,11 +140,8 @@ shared_alike {i = i} {j = j} e f w = record {
   son = rw (f j) at w.son;
 }
 
--- what the code reads of a son's parent and of the later sons, in the mathematics' terms
-pub kind_table : (t : List ℕ) (n p g k : ℕ) (q : Kind) → Tabled t n → Son (sheet_in t n) p g → k ≡ (group_in t (p - 1)).mode
-    → q ≡ mode_kind k → q ≡ join_kind (sheet_in t n) p
-kind_table t n p g k q w i d e = e ∙ ap mode_kind d ∙ sym (kind_in_law t n p (son_parent w.tree i))
-
-pub rest_table : {s : Sheet} {spans after : List ℕ} {x : Bool → Span} (p g : ℕ) → Folded s spans after → Son s p g
-    → AlikeBoth x (pair_in after g) → AlikeBoth x (later s (pair_in spans) p (s.size - g))
-rest_table p g w k e c = e c ∙ w.followed p g k c
+-- what the code reads of a son's parent, in the mathematics' terms
+pub kind_table : (g : Groups) (p h : ℕ) (x : TableGroup) (q : Kind) → Son (sheet_in g.table g.size) p h → x ≡ get_or g.table (p - 1) no_group
+    → q ≡ mode_kind x.mode.0 → q ≡ join_kind (sheet_in g.table g.size) p
+kind_table g p h x q i d e =
+    e ∙ ap (λ y. mode_kind y.mode.0) d ∙ sym (kind_in_law g.table g.size p (son_parent g.tabled.tree i))

@@ -1,55 +1,18 @@
 -- Laws of the states and numbers that are picked for one son and the later ones.
 use Prim.Native.Nat.{ℕ, ◌≤◌, ◌-◌, max, ◌+◌, min}
-use mathlib.Core.Path.{◌≡◌, refl, sym, ap, ◌∙◌}
-use mathlib.Core.Bool.{Bool, true, false, false≢true}
+use mathlib.Core.Path.{◌≡◌, sym, ◌∙◌}
+use mathlib.Core.Bool.{Bool, true, false, true≢false}
+use lib.Dec.{leb}
+use borrow.Author.Tests.{leb-true, le-leb}
 use mathlib.Core.Logic.{◌↔◌}
 use native.Mathlib.Omega.{arith}
-use Rattle.laws.specs.Sum.{bit}
 use Rattle.laws.proofs.Cases.{compare_eq, compare_le}
-use Rattle.laws.proofs.SumLaws.{bit_eq}
 use Rattle.wire.specs.Limits.{no_greatest}
 use Rattle.meaning.specs.Sheet.{AtMost, Top, fin, inf}
-use Rattle.sizes.specs.Span.{Span, In, Kind, lap, add, eq, Makes, join, plus, son_of}
+use Rattle.sizes.specs.Span.{In, Kind, lap, add, eq, Makes, join, plus, son_of}
 use Rattle.sizes.proofs.SpanLaws.{Proper, in_meet, meet_join, rest_of, join_in}
-use Rattle.sizes.proofs.JoinedLaws.{makes_first, makes_second, makes_zero}
 use Rattle.spans.specs.Held.{top_of, span_of}
 use Rattle.spans.proofs.HeldLaws.{top_end, top_fin, none_of, some_of, join_none_left, join_none_right, cap_top, less_top}
-use Rattle.choosing.specs.Parted.{Divisible, Shared}
-use Rattle.choosing.specs.Parts.{rest_state, son_state, rest_by}
-
--- they can be joined to c and hold the number, where any can
-pub states_right : (q : Kind) (a z : Bool → Span) (r : ℕ) (c h k : Bool) → Divisible q a z r c
-    → (h ≡ true) ↔ In r (join q (a true) (z false)) → (k ≡ true) ↔ In r (join q (a false) (z true))
-    → Makes q (bit (rest_state q c h k)) (bit (son_state q c h k)) (bit c)
-    × In r (join q (a (rest_state q c h k)) (z (son_state q c h k)))
-unfolding rest_state son_state
-states_right q a z r false h k w i j =
-    let out : w.0 ≡ false = bit_eq w.0 false (omega (arith, makes_first q (bit w.0) (bit w.1) 0 w.2)) in
-    let off : w.1 ≡ false = bit_eq w.1 false (omega (arith, makes_second q (bit w.0) (bit w.1) 0 w.2)) in
-    (makes_zero q, rw (out, off) at w.3)
-states_right eq a z r true h k w i j =
-    let into : w.0 ≡ true = bit_eq w.0 true w.2.0 in
-    let onto : w.1 ≡ true = bit_eq w.1 true w.2.1 in
-    ((refl, refl), rw (into, onto) at w.3)
-states_right lap a z r true true k w i j = (omega arith, i.0 refl)
-states_right lap a z r true false true w i j = (omega arith, j.0 refl)
-states_right lap a z r true false false w i j = last w.0 w.1 w.2 w.3
-  where
-    last : (b d : Bool) → Makes lap (bit b) (bit d) 1 → In r (join lap (a b) (z d)) → Makes lap 1 1 1
-        × In r (join lap (a true) (z true))
-    last true true m h = (m, h)
-    last true false m h = absurd (false≢true (i.1 h))
-    last false true m h = absurd (false≢true (j.1 h))
-    last false false m h = absurd (omega arith)
-states_right add a z r true true k w i j = (refl, i.0 refl)
-states_right add a z r true false true w i j = (refl, j.0 refl)
-states_right add a z r true false false w i j = absurd (last w.0 w.1 w.2 w.3)
-  where
-    last : (b d : Bool) → Makes add (bit b) (bit d) 1 → In r (join add (a b) (z d)) → ⊥
-    last true true m h = omega arith
-    last true false m h = false≢true (i.1 h)
-    last false true m h = false≢true (j.1 h)
-    last false false m h = omega arith
 
 -- upper ends as numbers, for a number that is not above the one for no end
 pub at_top : (r u : ℕ) → r ≤ no_greatest → (r ≤ u) ↔ AtMost r (top_of u)
@@ -112,36 +75,42 @@ in_none q l u m v r h = (
   compare_le m v (λ k. k) (λ k. absurd (rw (join_none_right q (span_of l u) (span_of m v) (none_of k)) at h)),
 )
 
--- the part of the one son, and that of the later sons from it
-pub son_lap : {l u m v r : ℕ} → l ≤ u → m ≤ v → r ≤ no_greatest → son_of lap (span_of l u) (span_of m v) r ≡ min v r
-unfolding son_of
-son_lap {v = v} {r = r} h k b = rw (some_of h, some_of k) (cap_top v r b)
-
-pub son_add : {l u m v r : ℕ} → l ≤ u → m ≤ v → r ≤ no_greatest → son_of add (span_of l u) (span_of m v) r ≡ max m (r - u)
-unfolding son_of
-son_add {u = u} {r = r} h k b = rw (some_of h, some_of k, less_top r u b)
-
-pub son_eq : {l u m v r : ℕ} → l ≤ u → m ≤ v → son_of eq (span_of l u) (span_of m v) r ≡ r
-unfolding son_of
-son_eq h k = rw (some_of h, some_of k)
-
-rest_by_law : (q : Kind) (l u m v r : ℕ) → l ≤ u → m ≤ v → r ≤ no_greatest
-    → rest_of q (span_of l u) (span_of m v) r ≡ rest_by q u r (son_of q (span_of l u) (span_of m v) r)
-unfolding rest_of rest_by son_of
-rest_by_law lap l u m v r h k b = rw (some_of h, some_of k) (cap_top u r b)
-rest_by_law add l u m v r h k b = rw (some_of h, some_of k)
-rest_by_law eq l u m v r h k b = rw (some_of h, some_of k)
-
-pub shared_right : (q : Kind) (a z : Bool → Span) (l u m v r x y : ℕ) (c b d : Bool) → l ≤ no_greatest → m ≤ no_greatest → r ≤ no_greatest
-    → a b ≡ span_of l u → z d ≡ span_of m v → Makes q (bit b) (bit d) (bit c) → In r (join q (span_of l u) (span_of m v))
-    → y ≡ son_of q (span_of l u) (span_of m v) r → x ≡ rest_by q u r y → Shared q a z r c x b y d
-shared_right q a z l u m v r x y c b d i j k e f s h n o =
-    let w = in_none q l u m v r h in
+-- the numbers of the later sons and of the one son
+pub numbers_right : (q : Kind) (l u m v r x y : ℕ) → l ≤ no_greatest → m ≤ no_greatest → In r (join q (span_of l u) (span_of m v))
+    → x ≡ rest_of q (span_of l u) (span_of m v) r → y ≡ son_of q (span_of l u) (span_of m v) r
+    → Makes q x y r × In x (span_of l u) × In y (span_of m v)
+numbers_right q l u m v r x y i j h d e =
     let p = join_in q (span_of l u) (span_of m v) r (proper_of l u i) (proper_of m v j) h in
-    let g : x ≡ rest_of q (span_of l u) (span_of m v) r = o ∙ ap (rest_by q u r) n ∙ sym (rest_by_law q l u m v r w.0 w.1 k) in
-    record {
-      states = s;
-      numbers = rw (n, g) p.2;
-      rest = rw (e, g) p.0;
-      son = rw (f, n) p.1;
-    }
+    rw (d, e) (p.2, p.0, p.1)
+
+module _ {l u m v r : ℕ} (h : l ≤ u) (k : m ≤ v) (b : r ≤ no_greatest) where
+  pub son_lap : son_of lap (span_of l u) (span_of m v) r ≡ min v r
+  unfolding son_of
+  son_lap = rw (some_of h, some_of k) (cap_top v r b)
+
+  pub rest_lap : rest_of lap (span_of l u) (span_of m v) r ≡ min u r
+  unfolding rest_of
+  rest_lap = rw (some_of h, some_of k) (cap_top u r b)
+
+  pub son_add : son_of add (span_of l u) (span_of m v) r ≡ max m (r - u)
+  unfolding son_of
+  son_add = rw (some_of h, some_of k, less_top r u b)
+
+  pub rest_add : rest_of add (span_of l u) (span_of m v) r ≡ r - max m (r - u)
+  unfolding rest_of son_of
+  rest_add = rw (some_of h, some_of k, less_top r u b)
+
+  pub son_eq : son_of eq (span_of l u) (span_of m v) r ≡ r
+  unfolding son_of
+  son_eq = rw (some_of h, some_of k)
+
+  pub rest_eq : rest_of eq (span_of l u) (span_of m v) r ≡ r
+  unfolding rest_of
+  rest_eq = rw (some_of h, some_of k)
+
+-- a test that stands for the last part of a fact, where the others hold, and where one does not
+pub told_then : {P : Type 0} {a b c d : ℕ} → a ≤ b → ((a ≤ b) × (c ≤ d)) ↔ P → (leb c d ≡ true) ↔ P
+told_then {c = c} {d = d} h i = (λ e. i.0 (h, leb-true c d e), λ p. le-leb c d (i.1 p).1)
+
+pub told_else : {P : Type 0} {b : Bool} → b ≡ false → (P → ⊥) → (b ≡ true) ↔ P
+told_else e n = (λ h. absurd (true≢false (sym h ∙ e)), λ p. absurd (n p))

@@ -2,13 +2,12 @@
 use Rattle.std.specs.Prelude.{ℕ, ◌≤◌, ◌≡◌, Bool, true, false, List, length}
 use Rattle.meaning.specs.Sheet.{Sheet, Group}
 use Rattle.sizes.specs.Balanced.{Choice}
-use Rattle.tables.specs.SheetIn.{Tabled, size_limit}
+use Rattle.tables.specs.SheetIn.{size_limit}
 use Rattle.tables.specs.Numbers.{number_in}
 use Rattle.choosing.specs.Divided.{marked_in}
 
--- the tables of a question: the groups of a sheet, and room for the answer
-pub record Asking (groups : List ℕ) (n : ℕ) (sizes marks : List ℕ) : Type 0 where
-  pub grown : Tabled groups n
+-- the tables of a question about n groups: room for the answer
+pub record Asking (n : ℕ) (sizes marks : List ℕ) : Type 0 where
   pub sizes_long : n ≤ length sizes
   pub marks_long : n ≤ length marks
 

@@ -1,4 +1,3 @@
 pub mod Parted
-pub mod Parts
 pub mod Divided
 pub mod Chosen

@@ -1,186 +1,99 @@
 // How a number and a state of a group's sons are divided between one son and the later ones.
-ghost use Rattle.std.specs.Prelude.{◌≡◌, true, false, cond, ◌↔◌, ◌≤◌};
+ghost use Rattle.std.specs.Prelude.{◌≡◌, true, ◌↔◌};
 ghost use Rattle.laws.specs.Sum.{bit};
-ghost use Rattle.sizes.specs.Span.{In, join, lap, add, eq, Makes, son_of};
+ghost use Rattle.sizes.specs.Span.{In, join, Makes};
 ghost use Rattle.spans.specs.Held.{span_held, kind_held, pair_of};
 ghost use Rattle.choosing.specs.Parted.{Divisible, Shared};
-ghost use Rattle.choosing.specs.Parts.{rest_state, son_state, rest_by};
 
 use spans::kind::Kind;
 use spans::pair::Pair;
-use spans::span::{Span, larger, minus, smaller};
+use spans::span::Span;
 
-// the state of the later sons and of the one son
-#[derive(Clone, Copy)]
-pub struct States {
-    pub rest: bool,
-    pub son: bool,
+// A number, and whether the one more member is in.
+#[derive(Clone, Copy, PartialEq, Eq)]
+pub struct Part {
+    pub number: u32,
+    pub inn: bool,
 }
 
-// a number and a state for the later sons, and for the one son
-#[derive(Clone, Copy)]
+impl Part {
+    // what a table has where nothing was stored
+    pub const ZERO: Part = Part {
+        number: 0,
+        inn: false,
+    };
+}
+
+// What falls to the later sons, and to the one son.
+#[derive(Clone, Copy, PartialEq, Eq)]
 pub struct Parts {
-    pub rest: u32,
-    pub rest_in: bool,
-    pub son: u32,
-    pub son_in: bool,
+    pub rest: Part,
+    pub son: Part,
 }
 
 // whether r is in two spans joined; no sum is taken, so none can wrap
-fn lap_has(a: Span, b: Span, r: u32) -> bool
-    ensures { (result ≡ true) ↔ In r (join lap (span_held a) (span_held b)) }
+fn join_has(kind: Kind, a: Span, b: Span, r: u32) -> bool
+    ensures { (result ≡ true) ↔ In r (join (kind_held kind) (span_held a) (span_held b)) }
 {
-    if a.most < a.least {
+    if a.is_empty() || b.is_empty() {
         return false;
     }
-    if b.most < b.least {
-        return false;
-    }
-    if r < larger(a.least, b.least) {
-        return false;
-    }
-    minus(r, a.most) <= b.most
-}
-
-fn add_has(a: Span, b: Span, r: u32) -> bool
-    ensures { (result ≡ true) ↔ In r (join add (span_held a) (span_held b)) }
-{
-    if a.most < a.least {
-        return false;
-    }
-    if b.most < b.least {
-        return false;
-    }
-    if r < a.least {
-        return false;
-    }
-    if r - a.least < b.least {
-        return false;
-    }
-    minus(r, a.most) <= b.most
-}
-
-fn eq_has(a: Span, b: Span, r: u32) -> bool
-    ensures { (result ≡ true) ↔ In r (join eq (span_held a) (span_held b)) }
-{
-    if r < larger(a.least, b.least) {
-        return false;
-    }
-    r <= smaller(a.most, b.most)
-}
-
-fn join_has(k: Kind, a: Span, b: Span, r: u32) -> bool
-    ensures { (result ≡ true) ↔ In r (join (kind_held k) (span_held a) (span_held b)) }
-{
-    match k {
-        Kind::Lap => lap_has(a, b, r),
-        Kind::Add => add_has(a, b, r),
-        Kind::Eq => eq_has(a, b, r),
+    match kind {
+        Kind::Lap => a.least.max(b.least) <= r && r.saturating_sub(a.most) <= b.most,
+        Kind::Add => {
+            a.least <= r && b.least <= r - a.least && r.saturating_sub(a.most) <= b.most
+        }
+        Kind::Eq => a.least.max(b.least) <= r && r <= a.most.min(b.most),
     }
 }
 
-pub fn at_state(p: Pair, c: bool) -> Span
-    ensures { span_held result ≡ pair_of p c }
+// The states of the later sons and of the one son, the first that can be joined: the later sons in and the one out, the other
+// way round, both in.
+fn states(kind: Kind, rest: Pair, son: Pair, r: u32, c: bool) -> (bool, bool)
+    requires { Divisible (kind_held kind) (pair_of rest) (pair_of son) r c }
+    ensures { (Makes (kind_held kind) (bit result.0) (bit result.1) (bit c))
+        × In r (join (kind_held kind) (pair_of rest result.0) (pair_of son result.1)) }
 {
-    if c { p.inn } else { p.out }
-}
-
-// The first pair of states that can be joined: the later sons in and the one out, the other way round, both in.
-fn first_states(first: bool, second: bool) -> States
-    ensures { (result.rest ≡ cond first true (cond second false true)) × (result.son ≡ cond first false true) }
-{
-    if first {
-        return States {
-            rest: true,
-            son: false,
-        };
+    if !c {
+        return (false, false);
     }
-    if second {
-        return States {
-            rest: false,
-            son: true,
-        };
-    }
-    States {
-        rest: true,
-        son: true,
+    match kind {
+        Kind::Lap | Kind::Add if join_has(kind, rest.inn, son.out, r) => (true, false),
+        Kind::Lap | Kind::Add if join_has(kind, rest.out, son.inn, r) => (false, true),
+        _ => (true, true),
     }
 }
 
-fn states_in(k: Kind, first: bool, second: bool) -> States
-    ensures { (result.rest ≡ rest_state (kind_held k) true first second) × (result.son ≡ son_state (kind_held k) true first second) }
+// the numbers of the later sons and of the one son
+fn numbers(kind: Kind, rest: Span, son: Span, r: u32) -> (u32, u32)
+    requires { In r (join (kind_held kind) (span_held rest) (span_held son)) }
+    ensures { (Makes (kind_held kind) result.0 result.1 r) × In result.0 (span_held rest) × In result.1 (span_held son) }
 {
-    match k {
-        Kind::Lap => first_states(first, second),
-        Kind::Add => first_states(first, second),
-        Kind::Eq => States {
-            rest: true,
-            son: true,
-        },
-    }
-}
-
-fn pick_states(k: Kind, c: bool, first: bool, second: bool) -> States
-    ensures { (result.rest ≡ rest_state (kind_held k) c first second) × (result.son ≡ son_state (kind_held k) c first second) }
-{
-    if c {
-        return states_in(k, first, second);
-    }
-    States {
-        rest: false,
-        son: false,
-    }
-}
-
-fn states_of(k: Kind, a: Pair, z: Pair, r: u32, c: bool) -> States
-    requires { Divisible (kind_held k) (pair_of a) (pair_of z) r c }
-    ensures { (Makes (kind_held k) (bit result.rest) (bit result.son) (bit c)) × In r (join (kind_held k) (pair_of a
-        result.rest) (pair_of z result.son)) }
-{
-    pick_states(
-        k,
-        c,
-        join_has(k, a.inn, z.out, r),
-        join_has(k, a.out, z.inn, r),
-    )
-}
-
-// the numbers
-fn son_part(k: Kind, a: Span, b: Span, r: u32) -> u32
-    requires { In r (join (kind_held k) (span_held a) (span_held b)) }
-    ensures { (result ≡ son_of (kind_held k) (span_held a) (span_held b) r) × (result ≤ r) }
-{
-    match k {
-        Kind::Lap => smaller(b.most, r),
-        Kind::Add => larger(b.least, minus(r, a.most)),
-        Kind::Eq => r,
-    }
-}
-
-fn rest_part(k: Kind, a: Span, r: u32, son: u32) -> u32
-    requires { son ≤ r }
-    ensures { result ≡ rest_by (kind_held k) a.most r son }
-{
-    match k {
-        Kind::Lap => smaller(a.most, r),
-        Kind::Add => r - son,
-        Kind::Eq => r,
+    match kind {
+        Kind::Lap => (rest.most.min(r), son.most.min(r)),
+        Kind::Add => {
+            let y = son.least.max(r.saturating_sub(rest.most));
+            (r - y, y)
+        }
+        Kind::Eq => (r, r),
     }
 }
 
 // a number of the joined spans, divided
-pub fn divided(k: Kind, a: Pair, z: Pair, r: u32, c: bool) -> Parts
-    requires { Divisible (kind_held k) (pair_of a) (pair_of z) r c }
-    ensures { Shared (kind_held k) (pair_of a) (pair_of z) r c result.rest result.rest_in result.son result.son_in }
+pub fn divided(kind: Kind, rest: Pair, son: Pair, r: u32, c: bool) -> Parts
+    requires { Divisible (kind_held kind) (pair_of rest) (pair_of son) r c }
+    ensures { Shared (kind_held kind) (pair_of rest) (pair_of son) r c result.rest.number result.rest.inn result.son.number result.son.inn }
 {
-    let s = states_of(k, a, z, r, c);
-    let rest = at_state(a, s.rest);
-    let son = at_state(z, s.son);
-    let y = son_part(k, rest, son, r);
+    let (rest_in, son_in) = states(kind, rest, son, r, c);
+    let (x, y) = numbers(kind, rest.at(rest_in), son.at(son_in), r);
     Parts {
-        rest: rest_part(k, rest, r, y),
-        rest_in: s.rest,
-        son: y,
-        son_in: s.son,
+        rest: Part {
+            number: x,
+            inn: rest_in,
+        },
+        son: Part {
+            number: y,
+            inn: son_in,
+        },
     }
 }

@@ -4,6 +4,7 @@ use mathlib.Core.Path.{◌≡◌, ◌∙◌}
 use mathlib.Core.Bool.{true, ◌&&◌, false}
 use mathlib.Core.List.{List}
 use native.Mathlib.Omega.{arith}
+use native.Mathlib.Nat.{add-zero, mul-zero, sub-zero}
 use borrow.Author.Tests.{eqb-true, le-leb, lt-leb}
 use lib.ListN.{drop}
 use lib.Dec.{leb, eqb}
@@ -41,6 +42,9 @@ module _ (s : List ℕ) (names at n i : ℕ) (h : i < n) where
   pub within_pass : (x : ℕ) → x ≡ u16_at s (at + 2 * i) → 1 ≤ x → x ≤ names →
       all_within names (u16s s (at + 2 * i) (n - i)) ≡ all_within names (u16s s (at + 2 * (i + 1)) (n - (i + 1)))
   within_pass x e l k = rw (within_more, ← e, le-leb 1 x l, le-leb x names k)
+
+pub within_start : (s : List ℕ) (names at n : ℕ) → all_within names (u16s s (at + 2 * 0) (n - 0)) ≡ all_within names (u16s s at n)
+within_start s names at n = simp (mul-zero, add-zero, sub-zero)
 
 pub within_end : (s : List ℕ) (names at n i : ℕ) → n ≤ i → all_within names (u16s s at (n - i)) ≡ true
 unfolding all_within u16s

@@ -6,53 +6,54 @@
 ghost use Rattle.std.specs.Prelude.{◌≡◌};
 ghost use Rattle.wire.specs.Record.{read};
 ghost use Rattle.wire.specs.SheetFormat.{Records, read_sheet};
-ghost use Rattle.tables.specs.SheetIn.{sheet_in, Tabled};
+ghost use Rattle.tables.specs.SheetIn.{sheet_in};
 ghost use Rattle.claim_records.specs.ClaimHeld.{claim_record};
 ghost use Rattle.records.specs.Answers.{head_record};
 ghost use Rattle.replies.specs.Reply.{call};
+ghost use Rattle.replies.specs.Returned.{returned};
 ghost use Rattle.claims.specs.Named.{Askable, claim_meant};
 ghost use Rattle.claim_reply.specs.Asked.{Asked};
 ghost use Rattle.claim_reply.specs.ClaimReply.{VerdictFor, ClaimVerdict};
 
-use claim_records::claim::{Claim, claim_in};
+use claim_records::claim::Claim;
 use claims::decide::decide;
 use claims::decision::Decision;
 use measuring::fitting::some_fit;
+use reading::sheet_tables::Tables;
 use records::record::Head;
-use replies::pairs::refuse;
 use replies::{give_alone, give_shown};
+use tables::groups::{GroupNo, Groups};
 use tables::limits::GROUP_CAPACITY;
-use wire::refusals::{IMPOSSIBLE, NO_SUCH_CLAIM};
+use wire::refusals::{Fault, Refusal};
 
 // The verdict on a claim, with sets where some answer it, into a buffer with room for this verdict.
 fn give_verdict(
     sheet: &[u8],
-    c: Claim,
-    names: &[u16],
-    groups: &mut [u16],
-    size: u16,
+    claim: Claim,
+    names: &[Option<GroupNo>],
+    groups: &mut Groups,
     reply: &mut [u8],
-) -> u64
-    requires { Tabled groups.old size × Askable sheet.now c names.now size }
-    ensures { VerdictFor (sheet_in groups.old size) (claim_meant names.now (claim_record sheet.now c))
-        (call reply.old result reply.new) }
+) -> Result<u32, Fault>
+    requires { Askable sheet.now claim names.now groups.old.size }
+    ensures { VerdictFor (sheet_in groups.old.table groups.old.size) (claim_meant names.now (claim_record sheet.now claim))
+        (call reply.old (returned result) reply.new) }
 {
+    let size = groups.size as usize;
     let mut firsts = [0u32; GROUP_CAPACITY];
     let mut sizes = [0u32; GROUP_CAPACITY];
     let mut marks = [0u8; GROUP_CAPACITY];
-    let d = decide(
+    let decision = decide(
         sheet,
-        c,
+        claim,
         names,
         groups,
-        size,
         &mut firsts,
         &mut sizes,
         &mut marks,
     );
-    match d {
-        Decision::Alone(v) => give_alone(reply, v),
-        Decision::Shown(v) => give_shown(reply, v, size, &firsts, &sizes, &marks),
+    match decision {
+        Decision::Alone(verdict) => give_alone(reply, verdict),
+        Decision::Shown(verdict) => give_shown(reply, verdict, &firsts, &sizes, &marks[..size]),
     }
 }
 
@@ -60,25 +61,23 @@ fn give_verdict(
 pub fn give_claim(
     sheet: &[u8],
     head: Head,
-    groups: &mut [u16],
-    names: &[u16],
-    claims: &[u16],
-    offsets: &[usize],
+    tables: &Tables,
     claim: u32,
     reply: &mut [u8],
-) -> u64
-    requires { Asked (head_record head) sheet.now groups.old names.now claims.now offsets.now }
-    ensures { (d : Records) → read_sheet sheet.now ≡ read d → ClaimVerdict claim d (call reply.old result reply.new) }
+) -> Result<u32, Fault>
+    requires { Asked (head_record head) sheet.now tables.now }
+    ensures { (d : Records) → read_sheet sheet.now ≡ read d → ClaimVerdict claim d (call reply.old (returned result) reply.new) }
 {
-    if !some_fit(groups, head.groups) {
-        return refuse(reply, IMPOSSIBLE, 0);
+    let mut groups = Groups {
+        table: tables.groups,
+        size: head.groups,
+    };
+    if !some_fit(&groups) {
+        return Err(Refusal::Impossible.at(0));
     }
-    if claim == 0 {
-        return refuse(reply, NO_SUCH_CLAIM, 0); // there is no claim 0
+    if claim == 0 || (head.claims as u32) < claim {
+        return Err(Refusal::NoSuchClaim.at(0));
     }
-    if (head.claims as u32) < claim {
-        return refuse(reply, NO_SUCH_CLAIM, 0);
-    }
-    let c = claim_in(claims, offsets, claim as usize - 1);
-    give_verdict(sheet, c, names, groups, head.groups, reply)
+    let asked = tables.claims[claim as usize - 1];
+    give_verdict(sheet, asked, &tables.names, &mut groups, reply)
 }

@@ -1,18 +1,19 @@
 -- Laws of decisions: a verdict with sets that are shown, and one that stands alone.
 use Prim.Native.Nat.{ℕ}
-use mathlib.Core.Path.{◌≡◌, refl}
-use mathlib.Core.Bool.{Bool, cond, true, true≢false, false, false≢true}
+use mathlib.Core.Path.{◌≡◌, refl, sym, ◌∙◌}
+use mathlib.Core.Bool.{Bool, beq, cond, true, true≢false, false}
 use mathlib.Core.List.{List}
 use Rattle.claim_records.specs.declared.claim.Claim.{Claim as ClaimRead}
 use Rattle.replies.specs.declared.verdict.Verdict.TheVariants.{Holds, Denied}
 use Rattle.replies.specs.declared.verdict.Verdict.{Verdict}
-use Rattle.claims.specs.declared.decision.Decision.TheVariants.{Shown, Alone}
+use Rattle.claims.specs.declared.decision.Decision.TheVariants.{Shown}
 use Rattle.wire.specs.SheetFormat.{ListKind, inside, apart, place}
 use Rattle.meaning.specs.Sheet.{Sheet}
 use Rattle.meaning.specs.Tree.{Tree, Rooted}
 use Rattle.meaning.specs.Place.{lists_ask, Question}
-use Rattle.sizes.specs.Witness.{HasWitness}
 use Rattle.sizes.proofs.RunsLaws.{runs_first, shown_fits_above}
+use Rattle.std.specs.Prelude.{Option}
+use Rattle.tables.specs.declared.groups.GroupNo.{GroupNo}
 use Rattle.tables.specs.Numbers.{number_in}
 use Rattle.claim_records.specs.ClaimHeld.{list_as, claim_record}
 use Rattle.runs.specs.Told.{Told}
@@ -24,7 +25,7 @@ use Rattle.claims.specs.Decided.{verdict_on, asks_place, Shows, Decided}
 use Rattle.claim_records.specs.declared.claim.Claim.TheVariants as claim
 
 -- the verdict on a claim that is read, by that
-pub verdict_read : (c : ClaimRead) (sheet names : List ℕ) (answered : Bool)
+verdict_read : (c : ClaimRead) (sheet : List ℕ) (names : List (Option GroupNo)) (answered : Bool)
     → verdict_on (claim_meant names (claim_record sheet c)) answered ≡ cond (asks_place c) (cond answered Holds Denied) (cond answered Denied Holds)
 unfolding claim_meant
 verdict_read (claim.Count k) sheet names answered = refl
@@ -35,6 +36,20 @@ verdict_read (claim.Lists l) sheet names answered = by_kind _ _ (list_as l.kind)
     by_kind l r inside = refl
     by_kind l r apart = refl
     by_kind l r place = refl
+
+-- so it holds where sets answer it exactly if it is of kind 7
+by_answer : (p answered : Bool) → cond p (cond answered Holds Denied) (cond answered Denied Holds) ≡ cond (beq p answered) Holds Denied
+by_answer true true = refl
+by_answer true false = refl
+by_answer false true = refl
+by_answer false false = refl
+
+module _ (c : ClaimRead) (sheet : List ℕ) (names : List (Option GroupNo)) (answered : Bool) {p : Bool} (e : p ≡ asks_place c) where
+  pub verdict_holds : beq p answered ≡ true → Holds ≡ verdict_on (claim_meant names (claim_record sheet c)) answered
+  verdict_holds o = sym (verdict_read c sheet names answered ∙ rw (← e, by_answer p answered, o))
+
+  pub verdict_denied : beq p answered ≡ false → Denied ≡ verdict_on (claim_meant names (claim_record sheet c)) answered
+  verdict_denied o = sym (verdict_read c sheet names answered ∙ rw (← e, by_answer p answered, o))
 
 -- numbers that show an answer, with starts
 pub showing_shows : {s : Sheet} {q : Question} {firsts sizes marks : List ℕ} → Tree s → Rooted s → Showing s q sizes marks
@@ -52,7 +67,3 @@ showing_shows {firsts = firsts} t r d w =
 pub decided_shown : {s : Sheet} {q : Question} {firsts sizes marks : List ℕ} {v : Verdict} → v ≡ verdict_on q true
     → Shows s q firsts sizes marks → Decided s q firsts sizes marks (Shown v)
 decided_shown e w = record { verdict = e; shown = λ o. w; alone = λ o. absurd (true≢false o) }
-
-pub decided_alone : {s : Sheet} {q : Question} {firsts sizes marks : List ℕ} {v : Verdict} → v ≡ verdict_on q false
-    → (HasWitness s q → ⊥) → Decided s q firsts sizes marks (Alone v)
-decided_alone e h = record { verdict = e; shown = λ o. absurd (false≢true o); alone = λ o. h }

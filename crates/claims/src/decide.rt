@@ -1,90 +1,80 @@
 // The verdict on one claim, and the sets that are shown with it.
-ghost use Rattle.std.specs.Prelude.{◌≡◌, ◌&&◌, ltb, ◌≤◌, length};
+ghost use Rattle.std.specs.Prelude.{◌≡◌, ◌≤◌, length};
 ghost use Rattle.meaning.specs.Place.{lists_ask};
 ghost use Rattle.tables.specs.SheetIn.{sheet_in};
 ghost use Rattle.claim_records.specs.ClaimHeld.{list_as, left_names, right_names, claim_record};
 ghost use Rattle.choosing.specs.Chosen.{Asking};
 ghost use Rattle.questions.specs.Judged.{Judged};
-ghost use Rattle.questions.specs.Ways.{is_place};
 ghost use Rattle.claims.specs.Decided.{Decided};
 ghost use Rattle.claims.specs.Named.{meanings, AskableLists, claim_meant, Askable};
 
 use crate::decision::{Decision, verdict_on};
-use crate::names::groups_meant;
-use claim_records::claim::{Claim, ListKind, Lists};
+use crate::names::{groups_meant, meant_by};
+use claim_records::claim::{Claim, Lists};
 use questions::count::judge_count;
 use questions::lists::{ask_lists, is_place};
 use runs::starts::start_runs;
-use tables::limits::GROUP_CAPACITY;
-use tables::names::meant_by;
+use tables::groups::{GroupNo, Groups};
+use tables::limits::{GROUP_CAPACITY, LIST};
 
-// whether the claim asks for a member of every left set and has the empty set among these: k of its n left names mean a group
-fn lacks_member(kind: ListKind, k: usize, n: u16) -> bool
-    ensures { result ≡ (is_place (list_as kind) && ltb k n) }
-{
-    if is_place(kind) {
-        k < n as usize
-    } else {
-        false
-    }
-}
+// most groups in one list of a claim
+const LIST_TABLE: usize = LIST as usize;
 
 // Whether some sets that fit answer the claim of kinds 5 to 7 on two lists of names.
 fn judge_names(
     sheet: &[u8],
-    l: Lists,
-    names: &[u16],
-    groups: &[u16],
-    size: u16,
+    lists: Lists,
+    names: &[Option<GroupNo>],
+    groups: &Groups,
     sizes: &mut [u32],
     marks: &mut [u8],
 ) -> bool
-    requires { Asking groups.now size sizes.old marks.old × AskableLists sheet.now l names.now size }
-    ensures { Judged (sheet_in groups.now size)
-        (lists_ask (list_as l.kind) (meanings names.now (left_names sheet.now l)) (meanings names.now
-        (right_names sheet.now l)))
+    requires { Asking groups.now.size sizes.old marks.old × AskableLists sheet.now lists names.now groups.now.size }
+    ensures { Judged (sheet_in groups.now.table groups.now.size)
+        (lists_ask (list_as lists.kind) (meanings names.now (left_names sheet.now lists)) (meanings names.now
+        (right_names sheet.now lists)))
         sizes.new marks.new result }
 {
-    let mut left = [0u16; GROUP_CAPACITY];
-    let mut right = [0u16; GROUP_CAPACITY];
-    let m = groups_meant(sheet, l.at, l.m, names, &mut left);
-    let n = groups_meant(sheet, l.at + 2 * (l.m as usize), l.n, names, &mut right);
-    let kind = l.kind;
-    if lacks_member(kind, m, l.m) {
-        return false;
+    let mut left = [GroupNo(0); LIST_TABLE];
+    let mut right = [GroupNo(0); LIST_TABLE];
+    let m = groups_meant(sheet, lists.at, lists.m, names, &mut left);
+    let n = groups_meant(
+        sheet,
+        lists.at + 2 * lists.m as usize,
+        lists.n,
+        names,
+        &mut right,
+    );
+    if is_place(lists.kind) && m < lists.m as usize {
+        return false; // nobody is in the empty set
     }
-    ask_lists(kind, groups, size, &left, m, &right, n, sizes, marks)
+    ask_lists(lists.kind, groups, &left[..m], &right[..n], sizes, marks)
 }
 
 // Whether some sets that fit answer the claim: they break it (kinds 4 to 6), or have the member that it asks for (kind 7).
 fn judge(
     sheet: &[u8],
-    c: Claim,
-    names: &[u16],
-    groups: &mut [u16],
-    size: u16,
+    claim: Claim,
+    names: &[Option<GroupNo>],
+    groups: &mut Groups,
     sizes: &mut [u32],
     marks: &mut [u8],
 ) -> bool
-    requires { Asking groups.old size sizes.old marks.old × Askable sheet.now c names.now size }
-    ensures judged { Judged (sheet_in groups.old size) (claim_meant names.now (claim_record sheet.now c))
+    requires { Asking groups.old.size sizes.old marks.old × Askable sheet.now claim names.now groups.old.size }
+    ensures judged { Judged (sheet_in groups.old.table groups.old.size) (claim_meant names.now (claim_record sheet.now claim))
         sizes.new marks.new result }
     ensures groups_unchanged { groups.new ≡ groups.old }
 {
-    match c {
-        Claim::Count(k) => {
-            let name = k.name;
-            judge_count(
-                groups,
-                size,
-                meant_by(names, name),
-                k.lo,
-                k.hi,
-                sizes,
-                marks,
-            )
-        }
-        Claim::Lists(l) => judge_names(sheet, l, names, groups, size, sizes, marks),
+    match claim {
+        Claim::Count(count) => judge_count(
+            groups,
+            meant_by(names, count.name),
+            count.lo,
+            count.hi,
+            sizes,
+            marks,
+        ),
+        Claim::Lists(lists) => judge_names(sheet, lists, names, groups, sizes, marks),
     }
 }
 
@@ -92,24 +82,24 @@ fn judge(
 // member and the count of a run, and the mark of member 0.
 pub fn decide(
     sheet: &[u8],
-    c: Claim,
-    names: &[u16],
-    groups: &mut [u16],
-    size: u16,
+    claim: Claim,
+    names: &[Option<GroupNo>],
+    groups: &mut Groups,
     firsts: &mut [u32],
     sizes: &mut [u32],
     marks: &mut [u8],
 ) -> Decision
-    requires { Asking groups.old size sizes.old marks.old × Askable sheet.now c names.now size
-        × (size ≤ length firsts.old) }
-    ensures decided { Decided (sheet_in groups.old size) (claim_meant names.now (claim_record sheet.now c))
+    requires { Asking groups.old.size sizes.old marks.old × Askable sheet.now claim names.now groups.old.size
+        × (groups.old.size ≤ length firsts.old) }
+    ensures decided { Decided (sheet_in groups.old.table groups.old.size) (claim_meant names.now (claim_record sheet.now claim))
         firsts.new sizes.new marks.new result }
     ensures groups_unchanged { groups.new ≡ groups.old }
 {
-    if judge(sheet, c, names, groups, size, sizes, marks) {
-        let mut ends = [0u32; GROUP_CAPACITY];
-        start_runs(groups, size, sizes, firsts, &mut ends);
-        return Decision::Shown(verdict_on(c, true));
+    if judge(sheet, claim, names, groups, sizes, marks) {
+        let mut ends = [0; GROUP_CAPACITY];
+        start_runs(groups, sizes, firsts, &mut ends);
+        Decision::Shown(verdict_on(claim, true))
+    } else {
+        Decision::Alone(verdict_on(claim, false))
     }
-    Decision::Alone(verdict_on(c, false))
 }

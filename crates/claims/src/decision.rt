@@ -1,5 +1,6 @@
 // The verdict on a claim that sets answer or that none answer.
-ghost use Rattle.std.specs.Prelude.{◌≡◌, List, ℕ};
+ghost use Rattle.std.specs.Prelude.{◌≡◌, List, ℕ, Option};
+ghost use Rattle.tables.specs.declared.groups.GroupNo.{GroupNo};
 ghost use Rattle.claim_records.specs.ClaimHeld.{claim_record};
 ghost use Rattle.claims.specs.Decided.{asks_place, verdict_on};
 ghost use Rattle.claims.specs.Named.{claim_meant};
@@ -16,30 +17,23 @@ pub enum Decision {
 }
 
 // whether the claim is of kind 7
-fn asks_place(c: Claim) -> bool
-    ensures { result ≡ asks_place c }
+fn asks_place(claim: Claim) -> bool
+    ensures { result ≡ asks_place claim }
 {
-    match c {
+    match claim {
         Claim::Count(_) => false,
-        Claim::Lists(l) => {
-            let kind = l.kind;
-            is_place(kind)
-        }
+        Claim::Lists(lists) => is_place(lists.kind),
     }
 }
 
-// The verdict on a claim, with sets that answer it (true) or where none do.
-pub fn verdict_on(c: Claim, answered: bool) -> Verdict
-    ensures { (sheet names : List ℕ) → result ≡ verdict_on (claim_meant names (claim_record sheet c)) answered }
+// The verdict on a claim, with sets that answer it (true) or where none do: these have the member that kind 7 asks for, and break
+// a claim of another kind.
+pub fn verdict_on(claim: Claim, answered: bool) -> Verdict
+    ensures { (sheet : List ℕ) (names : List (Option GroupNo)) → result ≡ verdict_on (claim_meant names (claim_record sheet claim)) answered }
 {
-    if asks_place(c) {
-        if answered {
-            return Verdict::Holds; // they have the member
-        }
-        return Verdict::Denied; // nobody could be there
+    if asks_place(claim) == answered {
+        Verdict::Holds
+    } else {
+        Verdict::Denied
     }
-    if answered {
-        return Verdict::Denied; // they break it
-    }
-    Verdict::Holds // nothing breaks it
 }

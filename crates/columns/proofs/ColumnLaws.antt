@@ -1,9 +1,10 @@
 -- Laws of columns of digits, word by word.
-use Prim.Native.Nat.{ℕ, ◌+◌, ◌*◌, ◌/◌, ◌%◌, ◌<◌, ◌≤◌}
+use Prim.Native.Nat.{ℕ, ◌+◌, ◌*◌, ◌/◌, ◌%◌, ◌<◌, ◌≤◌, suc}
 use mathlib.Core.Path.{◌≡◌, sym, refl, ◌∙◌}
 use mathlib.Core.Bool.{true}
 use mathlib.Core.List.{List}
-use lib.ListN.{get_or, length, set}
+use lib.ListN.{get_or, length, set, replicate, get_or-eq_default, length-replicate}
+use Rattle.std.proofs.lemmas.List.{get_or-replicate}
 use lib.Dec.{eqb}
 use native.Mathlib.Omega.{arith}
 use borrow.Author.Tests.{eq-eqb, ne_eqb, eqb-true}
@@ -11,13 +12,13 @@ use lib.Seq.{get_or-set_same, get_or-set_other}
 use lib.Bits.{bit_or}
 use Rattle.laws.specs.Sum.{bit}
 use Rattle.laws.specs.Digit.{digit}
-use Rattle.laws.proofs.Cases.{compare_eq}
+use Rattle.laws.proofs.Cases.{compare_eq, compare_le}
 use Rattle.laws.proofs.Digits.{digit_le, digit_or}
 use Rattle.wire.specs.Capacity.{group_capacity}
 use Rattle.meaning.specs.Sets.{Distinct}
 use Rattle.rows.specs.RowsRead.{word_bits}
 use Rattle.columns.specs.Columns.{column_sets, column_word, column_digit, in_column, column_words, columns_length}
-use Rattle.columns.specs.ColumnSteps.{ColumnPut}
+use Rattle.columns.specs.ColumnSteps.{ColumnPut, Empty}
 
 pub columns_distinct : (t : List ℕ) (n : ℕ) → Distinct (column_sets t n)
 columns_distinct t n = record { once = λ i j k l e. e }
@@ -49,6 +50,10 @@ column_one t g i e = eqb-true (column_digit t g i) 1 e
 pub one_column : (t : List ℕ) (g i : ℕ) → 1 ≤ column_digit t g i → in_column t g i ≡ true
 unfolding in_column
 one_column t g i l = eq-eqb (column_digit t g i) 1 (omega (arith, column_le t g i))
+
+-- columns of zeros have no digit
+pub zeros_empty : (n : ℕ) → Empty (replicate n 0)
+zeros_empty n = record { each = λ i. compare_le (suc i) n (λ l. get_or-replicate n i 0 0 l) (λ l. get_or-eq_default (replicate n 0) 0 (simp length-replicate (omega arith))) }
 
 -- a word is put to a group's column
 pub column_put : (t : List ℕ) (h w word : ℕ) → h ≤ group_capacity → w < column_words → columns_length ≤ length t

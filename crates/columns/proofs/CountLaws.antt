@@ -1,10 +1,13 @@
 -- The ones of columns, word by word, are the counts of the sets that the columns list.
 use Prim.Native.Nat.{ℕ, ◌+◌, ◌*◌, ◌^◌, ◌<◌, zero, suc, ◌≤◌, ◌-◌}
-use mathlib.Core.Path.{◌≡◌, sym}
+use mathlib.Core.Path.{◌≡◌, refl, sym, ◌∙◌}
 use mathlib.Core.List.{List}
 use native.Mathlib.Omega.{arith}
-use lib.ListN.{get_or, length, set}
-use lib.Seq.{get_or-set_same, get_or-set_other}
+use lib.ListN.{get_or, length, set, take, drop, length-drop}
+use Rattle.std.specs.List.{sum_by}
+use Rattle.std.proofs.lemmas.List.Sums.{sum_by_more}
+use native.Mathlib.Numerals.{add-one}
+use lib.Seq.{get_or-drop, get_or-set_same, get_or-set_other}
 use lib.Count.{ones}
 use Rattle.laws.specs.Sum.{sum}
 use Rattle.laws.specs.Digit.{digit}
@@ -13,7 +16,7 @@ use Rattle.laws.proofs.SumLaws.{sum_eq, sum_parts, sum_zero}
 use Rattle.laws.proofs.Digits.{ones_digits}
 use Rattle.meaning.specs.Sets.{count}
 use Rattle.rows.specs.RowsRead.{word_bits}
-use Rattle.columns.specs.Columns.{column_word, column_digit, column_sets}
+use Rattle.columns.specs.Columns.{column_stride, column_word, column_digit, column_sets}
 use Rattle.columns.specs.Counts.{ColumnsCounted}
 use Rattle.columns.proofs.ColumnLaws.{digit_at, column_le, bit_column}
 
@@ -34,6 +37,19 @@ pub count_most : (t : List ℕ) (g n : ℕ) → sum (column_digit t g) n ≤ n
 unfolding sum
 count_most t g zero = omega arith
 count_most t g (suc n) = omega (arith, count_most t g n, column_le t g n)
+
+-- so the ones of the first words of a column are the column's
+pub ones_column : (t : List ℕ) (g words : ℕ) → ((i : ℕ) → get_or t i 0 < 2 ^ 64) → column_word g words ≤ length t
+    → sum_by ones (take words (drop (column_stride * g) t)) ≡ sum (column_digit t g) (word_bits * words)
+unfolding sum
+ones_column t g zero h l = refl
+ones_column t g (suc w) h l =
+    let column = drop (column_stride * g) t in
+    let within : w < length column = simp length-drop (omega arith) in
+    let more = sum_by_more ones column w 0 within in
+    let same : column_stride * g + w ≡ column_word g w = omega arith in
+    let one : get_or column w 0 ≡ get_or t (column_word g w) 0 = rw (get_or-drop (column_stride * g) t w 0, same) refl in
+    rw (← add-one w) (more ∙ (rw one (omega (arith, ones_column t g w h (omega arith), count_word t g w (h (column_word g w))))))
 
 -- columns that have no digit from member n on list n members
 pub column_count : (t : List ℕ) (g n m : ℕ) → n ≤ m → ((i : ℕ) → n ≤ i → i < m → column_digit t g i ≡ 0)

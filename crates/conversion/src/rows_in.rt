@@ -10,6 +10,7 @@ ghost use Rattle.rows.specs.RowsRead.{rows_before, word_bytes, RowThere, RowsThe
 
 use row_writing::write_row;
 use rows::limits::{ROW_BITS, ROW_MEMBER, ROW_SIDE, WORD_BYTES, row_bytes, row_words};
+use rows::sides::Side;
 use wire::bytes::{u16_at, u32_at, u64_at};
 
 // word k of the membership bytes of the row at an offset, 0 where its edition has none
@@ -17,10 +18,11 @@ fn word_of(register: &[u8], at: usize, edition: u16, k: u16) -> u64
     requires { RowThere (edition_of edition) register.now at }
     ensures { result ≡ u64_at (row_of (edition_of edition) (drop at register.now)).bits (word_bytes * k) }
 {
-    if row_words(edition) <= k {
-        return 0;
+    if k < row_words(edition) {
+        u64_at(register, at + ROW_BITS + WORD_BYTES * k as usize)
+    } else {
+        0
     }
-    u64_at(register, at + ROW_BITS + WORD_BYTES * k as usize)
 }
 
 // the row of one edition at an offset, written as a row of another at an offset of the reply
@@ -37,7 +39,9 @@ fn put_row_in(out: &mut [u8], to: usize, edition: u16, register: &[u8], at: usiz
         word_of(register, at, from, 3),
     ];
     let number = u32_at(register, at + ROW_MEMBER);
-    let side = u16_at(register, at + ROW_SIDE);
+    let Some(side) = Side::from_number(u16_at(register, at + ROW_SIDE)) else {
+        unreachable!();
+    };
     write_row(out, to, edition, number, side, &words, 0);
 }
 
@@ -49,11 +53,7 @@ pub fn put_rows_in(out: &mut [u8], edition: u16, register: &[u8], from: u16, n: 
 {
     let step = row_bytes(edition);
     let stride = row_bytes(from);
-    let mut to = 0;
-    let mut at = 0;
     for i in 0..n {
-        put_row_in(out, to, edition, register, at, from);
-        to = to + step;
-        at = at + stride;
+        put_row_in(out, step * i, edition, register, stride * i, from);
     }
 }

@@ -1,2 +1,3 @@
 pub mod ConversionReply
 pub mod Converted
+pub mod Way

@@ -1,38 +1,24 @@
 // The verdict on one claim.
 ghost use Rattle.replies.specs.Reply.{call};
+ghost use Rattle.replies.specs.Returned.{returned};
 ghost use Rattle.claim_reply.specs.ClaimReply.{ClaimCall};
 
 use claim_reply::give_claim;
-use reading::load::{Loaded, load_sheet};
-use replies::pairs::refuse;
-use tables::limits::{CLAIM_TABLE, GROUP_TABLE, LABEL_TABLE, NAME_TABLE, OFFSET_TABLE};
+use reading::load::load_sheet;
+use reading::sheet_tables::Tables;
+use replies::pairs::pack;
+use wire::refusals::Fault;
 
 pub fn sheet_claim(sheet: &[u8], claim: u32, reply: &mut [u8]) -> u64
     ensures { ClaimCall sheet.now claim (call reply.old result reply.new) }
 {
-    let mut groups = [0u16; GROUP_TABLE];
-    let mut names = [0u16; NAME_TABLE];
-    let mut labels = [0usize; LABEL_TABLE];
-    let mut claims = [0u16; CLAIM_TABLE];
-    let mut offsets = [0usize; OFFSET_TABLE];
-    match load_sheet(
-        sheet,
-        &mut groups,
-        &mut names,
-        &mut labels,
-        &mut claims,
-        &mut offsets,
-    ) {
-        Loaded::Refused(n, record) => refuse(reply, n, record),
-        Loaded::Sheet(head) => give_claim(
-            sheet,
-            head,
-            &mut groups,
-            &names,
-            &claims,
-            &offsets,
-            claim,
-            reply,
-        ),
-    }
+    pack(verdict(sheet, claim, reply))
+}
+
+fn verdict(sheet: &[u8], claim: u32, reply: &mut [u8]) -> Result<u32, Fault>
+    ensures { ClaimCall sheet.now claim (call reply.old (returned result) reply.new) }
+{
+    let mut tables = Tables::new();
+    let head = load_sheet(sheet, &mut tables)?;
+    give_claim(sheet, head, &tables, claim, reply)
 }

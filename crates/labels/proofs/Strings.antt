@@ -1,6 +1,6 @@
 -- Laws of the runs that the tests walk: the bytes of a label, two labels side by side, the names of a claim, the labels before.
 use Prim.Native.Nat.{ℕ, suc, ◌+◌, ◌<◌, ◌-◌, ◌≤◌, ◌*◌, zero}
-use mathlib.Core.Path.{◌≡◌, refl, ap}
+use mathlib.Core.Path.{◌≡◌, refl, sym, ◌∙◌, ap}
 use mathlib.Core.Bool.{◌&&◌, true, Bool, and_assoc, false}
 use mathlib.Core.List.{List, ◌∷◌, [], ◌++◌}
 use mathlib.Core.Logic.{⊎_elim}
@@ -10,6 +10,8 @@ use native.Mathlib.Nat.{eq-or-lt_of_le}
 use borrow.Author.Tests.{eq-eqb, ne_eqb, eqb-true, eqb-false}
 use lib.ListN.{length, get_or, take, drop, length-take, length-drop}
 use lib.Seq.{drop-cons, drop-drop, take-add}
+use Rattle.std.proofs.Math.ListN.{drop_of_length-le}
+use Rattle.std.proofs.lemmas.List.{take_all}
 use lib.Dec.{eqb}
 use Rattle.laws.proofs.Cases.{split, and_true}
 use Rattle.wire.specs.Bytes.{u16_at}
@@ -20,25 +22,19 @@ use Rattle.wire.proofs.Sorts.{used_snoc}
 use Rattle.wire.proofs.Fields.{length_at}
 use Rattle.tables.specs.RecordsIn.{records_in}
 
--- one more byte of a run
-pub run_more : (s : List ℕ) (i k : ℕ) → i < length s → take (suc k) (drop i s) ≡ get_or s i 0 ∷ take k (drop (i + 1) s)
-run_more s i k h = rw (drop-cons s i 0 h, add-one)
-
-module _ (s : List ℕ) (end i : ℕ) (h : i < end) (room : end ≤ length s) where
-  left_more : end - i ≡ suc (end - (i + 1))
-  left_more = omega arith
-
-  pub label_more : label_bytes (take (end - i) (drop i s)) ≡ (label_byte (get_or s i 0) && label_bytes (take (end - (i + 1)) (drop (i + 1) s)))
+-- the bytes of a label from a place on
+module _ (l : List ℕ) (i : ℕ) where
+  pub label_more : i < length l → label_bytes (drop i l) ≡ (label_byte (get_or l i 0) && label_bytes (drop (i + 1) l))
   unfolding label_bytes
-  label_more = rw (left_more, run_more s i _ (omega arith))
+  label_more h = rw (drop-cons l i 0 h, add-one)
 
-pub label_end : (l : List ℕ) (n i : ℕ) → n ≤ i → label_bytes (take (n - i) l) ≡ true
-unfolding label_bytes
-label_end l n i h = let e : n - i ≡ 0 = omega arith in rw e
+  pub label_end : length l ≤ i → label_bytes (drop i l) ≡ true
+  unfolding label_bytes
+  label_end h = rw (drop_of_length-le l h)
 
--- the n bytes at two offsets, compared
-abbrev pub alike : List ℕ → ℕ → ℕ → ℕ → Bool
-alike s a b n = same_label (take n (drop a s)) (take n (drop b s))
+-- the first n bytes of two labels, compared
+abbrev pub alike : List ℕ → List ℕ → ℕ → Bool
+alike l m n = same_label (take n l) (take n m)
 
 pub same_none : same_label [] [] ≡ true
 unfolding same_label
@@ -53,14 +49,14 @@ eqb_pair x y u v h k =
     (λ f. rw (e, f, ne_eqb (u * 256 + x) (v * 256 + y) (omega (arith, eqb-true x y e, eqb-false u v f)))))
     (λ e. rw (e, ne_eqb (u * 256 + x) (v * 256 + y) (omega (arith, eqb-false x y e))))
 
--- k bytes are the same just where they are one number
-pub alike_number : (s : List ℕ) → Bytes s → (k a b : ℕ) → a + k ≤ length s → b + k ≤ length s →
-    alike s a b k ≡ eqb (bytes_at k s a) (bytes_at k s b)
+-- k bytes at a place are the same just where they are one number
+alike_number : (l m : List ℕ) → Bytes l → Bytes m → (k i : ℕ) → i + k ≤ length l → i + k ≤ length m →
+    same_label (take k (drop i l)) (take k (drop i m)) ≡ eqb (bytes_at k l i) (bytes_at k m i)
 unfolding same_label bytes_at
-alike_number s h zero a b p q = refl
-alike_number s h (suc k) a b p q =
-    rw (drop-cons s a 0 (omega arith), drop-cons s b 0 (omega arith))
-    (rw (alike_number s h k (suc a) (suc b) (omega arith) (omega arith)) (eqb_pair _ _ _ _ (h a) (h b)))
+alike_number l m h j zero i p q = refl
+alike_number l m h j (suc k) i p q =
+    rw (drop-cons l i 0 (omega arith), drop-cons m i 0 (omega arith))
+    (rw (alike_number l m h j k (suc i) (omega arith) (omega arith)) (eqb_pair _ _ _ _ (h i) (j i)))
 
 same_append : (l m u v : List ℕ) → length l ≡ length m → same_label (l ++ u) (m ++ v) ≡ (same_label l m && same_label u v)
 unfolding same_label
@@ -70,28 +66,40 @@ same_append (x ∷ l) [] u v h = absurd (omega arith)
 same_append (x ∷ l) (y ∷ m) u v h = rw (same_append l m u v (omega arith), and_assoc)
 
 -- the first i bytes, and the k after them
-alike_parts : (s : List ℕ) (a b i k : ℕ) → a + (i + k) ≤ length s → b + (i + k) ≤ length s →
-    alike s a b (i + k) ≡ (alike s a b i && alike s (a + i) (b + i) k)
-alike_parts s a b i k p q =
-    let e : length (take i (drop a s)) ≡ length (take i (drop b s)) = simp (length-take, length-drop) (omega arith) in
-    rw (take-add i k (drop a s), take-add i k (drop b s), same_append _ _ _ _ e) (simp drop-drop)
+alike_parts : (l m : List ℕ) (i k : ℕ) → i + k ≤ length l → i + k ≤ length m →
+    alike l m (i + k) ≡ (alike l m i && same_label (take k (drop i l)) (take k (drop i m)))
+alike_parts l m i k p q =
+    let e : length (take i l) ≡ length (take i m) = simp length-take (omega arith) in
+    rw (take-add i k l, take-add i k m, same_append _ _ _ _ e)
 
-module _ (s : List ℕ) (a b n : ℕ) (p : a + n ≤ length s) (q : b + n ≤ length s) where
-  alike_cut : (i : ℕ) → i ≤ n → alike s a b n ≡ (alike s a b i && alike s (a + i) (b + i) (n - i))
-  alike_cut i l = let e : i + (n - i) ≡ n = omega arith in rw e at (alike_parts s a b i (n - i) (omega arith) (omega arith))
+module _ (l m : List ℕ) (n : ℕ) (p : n ≤ length l) (q : n ≤ length m) where
+  alike_cut : (i : ℕ) → i ≤ n → alike l m n ≡ (alike l m i && same_label (take (n - i) (drop i l)) (take (n - i) (drop i m)))
+  alike_cut i h = let e : i + (n - i) ≡ n = omega arith in rw e at (alike_parts l m i (n - i) (omega arith) (omega arith))
 
-  pub alike_shorter : (i : ℕ) → i ≤ n → alike s a b n ≡ true → alike s a b i ≡ true
-  alike_shorter i l t = (and_true (alike s a b i) (alike s (a + i) (b + i) (n - i)) (rw (← alike_cut i l) t)).0
+  pub alike_shorter : (i : ℕ) → i ≤ n → alike l m n ≡ true → alike l m i ≡ true
+  alike_shorter i h t = (and_true (alike l m i) (same_label (take (n - i) (drop i l)) (take (n - i) (drop i m))) (rw (← alike_cut i h) t)).0
 
-  pub unlike_longer : (i : ℕ) → i ≤ n → alike s a b i ≡ false → alike s a b n ≡ false
-  unlike_longer i l t = rw (alike_cut i l, t)
+  unlike_longer : (i : ℕ) → i ≤ n → alike l m i ≡ false → alike l m n ≡ false
+  unlike_longer i h t = rw (alike_cut i h, t)
 
   -- where the bytes before place i are the same, the fields x and y of the k bytes after it decide
-  pub alike_last : Bytes s → (i k x y : ℕ) → i + k ≡ n → alike s a b i ≡ true →
-      x ≡ bytes_at k s (a + i) → y ≡ bytes_at k s (b + i) → alike s a b n ≡ eqb x y
-  alike_last h i k x y z t e f =
-      rw (← z, alike_parts s a b i k (omega arith) (omega arith), t, e, f)
-      (alike_number s h k (a + i) (b + i) (omega arith) (omega arith))
+  pub alike_last : Bytes l → Bytes m → (i k x y : ℕ) → i + k ≡ n → alike l m i ≡ true →
+      x ≡ bytes_at k l i → y ≡ bytes_at k m i → alike l m n ≡ eqb x y
+  alike_last h j i k x y z t e f =
+      rw (← z, alike_parts l m i k (omega arith) (omega arith), t, e, f)
+      (alike_number l m h j k i (omega arith) (omega arith))
+
+-- two labels of one length
+module _ (l m : List ℕ) (same : length l ≡ length m) where
+  alike_whole : alike l m (length l) ≡ same_label l m
+  alike_whole = rw (take_all (length l) l (omega arith), take_all (length l) m (omega arith))
+
+  pub same_last : Bytes l → Bytes m → (i k x y : ℕ) → i + k ≡ length l → alike l m i ≡ true →
+      x ≡ bytes_at k l i → y ≡ bytes_at k m i → same_label l m ≡ eqb x y
+  same_last h j i k x y z t e f = sym alike_whole ∙ alike_last l m (length l) (omega arith) (omega arith) h j i k x y z t e f
+
+  pub same_unlike : (i : ℕ) → i ≤ length l → alike l m i ≡ false → same_label l m ≡ false
+  same_unlike i h t = sym alike_whole ∙ unlike_longer l m (length l) (omega arith) (omega arith) i h t
 
 -- labels of different lengths
 pub same_length : (l m : List ℕ) → (length l ≡ length m → ⊥) → same_label l m ≡ false

@@ -1,6 +1,6 @@
 -- The hashes of the labels that were read: a label whose hash was not seen was not used before. What a sheet is read as does
 -- not depend on how labels are hashed; no contract of reading a sheet names it.
-use Rattle.std.specs.Prelude.{ℕ, ◌+◌, ◌*◌, ◌%◌, ◌≤◌, ◌<◌, List, [], ◌∷◌, get_or, drop}
+use Rattle.std.specs.Prelude.{ℕ, ◌+◌, ◌*◌, ◌%◌, ◌<◌, ◌≡◌, Bool, true, false, List, [], ◌∷◌, get_or, drop}
 use Rattle.wire.specs.SheetFormat.{name_of}
 
 -- a label's hash is below it
@@ -15,10 +15,10 @@ hash_from h (x ∷ l) = hash_from ((h * 33 + x) % label_hashes) l
 unfoldable pub label_hash : List ℕ → ℕ
 label_hash l = hash_from 0 l
 
--- in the table `seen`, one number for each hash, the hash of the label of the name at an offset is seen
-abbrev pub Seen : List ℕ → List ℕ → ℕ → Type 0
-Seen s seen at = 1 ≤ get_or seen (label_hash (name_of (drop at s)).label) 0
+-- in the table `seen`, one entry for each hash, the hash of a label is seen
+abbrev pub Seen : List Bool → List ℕ → Type 0
+Seen seen l = get_or seen (label_hash l) false ≡ true
 
 -- so are those of the first n names, whose records stand at these offsets
-abbrev pub AllSeen : List ℕ → List ℕ → List ℕ → ℕ → Type 0
-AllSeen s seen offsets n = (i : ℕ) → i < n → Seen s seen (get_or offsets i 0)
+abbrev pub AllSeen : List ℕ → List Bool → List ℕ → ℕ → Type 0
+AllSeen s seen offsets n = (i : ℕ) → i < n → Seen seen (name_of (drop (get_or offsets i 0) s)).label

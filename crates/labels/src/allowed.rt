@@ -1,43 +1,21 @@
-// Which bytes a label may have, tested where it stands in the bytes of a sheet.
-ghost use Rattle.std.specs.Prelude.{◌≡◌, ◌<◌, ◌+◌, ◌≤◌, ◌&&◌, length, take, drop};
+// Which bytes a label may have.
+ghost use Rattle.std.specs.Prelude.{◌≡◌};
 ghost use Rattle.wire.specs.SheetFormat.{label_byte, label_bytes};
 
+#[tactic(auto, using(std::proofs::lemmas::Bool::Decides::nat_tests), unfolding(wire::specs::SheetFormat::label_byte))]
 fn label_byte(x: u8) -> bool
     ensures { result ≡ label_byte x }
 {
-    if x == 45 {
-        return true;
-    }
-    if x < 48 {
-        return false;
-    }
-    if x <= 57 {
-        return true;
-    }
-    if x < 65 {
-        return false;
-    }
-    x <= 90
+    matches!(x, b'A'..=b'Z' | b'0'..=b'9' | b'-')
 }
 
-fn both(a: bool, b: bool) -> bool
-    ensures { result ≡ (a && b) }
+// Whether these may be the bytes of a label. All are looked at: a loop that may end early is not done 16 bytes at a time.
+pub fn label_allowed(label: &[u8]) -> bool
+    ensures { result ≡ label_bytes label.now }
 {
-    if a {
-        return b;
-    }
-    false
-}
-
-// Whether the n bytes at an offset are bytes of a label. All are looked at: a loop that may end early is not done 16 bytes at a time.
-pub fn label_allowed(s: &[u8], at: usize, n: u16) -> bool
-    requires { at + n ≤ length s.now }
-    ensures { result ≡ label_bytes (take n (drop at s.now)) }
-{
-    let end = at + n as usize;
     let mut allowed = true;
-    for i in at..end {
-        allowed = both(allowed, label_byte(s[i]));
+    for x in label {
+        allowed &= label_byte(*x);
     }
     allowed
 }

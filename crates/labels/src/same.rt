@@ -1,65 +1,55 @@
-// Whether two labels are the same, compared where they stand in the bytes of a sheet.
-ghost use Rattle.std.specs.Prelude.{◌≡◌, ◌+◌, ◌≤◌, ◌<◌, length, take, drop};
-ghost use Rattle.wire.specs.SheetFormat.{same_label, name_of};
-ghost use Rattle.labels.specs.WholeName.{WholeName};
+// Whether two labels are the same.
+ghost use Rattle.std.specs.Prelude.{◌≡◌, ◌≤◌, length};
+ghost use Rattle.wire.specs.SheetFormat.{same_label};
 
 use wire::bytes;
 
-// whether the n bytes at two offsets are the same, by fields of eight bytes, the last of which ends at the last byte
-fn same_by_u64(s: &[u8], a: usize, b: usize, n: usize) -> bool
-    requires { (8 ≤ n) × ((a + n ≤ length s.now) × (b + n ≤ length s.now)) }
-    ensures { result ≡ same_label (take n (drop a s.now)) (take n (drop b s.now)) }
+// by fields of eight bytes, the last of which ends at the last byte
+fn same_by_u64(a: &[u8], b: &[u8]) -> bool
+    requires { (8 ≤ length a.now) × (length a.now ≡ length b.now) }
+    ensures { result ≡ same_label a.now b.now }
 {
-    let last = n - 8;
-    let mut i: usize = 0;
-    while i < last {
-        if bytes::u64_at(s, a + i) != bytes::u64_at(s, b + i) {
+    let last = a.len() - 8;
+    for i in (0..last).step_by(8) {
+        if bytes::u64_at(a, i) != bytes::u64_at(b, i) {
             return false;
         }
-        i = i + 8;
     }
-    bytes::u64_at(s, a + last) == bytes::u64_at(s, b + last)
+    bytes::u64_at(a, last) == bytes::u64_at(b, last)
 }
 
-// whether the n bytes at two offsets are the same, for four to eight bytes: the first four and the last four
-fn same_by_u32(s: &[u8], a: usize, b: usize, n: usize) -> bool
-    requires { (4 ≤ n) × ((n ≤ 8) × ((a + n ≤ length s.now) × (b + n ≤ length s.now))) }
-    ensures { result ≡ same_label (take n (drop a s.now)) (take n (drop b s.now)) }
+// by the first four bytes and the last four, which are all of at most eight
+fn same_by_u32(a: &[u8], b: &[u8]) -> bool
+    requires { (4 ≤ length a.now) × ((length a.now ≤ 8) × (length a.now ≡ length b.now)) }
+    ensures { result ≡ same_label a.now b.now }
 {
-    if bytes::u32_at(s, a) != bytes::u32_at(s, b) {
-        return false;
-    }
-    let last = n - 4;
-    bytes::u32_at(s, a + last) == bytes::u32_at(s, b + last)
+    let last = a.len() - 4;
+    bytes::u32_at(a, 0) == bytes::u32_at(b, 0) && bytes::u32_at(a, last) == bytes::u32_at(b, last)
 }
 
-// whether the n bytes at two offsets are the same, for any n: by fields of eight bytes, of four, or byte by byte
-fn same_bytes(s: &[u8], a: usize, b: usize, n: usize) -> bool
-    requires { (a + n ≤ length s.now) × (b + n ≤ length s.now) }
-    ensures { result ≡ same_label (take n (drop a s.now)) (take n (drop b s.now)) }
+// byte by byte
+fn same_by_bytes(a: &[u8], b: &[u8]) -> bool
+    requires { length a.now ≡ length b.now }
+    ensures { result ≡ same_label a.now b.now }
 {
-    if 8 <= n {
-        return same_by_u64(s, a, b, n);
-    }
-    if 4 <= n {
-        return same_by_u32(s, a, b, n);
-    }
-    for i in 0..n {
-        if s[a + i] != s[b + i] {
+    for (x, y) in a.iter().zip(b) {
+        if x != y {
             return false;
         }
     }
     true
 }
 
-// whether the names whose records stand at two offsets have one label
-pub fn same_label(s: &[u8], a: usize, b: usize) -> bool
-    requires { WholeName s.now a × WholeName s.now b }
-    ensures { result ≡ same_label (name_of (drop a s.now)).label (name_of (drop b s.now)).label }
+// Labels of one length are compared by the widest fields that they have.
+pub fn same_label(a: &[u8], b: &[u8]) -> bool
+    ensures { result ≡ same_label a.now b.now }
 {
-    let n = bytes::u16_at(s, a);
-    if bytes::u16_at(s, b) != n {
+    if a.len() != b.len() {
         return false;
     }
-    same_bytes(s, a + 6, b + 6, n as usize - 4)
+    match a.len() {
+        0..=3 => same_by_bytes(a, b),
+        4..=7 => same_by_u32(a, b),
+        _ => same_by_u64(a, b),
+    }
 }

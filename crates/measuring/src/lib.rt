@@ -1,5 +1,5 @@
 // Measuring: the intervals of every group from the leaves up, with those of its later brothers joined, and whether some sets fit.
-// `links` has the sons of a group as a chain, `pairs` the table of intervals, `measure` (`specs/Done`) the recursion over the tree, under flags
+// `links` has the sons of a group as a chain, `pairs` the tables of intervals, `measure` (`specs/Done`) the recursion over the tree, under flags
 // (`specs/Tables`), `fitting` the question. Document 01, "Ranges" and refusal 8.
 #![tactic(auto)]
 

@@ -1,47 +1,65 @@
-// The sons of a group as a chain: `last` has the last son of each group, `prev` the brother before each group; 0 for none.
-ghost use Rattle.std.specs.Prelude.{◌≡◌, ◌≤◌, ◌<◌, length};
-ghost use Rattle.tables.specs.SheetIn.{sheet_in, Tabled};
-ghost use Rattle.measuring.specs.Links.{link_in, Linked, Links};
+// The sons of each group as a chain, from the last one to the first.
+ghost use Rattle.std.specs.Prelude.{◌≡◌, ◌≤◌, ◌<◌, replicate, None};
+ghost use Rattle.wire.specs.Capacity.{group_capacity};
+ghost use Rattle.tables.specs.SheetIn.{sheet_in};
+ghost use Rattle.measuring.specs.Links.{link_in, Linked, Chained};
 
-use tables::groups::{GroupNo, parent_of};
+use tables::groups::{GroupNo, Groups};
+use tables::limits::GROUP_CAPACITY;
 
-// the group's link in the table; none for the group numbered 0
-pub fn link_at(t: &[u16], g: GroupNo) -> GroupNo
-    requires { g.0 ≤ length t.now }
-    ensures { result.0 ≡ link_in t.now g.0 }
-{
-    let i = g.0 as usize;
-    if i == 0 {
-        return GroupNo(0);
-    }
-    GroupNo(t[i - 1])
+// The last son of each group, and the brother before each group.
+#[derive(Drop)]
+pub struct Links {
+    last: [Option<GroupNo>; GROUP_CAPACITY],
+    prev: [Option<GroupNo>; GROUP_CAPACITY],
 }
 
-// Group g, without sons so far, becomes the last son of p, unless p is 0.
-fn link_one(last: &mut [u16], prev: &mut [u16], g: GroupNo, p: GroupNo)
-    requires { (p.0 < g.0) × (g.0 ≤ length last.old) × (g.0 ≤ length prev.old) }
-    ensures { Linked last.old prev.old g.0 p.0 last.new prev.new }
-{
-    let i = g.0 as usize;
-    let j = p.0 as usize;
-    last[i - 1] = 0;
-    if j == 0 {
-        prev[i - 1] = 0;
-        return;
+impl Links {
+    // no group has a son
+    pub fn new() -> Links
+        ensures { (result.last ≡ replicate group_capacity None) × (result.prev ≡ replicate group_capacity None) }
+    {
+        Links {
+            last: [None; GROUP_CAPACITY],
+            prev: [None; GROUP_CAPACITY],
+        }
     }
-    prev[i - 1] = last[j - 1];
-    last[j - 1] = g.0;
-}
 
-// Links the sons of all groups.
-pub fn link_sons(groups: &[u16], size: u16, last: &mut [u16], prev: &mut [u16])
-    requires { Tabled groups.now size × (size ≤ length last.old) × (size ≤ length prev.old) }
-    ensures { Links (sheet_in groups.now size) last.new prev.new size }
-{
-    let mut n: u16 = 0;
-    while n < size {
-        n += 1;
-        let p = parent_of(groups, GroupNo(n));
-        link_one(last, prev, GroupNo(n), p);
+    // Links the sons of all groups. They are linked where they lie, since a table that is handed out is copied.
+    pub fn link_sons(&mut self, groups: &Groups)
+        ensures { let s = sheet_in groups.now.table groups.now.size in Chained s self.new.last self.new.prev s.size }
+    {
+        self.last[0] = None;
+        self.prev[0] = None;
+        for n in 2..=groups.size {
+            let son = GroupNo(n);
+            self.link(son, groups.parent(son));
+        }
+    }
+
+    // Group g, without sons so far, becomes the last son of its parent.
+    fn link(&mut self, g: GroupNo, parent: GroupNo)
+        requires { (1 ≤ parent.0) × (parent.0 < g.0) × (g.0 ≤ group_capacity) }
+        ensures { Linked self.old.last self.old.prev g.0 parent.0 self.new.last self.new.prev }
+    {
+        self.last[g.index()] = None;
+        self.prev[g.index()] = self.last[parent.index()];
+        self.last[parent.index()] = Some(g);
+    }
+
+    // the last son of a group
+    pub fn last(&self, g: GroupNo) -> Option<GroupNo>
+        requires { (1 ≤ g.0) × (g.0 ≤ group_capacity) }
+        ensures { result ≡ link_in self.now.last g.0 }
+    {
+        self.last[g.index()]
+    }
+
+    // the son before another one
+    pub fn before(&self, g: GroupNo) -> Option<GroupNo>
+        requires { (1 ≤ g.0) × (g.0 ≤ group_capacity) }
+        ensures { result ≡ link_in self.now.prev g.0 }
+    {
+        self.prev[g.index()]
     }
 }

@@ -1,152 +1,103 @@
 // A group is measured from its sons, and the sons, one after another, from their own. The chain of calls follows the tree
 // down: at most two frames for each group on the way.
-ghost use Rattle.std.specs.Prelude.{◌≡◌, ◌*◌, ◌≤◌, ◌-◌, length, get_or};
+ghost use Rattle.std.specs.Prelude.{◌≡◌, ◌≤◌, length};
 ghost use Rattle.meaning.specs.Sheet.{Group};
-ghost use Rattle.tables.specs.Groups.{group_fields};
 ghost use Rattle.tables.specs.SheetIn.{sheet_in};
-ghost use Rattle.spans.specs.Held.{pair_of, AlikeBoth, RoomBoth};
-ghost use Rattle.measuring.specs.Done.{Readable, Lent, Done, Spanned, Long, AllDone};
-ghost use Rattle.measuring.specs.Links.{Links};
-ghost use Rattle.measuring.specs.Tables.{shut_by, may_in, spans_in};
+ghost use Rattle.spans.specs.Held.{pair_of, AlikeBoth};
+ghost use Rattle.measuring.specs.Done.{Done, Spanned, AllDone};
+ghost use Rattle.measuring.specs.Links.{Chained};
+ghost use Rattle.measuring.specs.Tables.{may_in, spans_in};
 ghost use Rattle.sizes.specs.Fold as fold;
-ghost use Rattle.sizes.specs.Span as sizes;
 
-use crate::links::{link_at, link_sons};
-use crate::pairs::{pair_at, put_pair};
-use spans::kind::kind_of;
-use spans::pair::{Pair, join_pairs, meet_pairs, own_pair, start};
-use tables::groups::{GroupNo, hi_of, lo_of, mode_of};
-use tables::modes::{is_cover, is_disjoint, is_same};
+use crate::links::Links;
+use crate::pairs::Measured;
+use spans::kind::Kind;
+use spans::may::May;
+use spans::pair::Pair;
+use tables::groups::{GroupNo, Groups};
 
-// whether the sons alone must make up a group of this mode, with its last son and the one before that, 0 for none
-fn is_shut(mode: u16, son: u16, other: u16) -> bool
-    ensures { result ≡ shut_by mode son other }
+// What measuring reads: the groups, where one member may be in each, and the chains of their sons.
+#[derive(Clone, Copy)]
+struct Reading<'a> {
+    groups: &'a Groups,
+    flags: &'a [May],
+    links: &'a Links,
+    ghost flagged: { groups.now.size ≤ length flags.now },
+    ghost chained: { let s = sheet_in groups.now.table groups.now.size in Chained s links.now.last links.now.prev s.size },
+}
+
+// whether the sons alone must make up a group
+fn is_shut(reading: &Reading, g: GroupNo) -> bool
+    requires { Group (sheet_in reading.now.groups.now.table reading.now.groups.now.size) g.0 }
+    ensures { result ≡ fold.shut (sheet_in reading.now.groups.now.table reading.now.groups.now.size) g.0 }
 {
-    if is_same(mode) {
-        if son != 0 {
-            if other != 0 {
-                return is_disjoint(mode);
-            }
-            return false;
-        }
+    let mode = reading.groups.get(g).mode;
+    match reading.links.last(g) {
+        // sons that are the same make it up by themselves; where two of them are disjoint too, nobody is left
+        Some(son) if mode.is_same() => { reading.links.before(son).is_some() && mode.is_disjoint() }
+        _ => mode.is_cover(),
     }
-    is_cover(mode)
 }
 
-// the intervals of a group before any son is joined
-fn start_of(groups: &[u16], size: u16, last: &[u16], prev: &[u16], g: GroupNo) -> Pair
-    requires size_in_bounds { (group_fields * size ≤ length groups.now) × (size ≤ length last.now) × (size ≤ length prev.now) }
-    requires group { Group (sheet_in groups.now size) g.0 }
-    requires links { Links (sheet_in groups.now size) last.now prev.now size }
-    ensures { AlikeBoth (pair_of result) (fold.start (fold.shut (sheet_in groups.now size) g.0)) }
+// a group's own bounds, where its flag allows them
+fn own_of(reading: &Reading, g: GroupNo) -> Pair
+    requires { Group (sheet_in reading.now.groups.now.table reading.now.groups.now.size) g.0 }
+    ensures { let s = sheet_in reading.now.groups.now.table reading.now.groups.now.size in
+        AlikeBoth (pair_of result) (fold.own s (may_in reading.now.flags.now) g.0) }
 {
-    let son = link_at(last, g);
-    let other = link_at(prev, son);
-    start(is_shut(mode_of(groups, g), son.0, other.0))
-}
-
-fn flag_at(flags: &[u8], g: GroupNo) -> u8
-    requires { (1 ≤ g.0) × (g.0 ≤ length flags.now) }
-    ensures { result ≡ get_or flags.now (g.0 - 1) 0 }
-{
-    let i = g.0 as usize;
-    flags[i - 1]
-}
-
-// What the sons leave, met with the group's own bounds.
-fn finish(groups: &[u16], size: u16, flags: &[u8], below: Pair, g: GroupNo) -> Pair
-    requires size_in_bounds { (group_fields * size ≤ length groups.now) × (size ≤ length flags.now) }
-    requires group { Group (sheet_in groups.now size) g.0 }
-    ensures { AlikeBoth (pair_of result) (λ c. sizes.meet (pair_of below c)
-        (fold.own (sheet_in groups.now size) (may_in flags.now) g.0 c)) }
-{
-    meet_pairs(
-        below,
-        own_pair(lo_of(groups, g), hi_of(groups, g), flag_at(flags, g)),
-    )
-}
-
-// One more son of g, with intervals z, joined to the sons after it.
-fn join_son(groups: &[u16], size: u16, g: GroupNo, sum: Pair, z: Pair) -> Pair
-    requires size_in_bounds { group_fields * size ≤ length groups.now }
-    requires group { Group (sheet_in groups.now size) g.0 }
-    requires room_both { RoomBoth (pair_of sum) × RoomBoth (pair_of z) }
-    ensures { AlikeBoth (pair_of result)
-        (fold.joined (fold.join_kind (sheet_in groups.now size) g.0) (pair_of sum) (pair_of z)) }
-{
-    join_pairs(kind_of(mode_of(groups, g)), sum, z)
+    let group = reading.groups.get(g);
+    Pair::own(group.lo, group.hi, reading.flags[g.index()])
 }
 
 // Measures group g and all groups below it.
 #[cycle(measure_group_measure_sons)]
-fn measure_group(
-    groups: &[u16],
-    size: u16,
-    flags: &[u8],
-    last: &[u16],
-    prev: &[u16],
-    spans: &mut [u32],
-    after: &mut [u32],
-    g: GroupNo,
-)
-    requires readable { Readable groups.now size flags.now last.now prev.now }
-    requires lent { Lent size spans.old after.old }
-    requires group { Group (sheet_in groups.now size) g.0 }
-    ensures done { Done (sheet_in groups.now size) (spans_in groups.now size flags.now)
-        g.0 0 spans.old after.old spans.new after.new }
-    ensures spanned { Spanned (spans_in groups.now size flags.now) spans.new g.0 }
+fn measure_group(reading: &Reading, measured: &mut Measured, g: GroupNo)
+    requires { Group (sheet_in reading.now.groups.now.table reading.now.groups.now.size) g.0 }
+    ensures done { let s = sheet_in reading.now.groups.now.table reading.now.groups.now.size in
+        Done s (fold.spans_of s (may_in reading.now.flags.now)) g.0 0
+        measured.old.spans measured.old.after measured.new.spans measured.new.after }
+    ensures spanned { let s = sheet_in reading.now.groups.now.table reading.now.groups.now.size in
+        Spanned (fold.spans_of s (may_in reading.now.flags.now)) measured.new.spans g.0 }
 {
-    let below = measure_sons(groups, size, flags, last, prev, spans, after, g);
-    put_pair(spans, g, finish(groups, size, flags, below, g));
+    let below = measure_sons(reading, measured, g);
+    measured.spans[g.index()] = below.meet(own_of(reading, g));
 }
 
 // Measures the sons of g from the last one to the first, with all groups below them, and joins them. With each son the
 // intervals of the sons after it are kept.
 #[cycle(measure_group_measure_sons)]
-fn measure_sons(
-    groups: &[u16],
-    size: u16,
-    flags: &[u8],
-    last: &[u16],
-    prev: &[u16],
-    spans: &mut [u32],
-    after: &mut [u32],
-    g: GroupNo,
-) -> Pair
-    requires readable { Readable groups.now size flags.now last.now prev.now }
-    requires lent { Lent size spans.old after.old }
-    requires group { Group (sheet_in groups.now size) g.0 }
-    ensures done { Done (sheet_in groups.now size) (spans_in groups.now size flags.now)
-        g.0 0 spans.old after.old spans.new after.new }
-    ensures alike_both { AlikeBoth (pair_of result) (fold.later (sheet_in groups.now size)
-        (spans_in groups.now size flags.now) g.0 size) }
+fn measure_sons(reading: &Reading, measured: &mut Measured, g: GroupNo) -> Pair
+    requires { Group (sheet_in reading.now.groups.now.table reading.now.groups.now.size) g.0 }
+    ensures done { let s = sheet_in reading.now.groups.now.table reading.now.groups.now.size in
+        Done s (fold.spans_of s (may_in reading.now.flags.now)) g.0 0
+        measured.old.spans measured.old.after measured.new.spans measured.new.after }
+    ensures joined { let s = sheet_in reading.now.groups.now.table reading.now.groups.now.size in
+        AlikeBoth (pair_of result) (fold.later s (fold.spans_of s (may_in reading.now.flags.now)) g.0 s.size) }
 {
-    let mut sum = start_of(groups, size, last, prev, g);
-    let mut i = link_at(last, g);
-    while i.0 != 0 {
-        measure_group(groups, size, flags, last, prev, spans, after, i);
-        put_pair(after, i, sum);
-        sum = join_son(groups, size, g, sum, pair_at(spans, i));
-        i = link_at(prev, i);
+    let kind = Kind::of(reading.groups.get(g).mode);
+    let mut sum = Pair::start(is_shut(reading, g));
+    let mut next = reading.links.last(g);
+    while let Some(son) = next {
+        measure_group(reading, measured, son);
+        measured.after[son.index()] = sum;
+        sum = sum.join(measured.spans[son.index()], kind);
+        next = reading.links.before(son);
     }
     sum
 }
 
 // Measures all groups of a sheet.
-pub fn measure_sheet(
-    groups: &[u16],
-    size: u16,
-    flags: &[u8],
-    last: &mut [u16],
-    prev: &mut [u16],
-    spans: &mut [u32],
-    after: &mut [u32],
-)
-    requires long { Long groups.now size flags.now last.old prev.old }
-    requires lent { Lent size spans.old after.old }
-    ensures { AllDone (sheet_in groups.now size) (spans_in groups.now size flags.now)
-        spans.new after.new }
+pub fn measure_sheet(groups: &Groups, flags: &[May], measured: &mut Measured)
+    requires { groups.now.size ≤ length flags.now }
+    ensures { AllDone (sheet_in groups.now.table groups.now.size) (spans_in groups.now.table groups.now.size flags.now)
+        measured.new.spans measured.new.after }
 {
-    link_sons(groups, size, last, prev);
-    measure_group(groups, size, flags, last, prev, spans, after, GroupNo(1));
+    let mut links = Links::new();
+    links.link_sons(groups);
+    let reading = Reading {
+        groups,
+        flags,
+        links: &links,
+    };
+    measure_group(&reading, measured, GroupNo(1));
 }

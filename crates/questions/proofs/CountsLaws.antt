@@ -1,7 +1,11 @@
 -- Laws of counts asked for between two ends: the sheet with narrowed bounds, and what sets that fit it show of the claim.
-use Prim.Native.Nat.{ℕ, suc, ◌≤◌, ◌+◌, ◌<◌, min, ◌-◌, ◌*◌, max}
-use mathlib.Core.Path.{refl, ◌≡◌, sym, ap, ◌∙◌}
-use mathlib.Core.Bool.{Bool, cond, true≢false, false, true}
+use Prim.Native.Nat.{ℕ, suc, ◌≤◌, ◌+◌, ◌<◌, min, ◌-◌, max}
+use mathlib.Core.Path.{refl, ◌≡◌, sym, ap, subst, ◌∙◌}
+use Rattle.std.proofs.Props.{props}
+use Rattle.std.proofs.lemmas.List.{get_or_default}
+use Rattle.tables.specs.declared.table.Groups.{Groups}
+use mathlib.Core.Bool.{Bool, cond, true≢false, false, true, not}
+use lib.Dec.{eqb}
 use mathlib.Core.List.{List, []}
 use mathlib.Core.Logic.{◌⊎◌, inl, inr, ⊎_elim}
 use native.Mathlib.Omega.{arith}
@@ -13,7 +17,7 @@ use Rattle.laws.specs.Sum.{sum, bit}
 use Rattle.laws.proofs.Cases.{split, compare_eq}
 use Rattle.laws.proofs.SumLaws.{sum_eq}
 use Rattle.wire.specs.Limits.{no_end}
-use Rattle.meaning.specs.Sheet.{Sheet, Group, Son, fin, end_of, Top, AtMost}
+use Rattle.meaning.specs.Sheet.{Sheet, Group, Son, fin, end_of, Top}
 use Rattle.meaning.specs.Tree.{Tree, Rooted}
 use Rattle.meaning.specs.Sons.{only, is_son, sons}
 use Rattle.meaning.specs.Claim.{counted}
@@ -24,10 +28,14 @@ use Rattle.sizes.specs.Span.{smaller}
 use Rattle.sizes.specs.ClaimsPlace.{is_in}
 use Rattle.sizes.proofs.RunsLaws.{above_runs}
 use Rattle.sizes.proofs.Possible.{nowhere, sizes_choice, possible}
-use Rattle.sizes.proofs.Rebound.{rebound, tree_rebound, rooted_rebound}
+use Rattle.sizes.proofs.Rebound.{rebound, group_rebound, tree_rebound, rooted_rebound}
 use Rattle.sizes.proofs.ClaimsPlaceLaws.{place_in, place_choice}
 use Rattle.sizes.proofs.ClaimsCount.{narrow_hi, narrow_lo, narrow_hi_sizes, narrow_lo_sizes, narrow_hi_choice, narrow_lo_choice}
 use Rattle.sizes.proofs.ClaimsMathLaws.{breakable_empty, empty_breaks, shown_breaks_count, breakable_size}
+use Rattle.tables.specs.declared.groups.Group.{Group as TableGroup}
+use Rattle.tables.specs.Entry.{no_group}
+use Rattle.tables.specs.Names.{meant_number}
+use Rattle.tables.specs.Groups.{group_in}
 use Rattle.tables.specs.Modes.{disjoint_mode, cover_mode, same_mode}
 use Rattle.tables.specs.SheetIn.{Tabled, sheet_in}
 use Rattle.tables.specs.Numbers.{number_in}
@@ -169,114 +177,141 @@ end_smaller h k l =
     (λ e. let o : min h k ≡ k = omega arith in rw (ne_eqb (min h k) no_end n, e) (ap fin (rw e at o)))
     (λ o. rw (ne_eqb (min h k) no_end n, ne_eqb h no_end o))
 
-module _ (t : List ℕ) (n g : ℕ) (a : 1 ≤ g) (b : g ≤ n) (l : 4 * n ≤ length t) where
-  -- a bound of g stored (lo is field 1 of its record, hi field 2): the sheet with other bounds
-  stored : (j x : ℕ) (L : ℕ → ℕ) (H : ℕ → Top) → 1 ≤ j → j ≤ 2
-      → ((h : ℕ) → Group (sheet_in t n) h → get_or (set t (4 * (g - 1) + j) x) (4 * (h - 1) + 1) 0 ≡ L h)
-      → ((h : ℕ) → Group (sheet_in t n) h → end_of no_end (get_or (set t (4 * (g - 1) + j) x) (4 * (h - 1) + 2) 0) ≡ H h)
-      → Same (sheet_in (set t (4 * (g - 1) + j) x) n) (rebound (sheet_in t n) L H)
-  stored j x L H low high lo hi =
-      let u : List ℕ = set t (4 * (g - 1) + j) x in
+same_itself : (s : Sheet) → Same s s
+same_itself s = record {
+  size = refl;
+  parent = λ g q. refl;
+  lo = λ g q. refl;
+  hi = λ g q. refl;
+  disjoint = λ g q. refl;
+  cover = λ g q. refl;
+  same = λ g q. refl;
+}
+
+-- An entry x stored for group g, with the parent and the mode that g has: the sheet with other bounds.
+module _ (t : List TableGroup) (n g : ℕ) (a : 1 ≤ g) (b : g ≤ n) (l : n ≤ length t) (x : TableGroup)
+    (p : x.parent ≡ (get_or t (g - 1) no_group).parent) (m : x.mode ≡ (get_or t (g - 1) no_group).mode) where
+  abbrev u : List TableGroup
+  u = set t (g - 1) x
+
+  here : get_or u (g - 1) no_group ≡ x
+  here = get_or-set_same t (g - 1) x no_group (omega arith)
+
+  other : (h : ℕ) → 1 ≤ h → (h ≡ g → ⊥) → get_or u (h - 1) no_group ≡ get_or t (h - 1) no_group
+  other h c o = get_or-set_other t (g - 1) (h - 1) x no_group (λ e. o (omega arith))
+
+  kept : {A : Type 0} (f : TableGroup → A) → f x ≡ f (get_or t (g - 1) no_group) → (h : ℕ) → 1 ≤ h
+      → f (get_or u (h - 1) no_group) ≡ f (get_or t (h - 1) no_group)
+  kept f e h c = compare_eq h g (λ o. rw o (ap f here ∙ e)) (λ o. ap f (other h c o))
+
+  stored : (L : ℕ → ℕ) (H : ℕ → Top) → ((h : ℕ) → Group (sheet_in t n) h → (group_in u (h - 1)).lo ≡ L h)
+      → ((h : ℕ) → Group (sheet_in t n) h → end_of no_end (group_in u (h - 1)).hi ≡ H h)
+      → Same (sheet_in u n) (rebound (sheet_in t n) L H)
+  stored L H lo hi =
       let back : (h : ℕ) → Group (sheet_in u n) h → Group (sheet_in t n) h =
       λ h q. group_in_law t n q.first (omega (arith, q.last, size_in u n)) in
-      let mode : (h : ℕ) → get_or u (4 * (h - 1) + 3) 0 ≡ get_or t (4 * (h - 1) + 3) 0 =
-      λ h. get_or-set_other t (4 * (g - 1) + j) (4 * (h - 1) + 3) x 0 (λ e. omega arith) in
+      let mode : (h : ℕ) → 1 ≤ h → (group_in u (h - 1)).mode ≡ (group_in t (h - 1)).mode =
+      kept (λ y. y.mode.0) (ap (λ y. y.0) m) in
       record {
         size = size_in u n ∙ sym (size_in t n);
-        parent = λ h q. parent_in_law u n h q
-            ∙ get_or-set_other t (4 * (g - 1) + j) (4 * (h - 1)) x 0 (λ e. omega arith)
+        parent = λ h q. parent_in_law u n h q ∙ kept (λ y. meant_number y.parent) (ap meant_number p) h q.first
             ∙ sym (parent_in_law t n h (back h q));
         lo = λ h q. lo_in_law u n h q ∙ lo h (back h q);
         hi = λ h q. hi_in_law u n h q ∙ hi h (back h q);
-        disjoint = λ h q. disjoint_in u n h q ∙ ap disjoint_mode (mode h) ∙ sym (disjoint_in t n h (back h q));
-        cover = λ h q. cover_in u n h q ∙ ap cover_mode (mode h) ∙ sym (cover_in t n h (back h q));
-        same = λ h q. same_in u n h q ∙ ap same_mode (mode h) ∙ sym (same_in t n h (back h q));
+        disjoint = λ h q. disjoint_in u n h q ∙ ap disjoint_mode (mode h q.first) ∙ sym (disjoint_in t n h (back h q));
+        cover = λ h q. cover_in u n h q ∙ ap cover_mode (mode h q.first) ∙ sym (cover_in t n h (back h q));
+        same = λ h q. same_in u n h q ∙ ap same_mode (mode h q.first) ∙ sym (same_in t n h (back h q));
       }
 
-  here : Group (sheet_in t n) g
-  here = group_in_law t n a b
-
-  pub same_hi : (k : ℕ) → k < no_end
-      → Same (sheet_in (set t (4 * (g - 1) + 2) (min (get_or t (4 * (g - 1) + 2) 0) k)) n) (narrow_hi (sheet_in t n) g k)
-  same_hi k o =
-      let i : ℕ = 4 * (g - 1) + 2 in
-      let x : ℕ = min (get_or t (4 * (g - 1) + 2) 0) k in
-      stored 2 x _ _ (omega arith) (omega arith)
-      (λ h q. get_or-set_other t i (4 * (h - 1) + 1) x 0 (λ e. omega arith) ∙ sym (lo_in_law t n h q))
-      (λ h q. compare_eq h g
-      (λ e. rw (e, eq-eqb g g refl)
-      (ap (end_of no_end) (get_or-set_same t i x 0 (omega arith)) ∙ end_smaller (get_or t i 0) k o
-      ∙ ap (λ z. smaller z (fin k)) (sym (hi_in_law t n g here))))
-      (λ m. rw (ne_eqb h g m)
-      (ap (end_of no_end) (get_or-set_other t i (4 * (h - 1) + 2) x 0 (λ e. m (omega (arith, q.first)))) ∙ sym (hi_in_law t n h q))))
-
-  pub same_lo : (k : ℕ)
-      → Same (sheet_in (set t (4 * (g - 1) + 1) (max (get_or t (4 * (g - 1) + 1) 0) k)) n) (narrow_lo (sheet_in t n) g k)
-  same_lo k =
-      let i : ℕ = 4 * (g - 1) + 1 in
-      let x : ℕ = max (get_or t (4 * (g - 1) + 1) 0) k in
-      stored 1 x _ _ (omega arith) (omega arith)
-      (λ h q. compare_eq h g
-      (λ e. rw (e, eq-eqb g g refl) (get_or-set_same t i x 0 (omega arith) ∙ ap (λ z. max z k) (sym (lo_in_law t n g here))))
-      (λ m. rw (ne_eqb h g m)
-      (get_or-set_other t i (4 * (h - 1) + 1) x 0 (λ e. m (omega (arith, q.first))) ∙ sym (lo_in_law t n h q))))
-      (λ h q. ap (end_of no_end) (get_or-set_other t i (4 * (h - 1) + 2) x 0 (λ e. omega arith)) ∙ sym (hi_in_law t n h q))
-
-  -- what the table with one bound narrowed says of the sheet
-  least_sized : {Q : (ℕ → ℕ) → Type 0} {sizes marks : List ℕ} {x : Bool} (k : ℕ)
-      → Sized (sheet_in (set t (4 * (g - 1) + 1) (max (get_or t (4 * (g - 1) + 1) 0) k)) n) Q sizes marks x
-      → Sized (sheet_in t n) (λ f. (k ≤ f g) × Q f) sizes marks x
-  least_sized k z =
-      sized_narrow (same_lo k) (size_in t n ∙ sym (size_in _ n)) (λ may f M c. (narrow_lo_choice g k here).0 c)
-      (λ f y p. (narrow_lo_sizes g k here).1 (y, p)) z
-
-  most_sized : {Q : (ℕ → ℕ) → Type 0} {sizes marks : List ℕ} {x : Bool} (k : ℕ) → get_or t (4 * (g - 1) + 2) 0 ≤ no_end
-      → k ≤ no_end → Sized (sheet_in (set t (4 * (g - 1) + 2) (min (get_or t (4 * (g - 1) + 2) 0) k)) n) Q sizes marks x
-      → Sized (sheet_in t n) (λ f. AtMost (f g) (end_of no_end k) × Q f) sizes marks x
-  unfolding end_of
-  most_sized k h o z =
-      compare_eq k no_end
-      (λ e. let m : min (get_or t (4 * (g - 1) + 2) 0) k ≡ get_or t (4 * (g - 1) + 2) 0 = omega arith in
-      rw e
-      (witnessed_as (λ y. (y.0, (tt, y.1))) (λ y. (y.0, y.1, y.2.1)) (rw (m, set-get_or t (4 * (g - 1) + 2) 0) at z)))
-      (λ m. rw (ne_eqb k no_end m)
-      (sized_narrow (same_hi k (omega arith)) (size_in t n ∙ sym (size_in _ n)) (λ may f M c. (narrow_hi_choice g k here).0 c)
-      (λ f y p. (narrow_hi_sizes g k here).1 (y, p)) z))
-
-  -- the table with another bound is that of a tree
-  pub tabled_stored : {u : List ℕ} (j x : ℕ) → 1 ≤ j → j ≤ 2 → u ≡ set t (4 * (g - 1) + j) x → Tabled t n → Tabled u n
-  unfolding sheet_in
-  tabled_stored j x low high e v =
-      let u : List ℕ = set t (4 * (g - 1) + j) x in
-      let L : ℕ → ℕ = λ h. get_or u (4 * (h - 1) + 1) 0 in
-      let H : ℕ → Top = λ h. end_of no_end (get_or u (4 * (h - 1) + 2) 0) in
-      let w = same_turned (stored j x L H low high (λ h q. refl) (λ h q. refl)) in
-      rw e
-      (record {
+  -- the table is that of a tree
+  tabled_stored : Tabled t n → Tabled u n
+  tabled_stored v =
+      let L : ℕ → ℕ = λ h. (group_in u (h - 1)).lo in
+      let H : ℕ → Top = λ h. end_of no_end (group_in u (h - 1)).hi in
+      let w = same_turned (stored L H (λ h q. refl) (λ h q. refl)) in
+      record {
         some = v.some;
         small = v.small;
-        long = omega (arith, v.long, length-set t (4 * (g - 1) + j) x);
+        long = omega (arith, v.long, length-set t (g - 1) x);
         tree = tree_same w (tree_rebound (sheet_in t n) _ L _ H v.tree);
         rooted = rooted_same w (rooted_rebound (sheet_in t n) _ L _ H v.rooted);
-      })
+      }
 
--- both bounds narrowed
-pub between_sized : {u v sizes marks : List ℕ} {x : Bool} (t : List ℕ) (n g lo hi : ℕ) → 1 ≤ g → g ≤ n → 4 * n ≤ length t
-    → 4 * n ≤ length u
-    → u ≡ set t (4 * (g - 1) + 1) (max (get_or t (4 * (g - 1) + 1) 0) lo)
-    → v ≡ set u (4 * (g - 1) + 2) (min (get_or u (4 * (g - 1) + 2) 0) hi) → get_or u (4 * (g - 1) + 2) 0 ≤ no_end → hi ≤ no_end
-    → Sized (sheet_in v n) Any sizes marks x → Sized (sheet_in t n) (Between g lo (end_of no_end hi)) sizes marks x
-between_sized {u} t n g lo hi a b l m e o h k z =
-    witnessed_as
-    (λ y. (y.0, (y.1.0, y.1.1.0)))
-    (λ y. (y.0, y.1, (y.2.0, (y.2.1, tt))))
-    (least_sized t n g a b l lo (rw e at (most_sized u n g a b m hi h k (rw o at z))))
+  own : Group (sheet_in t n) g
+  own = group_in_law t n a b
 
--- two places of a table stored over, and stored back
-pub stored_back : {u v w z : List ℕ} {p q : ℕ} (t : List ℕ) (i j x y : ℕ) → u ≡ set t i x → v ≡ set u j y → p ≡ get_or t i 0
-    → q ≡ get_or u j 0 → w ≡ set v j q → z ≡ set w i p → z ≡ t
-stored_back {u} t i j x y e o h k f d =
-    d ∙ rw (f, o, k, set-set u j y _, set-get_or u j 0, e, h) (set-set t i x _ ∙ set-get_or t i 0)
+  low : (k : ℕ) → x.lo ≡ max (get_or t (g - 1) no_group).lo k → (h : ℕ) → Group (sheet_in t n) h
+      → (group_in u (h - 1)).lo ≡ (narrow_lo (sheet_in t n) g k).lo h
+  low k e h q =
+      compare_eq h g
+      (λ o. rw (o, eq-eqb g g refl) (ap (λ y. y.lo) here ∙ e ∙ ap (λ z. max z k) (sym (lo_in_law t n g own))))
+      (λ o. rw (ne_eqb h g o) (ap (λ y. y.lo) (other h q.first o) ∙ sym (lo_in_law t n h q)))
+
+  high : (k : ℕ) → x.hi ≡ min (get_or t (g - 1) no_group).hi k → k < no_end → (h : ℕ) → Group (sheet_in t n) h
+      → end_of no_end (group_in u (h - 1)).hi ≡ (narrow_hi (sheet_in t n) g k).hi h
+  high k e c h q =
+      compare_eq h g
+      (λ o. rw (o, eq-eqb g g refl)
+      (ap (λ y. end_of no_end y.hi) here ∙ ap (end_of no_end) e ∙ end_smaller (get_or t (g - 1) no_group).hi k c
+      ∙ ap (λ z. smaller z (fin k)) (sym (hi_in_law t n g own))))
+      (λ o. rw (ne_eqb h g o) (ap (λ y. end_of no_end y.hi) (other h q.first o) ∙ sym (hi_in_law t n h q)))
+
+  endless : (k : ℕ) → x.hi ≡ min (get_or t (g - 1) no_group).hi k → k ≡ no_end → (h : ℕ) → Group (sheet_in t n) h
+      → end_of no_end (group_in u (h - 1)).hi ≡ (sheet_in t n).hi h
+  endless k e c h q =
+      let most = (get_or t (g - 1) no_group).bounded.1 in
+      ap (end_of no_end) (kept (λ y. y.hi) (omega arith) h q.first) ∙ sym (hi_in_law t n h q)
+
+  -- both bounds narrowed
+  between_sized : {sizes marks : List ℕ} {r : Bool} (lo hi : ℕ) → x.lo ≡ max (get_or t (g - 1) no_group).lo lo
+      → x.hi ≡ min (get_or t (g - 1) no_group).hi hi → hi ≤ no_end
+      → Sized (sheet_in u n) Any sizes marks r → Sized (sheet_in t n) (Between g lo (end_of no_end hi)) sizes marks r
+  unfolding end_of
+  between_sized lo hi d e k z =
+      let s = sheet_in t n in
+      let v = narrow_lo s g lo in
+      let size = size_in t n ∙ sym (size_in u n) in
+      compare_eq hi no_end
+      (λ c. rw c
+      (witnessed_as (λ y. (y.0, (y.1.0, tt))) (λ y. (y.0, y.1, (y.2.0, tt)))
+      (sized_narrow (stored v.lo s.hi (low lo d) (endless hi e c)) size (λ may f M i. (narrow_lo_choice g lo own).0 i)
+      (λ f i j. (narrow_lo_sizes g lo own).1 (i, j)) z)))
+      (λ c. rw (ne_eqb hi no_end c)
+      (witnessed_as (λ y. (y.0, (y.1.0, y.1.1.0))) (λ y. (y.0, y.1, (y.2.0, (y.2.1, tt))))
+      (sized_narrow (same_itself v) refl (λ may f M i. (narrow_lo_choice g lo own).0 i)
+      (λ f i j. (narrow_lo_sizes g lo own).1 (i, j))
+      (sized_narrow (stored v.lo (narrow_hi s g hi).hi (low lo d) (high hi e (omega arith))) size
+      (λ may f M i. (narrow_hi_choice g hi (group_rebound s _ _ _ _ own)).0 i)
+      (λ f i j. (narrow_hi_sizes g hi (group_rebound s _ _ _ _ own)).1 (i, j)) z))))
+
+-- the entry at index i of the table stored over, by one with the same parent and mode
+module _ (t : List TableGroup) (n g i : ℕ) (a : 1 ≤ g) (b : g ≤ n) (k : i ≡ g - 1) (v : Tabled t n) (d x : TableGroup)
+    (p : x.parent ≡ (get_or t i d).parent) (m : x.mode ≡ (get_or t i d).mode) where
+  entry : get_or t i d ≡ get_or t (g - 1) no_group
+  entry = get_or_default t i d no_group (omega (arith, v.long)) ∙ ap (λ j. get_or t j no_group) k
+
+  pub tabled_changed : Tabled (set t i x) n
+  tabled_changed = rw k (tabled_stored t n g a b v.long x (rw entry at p) (rw entry at m) v)
+
+  pub sized_changed : {sizes marks : List ℕ} {r : Bool} (lo hi : ℕ) → x.lo ≡ max (get_or t i d).lo lo
+      → x.hi ≡ min (get_or t i d).hi hi → hi ≤ no_end
+      → Sized (sheet_in (set t i x) n) Any sizes marks r → Sized (sheet_in t n) (Between g lo (end_of no_end hi)) sizes marks r
+  sized_changed lo hi e o h z =
+      between_sized t n g a b v.long x (rw entry at p) (rw entry at m) lo hi (rw entry at e) (rw entry at o) h (rw k at z)
+
+pub put_back : (t : List TableGroup) (i : ℕ) (d x : TableGroup) → set (set t i x) i (get_or t i d) ≡ t
+put_back t i d x = set-set t i x _ ∙ set-get_or t i d
+
+-- the groups with an equal table
+tabled_once : (t : List TableGroup) (n : ℕ) → IsProp (Tabled t n)
+tabled_once t n = hlevel props
+
+pub same_groups : {t v : List TableGroup} {n : ℕ} → t ≡ v → (a : Tabled t n) (b : Tabled v n)
+    → ◌≡◌ {A = Groups} (record { table = t; size = n; tabled = a }) (record { table = v; size = n; tabled = b })
+same_groups {t} {n = n} e =
+    let P : List TableGroup → Type 0 = λ v. (a : Tabled t n) (b : Tabled v n)
+    → ◌≡◌ {A = Groups} (record { table = t; size = n; tabled = a }) (record { table = v; size = n; tabled = b }) in
+    subst P e (λ a b. ap (λ k. record { table = t; size = n; tabled = k }) (tabled_once t n a b))
 
 -- fewer than lo: at most lo - 1, where lo is not 0
 pub sized_under : {s : Sheet} {sizes marks : List ℕ} {x : Bool} (g lo k : ℕ) → k + 1 ≡ lo → k < no_end
@@ -289,7 +324,7 @@ sized_under g lo k e l z =
     (λ y. (y.0, y.1, (omega arith, rw n (omega (arith, y.2)))))
     z
 
-pub sized_never : {s : Sheet} {P : (ℕ → ℕ) → Type 0} {sizes marks : List ℕ} → ((f : ℕ → ℕ) → P f → ⊥)
+sized_never : {s : Sheet} {P : (ℕ → ℕ) → Type 0} {sizes marks : List ℕ} → ((f : ℕ → ℕ) → P f → ⊥)
     → Sized s P sizes marks false
 sized_never h = witnessed_no (λ y. h y.0 y.2)
 
@@ -304,9 +339,10 @@ sized_over g h n z =
     (λ y. (y.0, y.1, (let q = rw (ne_eqb h no_end n) at y.2 in omega arith, tt)))
     z
 
-pub over_never : {s : Sheet} {sizes marks : List ℕ} (g h : ℕ) → h ≡ no_end → Sized s (CountOver g (end_of no_end h)) sizes marks false
+pub over_never : {s : Sheet} {sizes marks : List ℕ} (g h : ℕ) → h ≡ no_end
+    → Sized s (CountOver g (end_of no_end h)) sizes marks (not (eqb h no_end))
 unfolding end_of
-over_never g h e = sized_never (λ f p. rw e at p)
+over_never g h e = rw e (sized_never (λ f p. p))
 
 -- a count claim on the empty set
 pub empty_count : {s : Sheet} {sizes marks : List ℕ} {x : Bool} (lo : ℕ) (hi : Top) → Tree s → 1 ≤ lo → Sized s Any sizes marks x
@@ -317,8 +353,9 @@ empty_count lo hi t l z =
     (λ y. let v = (possible t).0 ((breakable_empty lo hi).0 y).0 in (v.0, v.1, tt))
     z
 
-pub empty_kept : {s : Sheet} {sizes marks : List ℕ} (lo : ℕ) (hi : Top) → lo ≡ 0 → Judged s (all_say (counted 0 lo hi)) sizes marks false
-empty_kept lo hi e = witnessed_no (λ w. let l = ((breakable_empty lo hi).0 w).1 in omega arith)
+pub empty_kept : {s : Sheet} {sizes marks : List ℕ} (lo : ℕ) (hi : Top) → lo ≡ 0
+    → Judged s (all_say (counted 0 lo hi)) sizes marks (not (eqb lo 0))
+empty_kept lo hi e = rw (eq-eqb lo 0 e) (witnessed_no (λ w. let l = ((breakable_empty lo hi).0 w).1 in omega arith))
 
 -- a count claim on a group: too few, then too many
 count_shows : {s : Sheet} {sizes marks : List ℕ} (g lo : ℕ) (hi : Top) → Tree s → Group s g → Fitting s sizes marks

@@ -1,36 +1,43 @@
 -- Laws of flags: what barring one group and a whole list leaves.
-use Prim.Native.Nat.{ℕ, ◌*◌, ◌/◌, ◌%◌, ◌-◌, ◌≤◌, ◌+◌, ◌<◌}
+use Prim.Native.Nat.{ℕ, ◌-◌, ◌≤◌, ◌+◌, ◌<◌}
 use mathlib.Core.Path.{◌≡◌, refl, sym, ap, ◌∙◌}
 use mathlib.Core.Bool.{Bool, true, false, not, ◌&&◌, ◌||◌}
 use mathlib.Core.List.{List, [], ◌∷◌, ◌++◌}
 use native.Mathlib.Omega.{arith}
 use native.Mathlib.Numerals.{add-one}
 use borrow.Author.Tests.{eq-eqb, ne_eqb}
-use lib.ListN.{length, set, length-set, get_or, take}
-use lib.Seq.{take-suc}
+use lib.ListN.{length, set, get_or, take}
+use lib.Seq.{take-suc, get_or-set_same, get_or-set_other}
 use lib.Dec.{eqb}
 use Rattle.laws.proofs.Cases.{compare_eq}
 use Rattle.wire.specs.Capacity.{group_capacity}
 use Rattle.sizes.specs.ClaimsPlace.{is_in}
 use Rattle.sizes.proofs.ClaimsPlaceLaws.{place_in}
-use Rattle.tables.specs.Numbers.{number_in}
-use Rattle.tables.proofs.NumbersLaws.{number_same, number_other}
+use Rattle.spans.specs.declared.may.May.{May}
 use Rattle.spans.specs.Held.{may_flag}
-use Rattle.measuring.specs.Tables.{may_in}
+use Rattle.measuring.specs.Tables.{may_in, nowhere}
 use Rattle.measuring.proofs.TablesLaws.{free_table, free_flag}
-use Rattle.questions.specs.Flags.{flag_without, Barred}
+use Rattle.tables.specs.declared.groups.GroupNo.{GroupNo}
+use Rattle.questions.specs.Groups.{numbers_of}
+use Rattle.questions.proofs.GroupsLaws.{number_at, length_numbers}
 
-may_number : (t : List ℕ) (g : ℕ) (c : Bool) → may_in t g c ≡ may_flag (number_in t g) c
-unfolding may_in
-may_number t g c = refl
+-- the flag without one of its two: to be in the group (true) or out of it (false)
+abbrev pub without : Bool → May → May
+without true f = record { out = f.out; inn = false }
+without false f = record { out = false; inn = f.inn }
 
-without_own : (d : Bool) (x : ℕ) → may_flag (flag_without d x) d ≡ false
-without_own true x = let e : x % 2 / 2 ≡ 0 = omega arith in rw e
-without_own false x = let e : x / 2 * 2 % 2 ≡ 0 = omega arith in rw e
+-- u is the table t without that in the flags of the groups on the list
+pub record Barred (t : List May) (d : Bool) (l : List ℕ) (u : List May) : Type 0 where
+  pub own : (g : ℕ) → 1 ≤ g → may_in u g d ≡ may_in t g d && not (is_in g l)
+  pub other : (g : ℕ) → 1 ≤ g → may_in u g (not d) ≡ may_in t g (not d)
 
-without_other : (d : Bool) (x : ℕ) → may_flag (flag_without d x) (not d) ≡ may_flag x (not d)
-without_other true x = let e : x % 2 % 2 ≡ x % 2 = omega arith in rw e
-without_other false x = let e : x / 2 * 2 / 2 ≡ x / 2 = omega arith in rw e
+without_own : (d : Bool) (f : May) → may_flag (without d f) d ≡ false
+without_own true f = refl
+without_own false f = refl
+
+without_other : (d : Bool) (f : May) → may_flag (without d f) (not d) ≡ may_flag f (not d)
+without_other true f = refl
+without_other false f = refl
 
 and_yes : (a : Bool) → a && true ≡ a
 and_yes true = refl
@@ -41,29 +48,27 @@ and_no true = refl
 and_no false = refl
 
 -- a flag of one group
-pub barred_one : (t : List ℕ) (d : Bool) (g : ℕ) → 1 ≤ g → g ≤ length t
-    → Barred t d (g ∷ []) (set t (g - 1) (flag_without d (number_in t g)))
-unfolding is_in
+barred_one : (t : List May) (d : Bool) (g : ℕ) → 1 ≤ g → g ≤ length t
+    → Barred t d (g ∷ []) (set t (g - 1) (without d (get_or t (g - 1) nowhere)))
+unfolding is_in may_in
 barred_one t d g a l =
-    let x : ℕ = flag_without d (number_in t g) in
-    let u : List ℕ = set t (g - 1) x in
+    let f = get_or t (g - 1) nowhere in
+    let x = without d f in
+    let same = get_or-set_same t (g - 1) x nowhere (omega arith) in
+    let other = λ (h : ℕ) (b : 1 ≤ h) (n : h ≡ g → ⊥). get_or-set_other t (g - 1) (h - 1) x nowhere (λ e. n (omega arith)) in
     record {
-      same = length-set t (g - 1) x;
       own = λ h b. compare_eq h g
-          (λ e. rw (e, eq-eqb g g refl) (may_number u g d ∙ ap (λ y. may_flag y d) (number_same t g x a l)
-          ∙ without_own d (number_in t g) ∙ sym (and_no (may_in t g d))))
-          (λ n. rw (ne_eqb h g n) (may_number u h d ∙ ap (λ y. may_flag y d) (number_other t g h x a b n)
-          ∙ sym (may_number t h d) ∙ sym (and_yes (may_in t h d))));
-      other = λ h b. may_number u h (not d) ∙ compare_eq h g
-          (λ e. rw e (ap (λ y. may_flag y (not d)) (number_same t g x a l) ∙ without_other d (number_in t g)
-          ∙ sym (may_number t g (not d))))
-          (λ n. ap (λ y. may_flag y (not d)) (number_other t g h x a b n) ∙ sym (may_number t h (not d)));
+          (λ e. rw (e, eq-eqb g g refl) (ap (λ y. may_flag y d) same ∙ without_own d f ∙ sym (and_no (may_flag f d))))
+          (λ n. rw (ne_eqb h g n) (ap (λ y. may_flag y d) (other h b n) ∙ sym (and_yes (may_flag (get_or t (h - 1) nowhere) d))));
+      other = λ h b. compare_eq h g
+          (λ e. rw e (ap (λ y. may_flag y (not d)) same ∙ without_other d f))
+          (λ n. ap (λ y. may_flag y (not d)) (other h b n));
     }
 
 -- no group
-pub barred_none : (t : List ℕ) (d : Bool) → Barred t d [] t
+pub barred_none : (t : List May) (d : Bool) → Barred t d [] t
 unfolding is_in
-barred_none t d = record { same = refl; own = λ g a. sym (and_yes (may_in t g d)); other = λ g a. refl }
+barred_none t d = record { own = λ g a. sym (and_yes (may_in t g d)); other = λ g a. refl }
 
 in_append : (g : ℕ) (l r : List ℕ) → is_in g (l ++ r) ≡ is_in g l || is_in g r
 unfolding is_in
@@ -75,9 +80,8 @@ in_append g (h ∷ l) r = rw (in_append g l r) (or_assoc (eqb g h) (is_in g l) (
     or_assoc false b c = refl
 
 -- one list after another
-barred_more : {t u v : List ℕ} {d : Bool} (l r : List ℕ) → Barred t d l u → Barred u d r v → Barred t d (l ++ r) v
+barred_more : {t u v : List May} {d : Bool} (l r : List ℕ) → Barred t d l u → Barred u d r v → Barred t d (l ++ r) v
 barred_more {t} {d = d} l r x y = record {
-  same = y.same ∙ x.same;
   own = λ g a. y.own g a ∙ ap (λ b. b && not (is_in g r)) (x.own g a) ∙ neither (may_in t g d) (is_in g l) (is_in g r)
       ∙ ap (λ b. may_in t g d && not b) (sym (in_append g l r));
   other = λ g a. y.other g a ∙ x.other g a;
@@ -88,12 +92,19 @@ barred_more {t} {d = d} l r x y = record {
     neither true false c = refl
     neither false b c = refl
 
-pub barred_next : {t u v : List ℕ} {d : Bool} (l : List ℕ) (i : ℕ) → i < length l → Barred t d (take i l) u
-    → Barred u d (get_or l i 0 ∷ []) v → Barred t d (take (i + 1) l) v
-barred_next l i h x y = rw (add-one, take-suc l i 0 h) (barred_more (take i l) (get_or l i 0 ∷ []) x y)
+-- one more group of a list
+pub barred_next : {t u : List May} {d : Bool} (l : List GroupNo) (i k : ℕ) → i < length l → k ≡ (get_or l i (record { 0 = 0 })).0 - 1
+    → 1 ≤ (get_or l i (record { 0 = 0 })).0 → k < length u → Barred t d (take i (numbers_of l)) u
+    → Barred t d (take (i + 1) (numbers_of l)) (set u k (without d (get_or u k nowhere)))
+barred_next {u = u} {d = d} l i k h e a b x =
+    let g = get_or (numbers_of l) i 0 in
+    let same = number_at l i in
+    let at : k ≡ g - 1 = omega arith in
+    rw (add-one, take-suc (numbers_of l) i 0 (omega (arith, length_numbers l)), at)
+    (barred_more (take i (numbers_of l)) (g ∷ []) x (barred_one u d g (omega arith) (omega arith)))
 
 -- The flags of a place: not out of the groups of one list, not in those of another.
-pub place_flags : {t u : List ℕ} (ins outs : List ℕ) → Barred free_table false ins t → Barred t true outs u → (g : ℕ) → 1 ≤ g
+pub place_flags : {t u : List May} (ins outs : List ℕ) → Barred free_table false ins t → Barred t true outs u → (g : ℕ) → 1 ≤ g
     → g ≤ group_capacity
     → (c : Bool) → may_in u g c ≡ place_in ins outs g c
 unfolding place_in

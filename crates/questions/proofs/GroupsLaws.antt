@@ -7,11 +7,13 @@ use mathlib.Core.List.{List, Memᴰ, [], ◌∷◌, ◌++◌}
 use mathlib.Core.Logic.{◌⊎◌, inl, inr, ⊎_elim}
 use native.Mathlib.Omega.{arith}
 use native.Mathlib.Numerals.{add-one}
-use lib.ListN.{length, get_or, take, length-take}
+use lib.ListN.{length, get_or, take, get_or-map}
+use Rattle.std.proofs.lemmas.List.{length-map, take_all}
 use lib.Seq.{take-suc}
 use Rattle.meaning.specs.Sets.{Sets}
 use Rattle.meaning.specs.Claim.{union}
-use Rattle.questions.specs.Groups.{groups_among, AllGroups, Listed}
+use Rattle.tables.specs.declared.groups.GroupNo.{GroupNo}
+use Rattle.questions.specs.Groups.{numbers_of, groups_among, AllGroups}
 
 -- every number on the list is at most n: a group of a sheet of n groups, or 0
 abbrev pub AllUpTo : ℕ → List ℕ → Type 0
@@ -68,12 +70,11 @@ among_whole [] h = refl
 among_whole (zero ∷ l) h = absurd (omega (arith, among_length l))
 among_whole (suc g ∷ l) h = ap (λ k. suc g ∷ k) (among_whole l (omega arith))
 
--- the numbers on a list in a table
-pub get_d_in_take : (t : List ℕ) (n i : ℕ) → i < n → n ≤ length t → Memᴰ (get_or t i 0) (take n t)
-get_d_in_take [] n i a b = absurd (omega arith)
-get_d_in_take (x ∷ t) zero i a b = absurd (omega arith)
-get_d_in_take (x ∷ t) (suc n) zero a b = Memᴰ.head refl
-get_d_in_take (x ∷ t) (suc n) (suc i) a b = Memᴰ.tail (get_d_in_take t n i (omega arith) (omega arith))
+-- the numbers on a list
+pub get_d_in : (l : List ℕ) (i : ℕ) → i < length l → Memᴰ (get_or l i 0) l
+get_d_in [] i h = absurd (omega arith)
+get_d_in (x ∷ l) zero h = Memᴰ.head refl
+get_d_in (x ∷ l) (suc i) h = Memᴰ.tail (get_d_in l i (omega arith))
 
 pub in_take_next : (t : List ℕ) (i g : ℕ) → i < length t → Memᴰ g (take (i + 1) t)
     → Memᴰ g (take i t) ⊎ (g ≡ get_or t i 0)
@@ -81,27 +82,28 @@ in_take_next t i g l m =
     ⊎_elim inl (λ o. inr (Memᴰ.eq_of_singleton o))
     (Memᴰ.append_cases (take i t) (rw (add-one, take-suc t i 0 l) at m))
 
+-- the groups on a list, and their numbers
+pub number_at : (l : List GroupNo) (i : ℕ) → get_or (numbers_of l) i 0 ≡ (get_or l i (record { 0 = 0 })).0
+number_at l i = get_or-map (λ g. g.0) l i (record { 0 = 0 })
+
+pub length_numbers : (l : List GroupNo) → length (numbers_of l) ≡ length l
+length_numbers l = length-map l (λ g. g.0)
+
 -- one group of a list
 pub all_groups : (size : ℕ) (l : List ℕ) → AllGroups size l → (g : ℕ) → Memᴰ g l → (1 ≤ g) × (g ≤ size)
 all_groups size [] w g m = absurd (Memᴰ.not-nil m)
 all_groups size (h ∷ l) w g m =
     ⊎_elim (λ (e : g ≡ h). rw e (w.0, w.1)) (λ i. all_groups size l w.2 g i) (Memᴰ.cases_cons m)
 
-pub listed_group : {t : List ℕ} {n size : ℕ} → Listed t n size → (i : ℕ) → i < n → (1 ≤ get_or t i 0) × (get_or t i 0 ≤ size)
-listed_group {t} {n} {size} w i l = all_groups size (take n t) w.groups (get_or t i 0) (get_d_in_take t n i l w.long)
+pub all_taken : (l : List GroupNo) (i : ℕ) → length l ≤ i → take i (numbers_of l) ≡ numbers_of l
+all_taken l i h = take_all i (numbers_of l) (omega (arith, length_numbers l))
+
+pub group_at : (size : ℕ) (l : List GroupNo) → AllGroups size (numbers_of l) → (i : ℕ) → i < length l
+    → (1 ≤ (get_or l i (record { 0 = 0 })).0) × ((get_or l i (record { 0 = 0 })).0 ≤ size)
+group_at size l w i h =
+    rw (number_at l i) at
+    (all_groups size (numbers_of l) w (get_or (numbers_of l) i 0) (get_d_in (numbers_of l) i (omega (arith, length_numbers l))))
 
 -- the groups among numbers of a sheet, or 0
 pub among_known : (size : ℕ) (l : List ℕ) → AllUpTo size l → AllUpTo size (groups_among l)
 among_known size l h g m = (all_groups size (groups_among l) (among_all size l h) g m).1
-
--- as many groups as a table lists
-pub listed_length : (t l : List ℕ) (k : ℕ) → k ≤ length t → take k t ≡ l → k ≡ length l
-listed_length t l k h e = let n : length (take k t) ≡ length l = ap length e in omega (arith, length-take k t)
-
--- the list of a larger sheet
-pub listed_in : {t : List ℕ} {n size more : ℕ} → size ≤ more → Listed t n size → Listed t n more
-listed_in {t} {n} {size} {more} h w = record { long = w.long; groups = wider (take n t) w.groups }
-  where
-    wider : (l : List ℕ) → AllGroups size l → AllGroups more l
-    wider [] v = tt
-    wider (g ∷ l) v = (v.0, omega (arith, v.1), wider l v.2)

@@ -16,12 +16,13 @@ use Rattle.sizes.specs.ClaimsMath.{Way, away, along, within_all}
 use Rattle.sizes.proofs.ClaimsMathLaws.{left_in, Meeting, Known, way_meeting, meeting_way, meeting_witness, witness_meeting, every_has}
 use Rattle.tables.specs.Numbers.{number_in}
 use Rattle.choosing.specs.Divided.{marked_in}
-use Rattle.questions.specs.Groups.{groups_among}
+use Rattle.tables.specs.declared.groups.GroupNo.{GroupNo}
+use Rattle.questions.specs.Groups.{groups_among, numbers_of}
 use Rattle.questions.specs.Judged.{Judged}
 use Rattle.questions.specs.Places.{PlaceHad, PlaceShown, PlaceJudged}
-use Rattle.questions.specs.Ways.{is_place, Tried, broken_kind, WayHad}
-use Rattle.questions.proofs.WitnessedLaws.{witnessed_as, witnessed_no, witnessed_yes}
-use Rattle.questions.proofs.GroupsLaws.{union_groups, among_known, get_d_in_take, in_take_next}
+use Rattle.questions.specs.Ways.{is_place, Tried, WayHad, WayShown}
+use Rattle.questions.proofs.WitnessedLaws.{witnessed_as, witnessed_no}
+use Rattle.questions.proofs.GroupsLaws.{union_groups, among_known, get_d_in, in_take_next, number_at, length_numbers}
 
 above_one : (s : Sheet) (st f : ℕ → ℕ) → 1 ≤ above s.size st f
 unfolding above
@@ -85,11 +86,6 @@ left_one e (away {g = g} m p) = (g, m, λ k i. away i p)
 left_one e (along {g = g} m p o q) = (g, m, λ k i. along i p o q)
 left_one e (within_all p) = absurd (true≢false e)
 
-broken_one : (b : Bool) → is_place (broken_kind b) ≡ false
-unfolding broken_kind
-broken_one false = refl
-broken_one true = refl
-
 -- for kind 6 the same is so of the right list
 right_one : {l r ins outs : List ℕ} → Way l r apart ins outs
     → (h : ℕ) × Memᴰ h r × ((k : List ℕ) → Memᴰ h k → Way l k apart ins outs)
@@ -115,40 +111,44 @@ module _ (W : List ℕ → List ℕ → List ℕ → Type 0)
       (λ e. n (v.0, v.1, w.2 (get_or t i 0 ∷ []) (Memᴰ.head e), v.3))
       (in_take_next t i w.0 l w.1)
 
-  through_one : (t : List ℕ) (n i : ℕ) → i < n → n ≤ length t → Through (get_or t i 0 ∷ []) → Through (take n t)
-  through_one t n i l k v =
+  through_one : (t : List ℕ) (i : ℕ) → i < length t → Through (get_or t i 0 ∷ []) → Through t
+  through_one t i l v =
       let w = one (get_or t i 0 ∷ []) v.0 v.1 v.2 in
-      (v.0, v.1, w.2 (take n t) (Memᴰ.cast (Memᴰ.eq_of_singleton w.1) (get_d_in_take t n i l k)), v.3)
+      (v.0, v.1, w.2 t (Memᴰ.cast (Memᴰ.eq_of_singleton w.1) (get_d_in t i l)), v.3)
 
--- the left list
-module _ {s : Sheet} (b : Bool) (t r : List ℕ) where
-  pub left_way_none : WayHad s (broken_kind b) (take 0 t) r → ⊥
-  left_way_none = through_none (λ l. Way l r (broken_kind b)) (λ l i o w. left_one (broken_one b) w) (PlaceHad s)
+-- the left list of kinds 5 and 6
+module _ {s : Sheet} (b : ListKind) (e : is_place b ≡ false) (t : List GroupNo) (r : List ℕ) where
+  pub left_way_none : WayHad s b [] r → ⊥
+  left_way_none = through_none (λ l. Way l r b) (λ l i o w. left_one e w) (PlaceHad s)
 
-  pub left_way_more : {sizes marks : List ℕ} {x : Bool} (i : ℕ) → i < length t → (WayHad s (broken_kind b) (take i t) r → ⊥)
-      → Tried s (broken_kind b) (get_or t i 0 ∷ []) r sizes marks x → x ≡ false → WayHad s (broken_kind b) (take (i + 1) t) r → ⊥
-  left_way_more i l h w e = through_more (λ l. Way l r (broken_kind b)) (λ l i o w. left_one (broken_one b) w) (PlaceHad s) t i l h (w.lacking e)
+  pub left_way_more : (i : ℕ) → i < length t → (WayHad s b (take i (numbers_of t)) r → ⊥)
+      → (WayHad s b ((get_or t i (record { 0 = 0 })).0 ∷ []) r → ⊥) → WayHad s b (take (i + 1) (numbers_of t)) r → ⊥
+  left_way_more i l h n =
+      through_more (λ l. Way l r b) (λ l i o w. left_one e w) (PlaceHad s) (numbers_of t) i (omega (arith, length_numbers t)) h
+      (rw (number_at t i) n)
 
-  pub left_way_found : {sizes marks : List ℕ} {x : Bool} (n i : ℕ) → i < n → n ≤ length t
-      → Tried s (broken_kind b) (get_or t i 0 ∷ []) r sizes marks x → x ≡ true → Tried s (broken_kind b) (take n t) r sizes marks true
-  left_way_found {sizes} {marks} n i l k w e =
-      witnessed_yes (through_one (λ l. Way l r (broken_kind b)) (λ l i o w. left_one (broken_one b) w) (λ i o. PlaceShown s i o sizes marks) t n i l k
-      (w.found e))
+  pub left_way_found : {sizes marks : List ℕ} (i : ℕ) → i < length t → WayShown s b ((get_or t i (record { 0 = 0 })).0 ∷ []) r sizes marks
+      → WayShown s b (numbers_of t) r sizes marks
+  left_way_found {sizes} {marks} i l w =
+      through_one (λ l. Way l r b) (λ l i o w. left_one e w) (λ i o. PlaceShown s i o sizes marks) (numbers_of t) i
+      (omega (arith, length_numbers t)) (rw (number_at t i) w)
 
 -- the right list of kind 6
-module _ {s : Sheet} (l t : List ℕ) where
-  pub right_way_none : WayHad s apart l (take 0 t) → ⊥
+module _ {s : Sheet} (l : List ℕ) (t : List GroupNo) where
+  pub right_way_none : WayHad s apart l [] → ⊥
   right_way_none = through_none (λ r. Way l r apart) (λ r i o w. right_one w) (PlaceHad s)
 
-  pub right_way_more : {sizes marks : List ℕ} {x : Bool} (i : ℕ) → i < length t → (WayHad s apart l (take i t) → ⊥)
-      → Tried s apart l (get_or t i 0 ∷ []) sizes marks x → x ≡ false → WayHad s apart l (take (i + 1) t) → ⊥
-  right_way_more i k h w e = through_more (λ r. Way l r apart) (λ r i o w. right_one w) (PlaceHad s) t i k h (w.lacking e)
+  pub right_way_more : (i : ℕ) → i < length t → (WayHad s apart l (take i (numbers_of t)) → ⊥)
+      → (WayHad s apart l ((get_or t i (record { 0 = 0 })).0 ∷ []) → ⊥) → WayHad s apart l (take (i + 1) (numbers_of t)) → ⊥
+  right_way_more i h k n =
+      through_more (λ r. Way l r apart) (λ r i o w. right_one w) (PlaceHad s) (numbers_of t) i (omega (arith, length_numbers t)) k
+      (rw (number_at t i) n)
 
-  pub right_way_found : {sizes marks : List ℕ} {x : Bool} (n i : ℕ) → i < n → n ≤ length t
-      → Tried s apart l (get_or t i 0 ∷ []) sizes marks x → x ≡ true → Tried s apart l (take n t) sizes marks true
-  right_way_found {sizes} {marks} n i j k w e =
-      witnessed_yes
-      (through_one (λ r. Way l r apart) (λ r i o w. right_one w) (λ i o. PlaceShown s i o sizes marks) t n i j k (w.found e))
+  pub right_way_found : {sizes marks : List ℕ} (i : ℕ) → i < length t → WayShown s apart l ((get_or t i (record { 0 = 0 })).0 ∷ []) sizes marks
+      → WayShown s apart l (numbers_of t) sizes marks
+  right_way_found {sizes} {marks} i h w =
+      through_one (λ r. Way l r apart) (λ r i o w. right_one w) (λ i o. PlaceShown s i o sizes marks) (numbers_of t) i
+      (omega (arith, length_numbers t)) (rw (number_at t i) w)
 
 -- all left groups at once, one left group, one group of each list: one place
 module _ {s : Sheet} where
@@ -170,11 +170,9 @@ module _ {s : Sheet} where
       let d : i ∷ j ∷ [] ≡ g ∷ h ∷ [] = cc in
       subst (λ l. PlaceHad s l []) d v
 
-  pub inside_tried : {g : ℕ} {r sizes marks : List ℕ} {b x : Bool} → b ≡ false → 1 ≤ g → PlaceJudged s (g ∷ []) r sizes marks x
-      → Tried s (broken_kind b) (g ∷ []) r sizes marks x
-  unfolding broken_kind
-  inside_tried {g} {r} e a w =
-      rw e (witnessed_as (λ v. (g ∷ [], r, away (Memᴰ.head refl) a, v)) (λ v. inside_only v.2 v.3) w)
+  pub inside_tried : {g : ℕ} {r sizes marks : List ℕ} {x : Bool} → 1 ≤ g → PlaceJudged s (g ∷ []) r sizes marks x
+      → Tried s inside (g ∷ []) r sizes marks x
+  inside_tried {g} {r} a w = witnessed_as (λ v. (g ∷ [], r, away (Memᴰ.head refl) a, v)) (λ v. inside_only v.2 v.3) w
 
   pub both_tried : {g h : ℕ} {sizes marks : List ℕ} {x : Bool} → 1 ≤ g → 1 ≤ h → PlaceJudged s (g ∷ h ∷ []) [] sizes marks x
       → Tried s apart (g ∷ []) (h ∷ []) sizes marks x

@@ -1,5 +1,10 @@
--- Lists of groups in tables, and the groups among what names mean.
-use Rattle.std.specs.Prelude.{ℕ, zero, suc, ◌≤◌, List, [], ◌∷◌, length, take}
+-- Lists of groups, and the groups among what names mean.
+use Rattle.std.specs.Prelude.{ℕ, zero, suc, ◌≤◌, List, [], ◌∷◌, map}
+use Rattle.tables.specs.declared.groups.GroupNo.{GroupNo}
+
+-- the numbers of the groups on a list
+abbrev pub numbers_of : List GroupNo → List ℕ
+numbers_of l = map (λ g. g.0) l
 
 -- "0 stands for the empty set": the groups among what names mean
 unfoldable pub groups_among : List ℕ → List ℕ
@@ -11,8 +16,3 @@ groups_among (suc g ∷ l) = suc g ∷ groups_among l
 abbrev pub AllGroups : ℕ → List ℕ → Type 0
 AllGroups size [] = Unit {0}
 AllGroups size (g ∷ l) = (1 ≤ g) × (g ≤ size) × AllGroups size l
-
--- a list of n groups, in a table
-pub record Listed (table : List ℕ) (n size : ℕ) : Type 0 where
-  pub long : n ≤ length table
-  pub groups : AllGroups size (take n table)

@@ -1,6 +1,5 @@
 pub mod Witnessed
 pub mod Groups
-pub mod Flags
 pub mod Judged
 pub mod Places
 pub mod Ways

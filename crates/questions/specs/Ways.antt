@@ -21,8 +21,3 @@ abbrev pub is_place : ListKind → Bool
 is_place inside = false
 is_place apart = false
 is_place place = true
-
--- kind 6 (true) or 5 (false): the kinds that a member of one left set breaks
-unfoldable pub broken_kind : Bool → ListKind
-broken_kind false = inside
-broken_kind true = apart

@@ -3,58 +3,47 @@
 // Document 01, "Ranges", "The arrangement", "Replies", refusals 8 and 14.
 #![tactic(auto)]
 
-ghost use Rattle.tables.specs.SheetIn.{sheet_in, Tabled};
+ghost use Rattle.tables.specs.SheetIn.{sheet_in};
 ghost use Rattle.replies.specs.Reply.{call};
+ghost use Rattle.replies.specs.Returned.{returned};
 ghost use Rattle.range_reply.specs.RangesGiven.{RangesReady, RangesWritten};
 ghost use Rattle.range_reply.specs.RangesReply.{Ranges};
 
 use measuring::fitting::measure;
-use measuring::pairs::PAIR_TABLE;
+use measuring::pairs::Measured;
 use ranging::arrange::arrange;
 use ranging::narrow::narrow;
-use ranging::table::SPAN_TABLE;
-use replies::pairs::{pack, refuse};
-use replies::{RANGE_BYTES, put_ranges};
+use replies::{RANGE_BYTES, put_ranges, room};
+use spans::span::Span;
+use tables::groups::Groups;
 use tables::limits::GROUP_CAPACITY;
-use wire::refusals::{IMPOSSIBLE, REPLY_SHORT};
+use wire::refusals::{Fault, Refusal};
 
 // The ranges and the arrangement of a possible sheet, into a buffer with room for them.
-fn put(groups: &[u16], size: u16, spans: &[u32], after: &[u32], reply: &mut [u8])
-    requires { RangesReady groups.now size spans.now after.now reply.old }
-    ensures { RangesWritten groups.now size reply.old reply.new }
+fn put(groups: &Groups, measured: &Measured, reply: &mut [u8])
+    requires { RangesReady groups.now.table groups.now.size measured.now.spans measured.now.after reply.old }
+    ensures { RangesWritten groups.now.table groups.now.size reply.old reply.new }
 {
-    let mut ranges = [0u32; SPAN_TABLE];
-    let mut rest = [0u32; SPAN_TABLE];
-    narrow(groups, size, spans, after, &mut ranges, &mut rest);
+    let mut ranges = [Span::NOTHING; GROUP_CAPACITY];
+    let mut rest = [Span::NOTHING; GROUP_CAPACITY];
+    narrow(groups, measured, &mut ranges, &mut rest);
     let mut sizes = [0u32; GROUP_CAPACITY];
     let mut firsts = [0u32; GROUP_CAPACITY];
     let mut ends = [0u32; GROUP_CAPACITY];
-    arrange(
-        groups,
-        size,
-        spans,
-        after,
-        &mut sizes,
-        &mut firsts,
-        &mut ends,
-    );
-    put_ranges(reply, size, &ranges, &firsts, &sizes);
+    arrange(groups, measured, &mut sizes, &mut firsts, &mut ends);
+    put_ranges(reply, &ranges[..groups.size as usize], &firsts, &sizes);
 }
 
-// The reply under a sheet whose groups are in the table.
-pub fn give_ranges(groups: &[u16], size: u16, reply: &mut [u8]) -> u64
-    requires { Tabled groups.now size }
-    ensures { Ranges (sheet_in groups.now size) (call reply.old result reply.new) }
+// The reply under a sheet with these groups.
+pub fn give_ranges(groups: &Groups, reply: &mut [u8]) -> Result<u32, Fault>
+    ensures { Ranges (sheet_in groups.now.table groups.now.size) (call reply.old (returned result) reply.new) }
 {
-    let mut spans = [0u32; PAIR_TABLE];
-    let mut after = [0u32; PAIR_TABLE];
-    if !measure(groups, size, &mut spans, &mut after) {
-        return refuse(reply, IMPOSSIBLE, 0);
+    let mut measured = Measured::new();
+    if !measure(groups, &mut measured) {
+        return Err(Refusal::Impossible.at(0));
     }
-    let bytes = RANGE_BYTES * size as usize;
-    if reply.len() < bytes {
-        return refuse(reply, REPLY_SHORT, 0);
-    }
-    put(groups, size, &spans, &after, reply);
-    pack(0, bytes as u32)
+    let bytes = RANGE_BYTES * groups.size as usize;
+    room(reply, bytes)?;
+    put(groups, &measured, reply);
+    Ok(bytes as u32)
 }

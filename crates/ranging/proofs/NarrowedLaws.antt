@@ -5,6 +5,8 @@ use mathlib.Core.Bool.{Bool, false}
 use mathlib.Core.List.{List}
 use native.Mathlib.Omega.{arith}
 use native.Mathlib.Nat.{le_refl}
+use lib.ListN.{length, set, length-set}
+use lib.Seq.{get_or-set_same, get_or-set_other}
 use Rattle.laws.proofs.Cases.{compare_eq}
 use Rattle.meaning.specs.Sheet.{Sheet, Group, Son}
 use Rattle.meaning.specs.Tree.{Tree, Rooted}
@@ -14,14 +16,16 @@ use Rattle.sizes.specs.Fold.{join_kind, later}
 use Rattle.sizes.specs.Ranged.{held, son_range, Ranged}
 use Rattle.sizes.proofs.RangedExists.{held_eq}
 use Rattle.sizes.proofs.RangeExact.{held_son, held_skip}
+use Rattle.tables.specs.declared.groups.Group.{Group as TableGroup}
 use Rattle.tables.specs.Groups.{group_in}
 use Rattle.tables.specs.SheetIn.{sheet_in, Tabled}
-use Rattle.spans.specs.Held.{mode_kind}
+use Rattle.spans.specs.declared.span.Span.{Span as SpanCode}
+use Rattle.spans.specs.declared.pair.Pair.{Pair as PairCode}
+use Rattle.spans.specs.Held.{span_held, mode_kind}
 use Rattle.measuring.specs.Pairs.{pair_in}
 use Rattle.measuring.specs.Fitting.{Measures}
 use Rattle.measuring.proofs.TablesLaws.{kind_in_law}
-use Rattle.ranging.specs.Table.{SpanPut, span_in}
-use Rattle.ranging.specs.Narrowed.{Turned}
+use Rattle.ranging.specs.Table.{no_span, span_in}
 
 -- the groups up to i have their ranges R, and T is what the sons after i must make up
 pub record Narrowed (s : Sheet) (z : ℕ → Bool → Span) (R T : ℕ → Span) (i : ℕ) : Type 0 where
@@ -84,35 +88,42 @@ module _ {s : Sheet} {z : ℕ → Bool → Span} (t : Tree s) (r : Rooted s) whe
   pub narrowed_all : {R T : ℕ → Span} → Narrowed s z R T s.size → Ranged s z R
   narrowed_all w = record { root = w.root; son = λ p g k. w.son p g k k.group.last }
 
-pub turned : {ranges rest ranges' mid rest' : List ℕ} (g p : ℕ) {range left : Span} → p < g → SpanPut ranges g range ranges'
-    → SpanPut rest g range mid → SpanPut mid p left rest' → Turned ranges rest g p range left ranges' rest'
-turned g p l one two three = record {
-  found = one.put;
-  others = one.others;
-  own = three.others g (omega arith) (λ d. omega arith) ∙ two.put;
-  last = three.put;
-  kept = λ h c d r. three.others h c r ∙ two.others h c d;
-}
+-- a store at group g
+span_same : (t : List SpanCode) (g : ℕ) (x : SpanCode) → 1 ≤ g → g ≤ length t → span_in (set t (g - 1) x) g ≡ span_held x
+unfolding span_in
+span_same t g x a l = ap span_held (get_or-set_same t (g - 1) x no_span (omega arith))
 
--- one turn, own and others being the spans of g and of its brothers after it
-pub narrow_step : {groups spans after ranges rest ranges' rest' : List ℕ} {n : ℕ} {own others whole x range y left : Span}
-    {q : Kind} → Tabled groups n → (g p : ℕ) → Son (sheet_in groups n) p g
-    → q ≡ mode_kind (group_in groups (p - 1)).mode → own ≡ pair_in spans g false → others ≡ pair_in after g false
-    → whole ≡ span_in rest p → x ≡ pull q whole others → range ≡ meet own x → y ≡ pull q whole own → left ≡ meet others y
-    → Turned ranges rest g p range left ranges' rest' → (z : ℕ → Bool → Span) → Measures (sheet_in groups n) z spans after
+span_other : (t : List SpanCode) (g h : ℕ) (x : SpanCode) → 1 ≤ g → 1 ≤ h → (h ≡ g → ⊥) → span_in (set t (g - 1) x) h ≡ span_in t h
+unfolding span_in
+span_other t g h x a b n = ap span_held (get_or-set_other t (g - 1) (h - 1) x no_span (λ e. n (omega arith)))
+
+-- one turn, x and y being what the parent's other sons leave for g and for those after it
+pub narrow_step : {groups : List TableGroup} {n : ℕ} {spans after : List PairCode} (ranges rest : List SpanCode) {q : Kind}
+    {x y : Span} (range left : SpanCode) → Tabled groups n → (g p : ℕ) → Son (sheet_in groups n) p g
+    → q ≡ mode_kind (group_in groups (p - 1)).mode
+    → x ≡ pull q (span_in rest p) (pair_in after g false) → span_held range ≡ meet (pair_in spans g false) x
+    → y ≡ pull q (span_in rest p) (pair_in spans g false) → span_held left ≡ meet (pair_in after g false) y
+    → g ≤ length ranges → g ≤ length rest
+    → (z : ℕ → Bool → Span) → Measures (sheet_in groups n) z spans after
     → Narrowed (sheet_in groups n) z (span_in ranges) (span_in rest) (g - 1)
-    → Narrowed (sheet_in groups n) z (span_in ranges') (span_in rest') g
-narrow_step k zero p j f own others whole x range y left turn z m w = absurd (omega (arith, j.group.first))
-narrow_step {groups} {n = n} k (suc i) p j f own others whole x range y left turn z m w =
+    → Narrowed (sheet_in groups n) z (span_in (set ranges (g - 1) range)) (span_in (set (set rest (g - 1) range) (p - 1) left)) g
+narrow_step ranges rest range left k zero p j f x e y o a b z m w = absurd (omega (arith, j.group.first))
+narrow_step {groups} {n} ranges rest range left k (suc i) p j f x e y o a b z m w =
     let d : suc i - 1 ≡ i = omega arith in
-    let kind = kind_in_law groups n p (son_parent k.tree j) in
-    let mine = own ∙ m.spanned (suc i) j.group in
-    let late = others ∙ m.followed p (suc i) j in
+    let s = sheet_in groups n in
+    let q = son_parent k.tree j in
+    let below : p < suc i = omega (arith, k.tree.before (suc i) j.group, j.under) in
+    let long : p ≤ length (set rest i range) = simp length-set (omega arith) in
+    let kind = kind_in_law groups n p q in
+    let mine = m.spanned (suc i) j.group in
+    let late = m.followed p (suc i) j in
+    let mid = set rest (suc i - 1) range in
     narrowed_more k.tree k.rooted p i j (rw d at w)
     (record {
-      range = turn.found ∙ range ∙ rw (x, mine, late, whole, kind, f);
-      ranges = turn.others;
-      own = turn.own ∙ sym turn.found;
-      last = turn.last ∙ left ∙ rw (y, mine, late, whole, kind, f);
-      rest = turn.kept;
+      range = span_same ranges (suc i) range (omega arith) a ∙ e ∙ rw (x, mine, late, kind, f);
+      ranges = λ h c n. span_other ranges (suc i) h range (omega arith) c n;
+      own = span_other mid p (suc i) left q.first (omega arith) (λ r. omega arith) ∙ span_same rest (suc i) range (omega arith) b
+          ∙ sym (span_same ranges (suc i) range (omega arith) a);
+      last = span_same mid p left q.first (rw d long) ∙ o ∙ rw (y, mine, late, kind, f);
+      rest = λ h c n r. span_other mid p h left q.first c r ∙ span_other rest (suc i) h range (omega arith) c n;
     })

@@ -9,7 +9,6 @@ use lib.ListN.{length, get_or, set, length-set}
 use Rattle.laws.specs.Sum.{sum}
 use Rattle.laws.proofs.Cases.{compare_le, split, compare_eq}
 use Rattle.laws.proofs.SumLaws.{sum_zero, sum_suc}
-use Rattle.wire.specs.Limits.{no_end}
 use Rattle.meaning.specs.Sheet.{Top, Sheet, Group, Son, fin}
 use Rattle.meaning.specs.Tree.{Tree}
 use Rattle.meaning.specs.Sons.{only, is_son, sons}
@@ -25,19 +24,21 @@ use Rattle.sizes.proofs.BoundsLaws.{weight_least}
 use Rattle.sizes.proofs.RangeExact.{span_has_ends}
 use Rattle.sizes.proofs.ArrangedFits.{arranged_sizes, arranged_exists}
 use Rattle.sizes.proofs.ArrangedAlike.{arranged_eq}
+use Rattle.tables.specs.declared.groups.Group.{Group as TableGroup}
 use Rattle.tables.specs.Groups.{group_in}
 use Rattle.tables.specs.Modes.{disjoint_mode, cover_mode, same_mode}
 use Rattle.tables.specs.SheetIn.{sheet_in, size_limit}
 use Rattle.tables.specs.Numbers.{number_in}
 use Rattle.tables.proofs.SheetInLaws.{disjoint_in, cover_in, same_in}
 use Rattle.tables.proofs.NumbersLaws.{number_same, number_other}
+use Rattle.spans.specs.declared.pair.Pair.{Pair as PairCode}
 use Rattle.spans.specs.Held.{top_of, span_of}
 use Rattle.spans.proofs.HeldLaws.{none_of, some_of}
 use Rattle.measuring.specs.Pairs.{pair_in, least_in, greatest_in}
 use Rattle.measuring.specs.Fitting.{Arrangeable}
 use Rattle.measuring.proofs.DoneLaws.{room_span}
 use Rattle.runs.specs.Told.{Told, Startable}
-use Rattle.ranging.specs.Sized.{size_by, Sizing}
+use Rattle.ranging.specs.Sized.{size_by}
 
 -- the lower end of a span of two numbers
 pub span_of_ends : (a b l : ℕ) (u : Top) → span_of a b ≡ span l u → span_of a b ≡ span a (top_of b)
@@ -55,7 +56,7 @@ no_sons : {s : Sheet} → Tree s → (f : ℕ → ℕ) (p n : ℕ) → n ≤ suc
 no_sons {s} t f p n l h =
     sum_zero (only s p f) n (λ g k. rw (no_son_before t p g (omega arith) h))
 
-module _ {groups spans after : List ℕ} {n : ℕ} (k : Arrangeable groups n spans after) where
+module _ {groups : List TableGroup} {spans after : List PairCode} {n : ℕ} (k : Arrangeable groups n spans after) where
   abbrev s : Sheet
   s = sheet_in groups n
 
@@ -125,6 +126,14 @@ pub record SizedTo (s : Sheet) (size f left : ℕ → ℕ) (i : ℕ) : Type 0 wh
   pub found : (g : ℕ) → Group s g → g ≤ i → f g ≡ size g
   pub rest : (p : ℕ) → Group s p → p ≤ i → left p ≡ size p - sum (only s p size) (suc i)
 
+-- one more group, g, a son of p, with x members: what changes in the two tables
+pub record Sizing (sizes left : List ℕ) (p g x : ℕ) (sizes' left' : List ℕ) : Type 0 where
+  pub found : number_in sizes' g ≡ x
+  pub others : (h : ℕ) → 1 ≤ h → (h ≡ g → ⊥) → number_in sizes' h ≡ number_in sizes h
+  pub own : number_in left' g ≡ x
+  pub last : number_in left' p ≡ number_in left p - x
+  pub rest : (h : ℕ) → 1 ≤ h → (h ≡ g → ⊥) → (h ≡ p → ⊥) → number_in left' h ≡ number_in left h
+
 module _ {s : Sheet} {size : ℕ → ℕ} (t : Tree s) where
   -- the root alone
   pub sized_root : {f left : ℕ → ℕ} → Group s 1 → f 1 ≡ size 1 → left 1 ≡ size 1 → SizedTo s size f left 1
@@ -154,7 +163,7 @@ module _ {s : Sheet} {size : ℕ → ℕ} (t : Tree s) where
   }
 
 -- one turn
-pub size_step : {groups spans after sizes left sizes' left' : List ℕ} {n : ℕ} → Arrangeable groups n spans after
+pub size_step : {groups : List TableGroup} {spans after : List PairCode} {sizes left sizes' left' : List ℕ} {n : ℕ} → Arrangeable groups n spans after
     → (g p x : ℕ) → Son (sheet_in groups n) p g
     → (m : ℕ) → m ≡ (group_in groups (p - 1)).mode
     → x ≡ size_by (same_mode m) (disjoint_mode m) (cover_mode m) (least_in spans g) (greatest_in spans g) (number_in sizes p)
@@ -192,7 +201,7 @@ sizing sizes left p g x y a b c d e =
     }
 
 -- All groups have their sizes: the sizes of the table are those of an arrangement.
-module _ {groups spans after : List ℕ} {n : ℕ} (k : Arrangeable groups n spans after) (sizes : List ℕ)
+module _ {groups : List TableGroup} {spans after : List PairCode} {n : ℕ} (k : Arrangeable groups n spans after) (sizes : List ℕ)
     (all : (first size : ℕ → ℕ) → Arranged (sheet_in groups n) (least_in spans) (greatest_in spans) first size
     → (g : ℕ) → Group (sheet_in groups n) g → number_in sizes g ≡ size g) where
   table_sizes : (first : ℕ → ℕ) × Arranged (sheet_in groups n) (least_in spans) (greatest_in spans) first (number_in sizes)
@@ -203,22 +212,21 @@ module _ {groups spans after : List ℕ} {n : ℕ} (k : Arrangeable groups n spa
       (w.0, arranged_eq t (λ g q. refl) (λ g q. sym (all w.0 w.1 w.2 g q)) r w.2)
 
   -- the root has its least count, which is not large
-  table_top : ((i : ℕ) → get_or groups i 0 ≤ no_end) → number_in sizes 1 ≤ size_limit
-  table_top b =
+  table_top : number_in sizes 1 ≤ size_limit
+  table_top =
       let q = k.tabled.rooted.one in
-      let w = rw (span_told k 1 q) at (room_span k.tabled b k.measured 1 q false) in
+      let w = rw (span_told k 1 q) at (room_span k.tabled k.measured 1 q false) in
       omega (arith, table_sizes.1.root_size, weight_least _ _ _ w)
 
   -- so the runs can be given starts
-  pub table_placeable : (firsts ends : List ℕ) → ((i : ℕ) → get_or groups i 0 ≤ no_end) → n ≤ length sizes → n ≤ length firsts
+  pub table_placeable : (firsts ends : List ℕ) → n ≤ length sizes → n ≤ length firsts
       → n ≤ length ends → Startable groups n sizes firsts ends
-  table_placeable firsts ends b x y z = record {
-    grown = k.tabled;
+  table_placeable firsts ends x y z = record {
     sizes_long = x;
     firsts_long = y;
     ends_long = z;
     balanced = (told_sizes k table_sizes.1).balanced;
-    top = table_top b;
+    top = table_top;
   }
 
   -- and with starts in document 01's words they are the arrangement

@@ -1,4 +1,3 @@
 pub mod Pull
 pub mod Table
-pub mod Narrowed
 pub mod Sized

@@ -5,47 +5,45 @@ ghost use Rattle.ranging.specs.Pull.{pull_by};
 ghost use Rattle.sizes.specs.Span as sizes;
 
 use spans::kind::Kind;
-use spans::span::{NO_GREATEST, Span, meet, minus, nothing};
+use spans::span::{NO_GREATEST, Span};
 
-// the upper end u less a
-fn shorter(u: u32, a: u32) -> u32
-    requires { a ≤ u }
-    ensures { top_of result ≡ sizes.shorter (top_of u) a }
+// the upper end less a
+fn shorter(end: u32, a: u32) -> u32
+    requires { a ≤ end }
+    ensures { top_of result ≡ sizes.shorter (top_of end) a }
 {
-    if u == NO_GREATEST {
-        return NO_GREATEST;
+    if end == NO_GREATEST {
+        NO_GREATEST
+    } else {
+        end - a
     }
-    u - a
 }
 
-// The x for which some y of b and some total of t are joined, where the sons may share members (cut 0) or share none (cut
-// the least of b).
-fn pull_ends(t: Span, b: Span, cut: u32) -> Span
-    requires { cut ≤ b.least }
-    ensures { span_held result ≡ pull_by cut t.least (top_of t.most) b.least (top_of b.most) }
+// The x for which some y of the others and some total are joined, where the sons may share members (cut 0) or share none (cut
+// the least of the others).
+fn pull_ends(total: Span, others: Span, cut: u32) -> Span
+    requires { cut ≤ others.least }
+    ensures { span_held result ≡ pull_by cut total.least (top_of total.most) others.least (top_of others.most) }
 {
-    if t.most < b.least {
-        return nothing();
+    if total.most < others.least {
+        return Span::NOTHING;
     }
     Span {
-        least: minus(t.least, b.most),
-        most: shorter(t.most, cut),
+        least: total.least.saturating_sub(others.most),
+        most: shorter(total.most, cut),
     }
 }
 
-// The x for which some y of b and some total of t are joined by the kind.
-pub fn pull(kind: Kind, t: Span, b: Span) -> Span
-    ensures { span_held result ≡ sizes.pull (kind_held kind) (span_held t) (span_held b) }
+// The x for which some y of the others and some total are joined by the kind.
+pub fn pull(kind: Kind, total: Span, others: Span) -> Span
+    ensures { span_held result ≡ sizes.pull (kind_held kind) (span_held total) (span_held others) }
 {
-    if t.most < t.least {
-        return nothing();
-    }
-    if b.most < b.least {
-        return nothing();
+    if total.is_empty() || others.is_empty() {
+        return Span::NOTHING;
     }
     match kind {
-        Kind::Lap => pull_ends(t, b, 0),
-        Kind::Add => pull_ends(t, b, b.least),
-        Kind::Eq => meet(t, b),
+        Kind::Lap => pull_ends(total, others, 0),
+        Kind::Add => pull_ends(total, others, others.least),
+        Kind::Eq => total.meet(others),
     }
 }

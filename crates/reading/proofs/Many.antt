@@ -1,18 +1,23 @@
 -- Laws of reading many records of one sort: what is left from a place on, and what the tables hold after one more.
-use Prim.Native.Nat.{ℕ, ◌+◌, ◌-◌, suc, ◌≤◌, ◌<◌, zero, ◌*◌}
-use mathlib.Core.Path.{◌≡◌, sym, ◌∙◌, ap, refl}
-use mathlib.Core.Bool.{true, false}
+use Prim.Native.Nat.{ℕ, ◌+◌, ◌-◌, suc, ◌≤◌, ◌<◌}
+use mathlib.Core.Path.{◌≡◌, sym, ◌∙◌, ap}
+use mathlib.Core.Bool.{Bool, true, false}
 use mathlib.Core.List.{List, [], ◌∷◌, ◌++◌}
 use mathlib.Core.Logic.{⊎_elim}
 use native.Mathlib.Omega.{arith}
 use native.Mathlib.Numerals.{add-one}
 use native.Mathlib.Nat.{add-zero, eq-or-lt_of_le}
 use borrow.Author.Tests.{ne_eqb}
-use lib.ListN.{drop, length, get_or, set, length-set}
-use lib.Seq.{drop-drop, get_or-set_same, get_or-set_other, sets}
-use Rattle.reading.specs.declared.load.Passed.TheVariants.{To, Refused}
+use lib.ListN.{take, drop, length, get_or, set}
+use lib.Seq.{drop-drop, get_or-set_same, get_or-set_other, get_or-take}
+use Rattle.std.proofs.lemmas.List.{length-take-le}
+use Rattle.std.specs.Prelude.{Ok, Err, Option, None}
+use Rattle.wire.specs.declared.refusals.Refusal.{Refusal}
+use Rattle.wire.specs.Refusals.{refusal_number}
+use Rattle.tables.specs.declared.groups.GroupNo.{GroupNo}
+use Rattle.tables.specs.Entry.{no_group}
 use Rattle.claim_records.specs.declared.claim.Claim.{Claim}
-use Rattle.records.specs.declared.record.Group.{Group}
+use Rattle.tables.specs.declared.groups.Group.{Group}
 use Rattle.records.specs.declared.record.Record.{Record}
 use Rattle.records.specs.declared.record.Name.{Name}
 use Rattle.laws.specs.Tabulate.{tabulate}
@@ -20,23 +25,22 @@ use Rattle.laws.proofs.TabulateLaws.{tabulate_same}
 use Rattle.wire.specs.Edition.{Edition}
 use Rattle.wire.specs.Bytes.{u16_at}
 use Rattle.wire.specs.Record.{Test, Reading, after, refusal, onward}
-use Rattle.wire.specs.SheetFormat.{Records, read_many, name_of, GroupRecord, list_number, NameRecord, name_tests, used, group_of, group_tests, claim_of}
+use Rattle.wire.specs.SheetFormat.{Records, read_many, name_of, NameRecord, name_tests, used, group_of, group_tests, claim_of}
 use Rattle.wire.specs.SheetFormat.{claim_tests}
 use Rattle.wire.specs.Encoding.{encode_claim}
 use Rattle.wire.proofs.Passing.{never_read}
 use Rattle.wire.proofs.Fields.{length_at}
-use Rattle.tables.specs.Groups.{groups_in}
+use Rattle.tables.specs.Groups.{groups_in, group_record}
+use Rattle.tables.specs.Names.{Means}
 use Rattle.tables.specs.RecordsIn.{records_in}
-use Rattle.labels.specs.WholeName.{WholeName}
+use Rattle.labels.specs.WholeName.{WholeName, AllWhole}
 use Rattle.labels.specs.LabelHash.{Seen, AllSeen}
-use Rattle.claim_records.specs.ClaimHeld.{list_as, claim_record, ClaimHeld}
-use Rattle.claim_records.specs.ClaimTable.{claim_numbers, claim_offset, claim_in, ClaimRoom, claims_in, ClaimPut}
-use Rattle.claim_records.proofs.ListKinds.{list_back, list_not_count}
+use Rattle.claim_records.specs.ClaimHeld.{claim_record, ClaimHeld}
+use Rattle.claim_records.specs.ClaimTable.{claims_in, no_claim}
 use Rattle.records.specs.Answers.{group, name, claim}
-use Rattle.records.proofs.Fields.{name_apart, group_whole}
+use Rattle.records.proofs.Fields.{name_apart, group_whole, refusal_nonzero}
 use Rattle.records.proofs.Carried.{Handed, group_same, name_same, claim_same, claim_bytes_law}
 use Rattle.reading.specs.Loaded.{goes_on, passed_as, Goes, AllGrouped, AllHeld}
-use Rattle.claim_records.specs.declared.claim.Claim.TheVariants as claim-of
 use Rattle.records.specs.declared.record.Record.TheVariants as record_of
 
 -- i of the records are the list xs, and reading what is left from the place `at` on is reading the whole
@@ -71,16 +75,16 @@ module _ {A : Type 0} (tests : List A → List ℕ → List Test) (value : List 
     unfolding onward
     left_more len e l = record { same = λ rest. (rw (e, after_one len l) at (sym (one rest))) ∙ left.same rest }
 
-    pub left_stop : (n : ℕ) (ys : List A) → refusal (tests xs (drop at s)) ≡ n → (n ≡ 0 → ⊥) →
-        Goes tests value s from count first (Refused n (first + i)) ys
+    pub left_stop : (e : Refusal) (place : ℕ) (ys : List A) → refusal (tests xs (drop at s)) ≡ refusal_number e → place ≡ first + i →
+        Goes tests value s from count first (Err (record { refusal = e; place = place })) ys
     unfolding onward goes_on passed_as
-    left_stop n ys e z = record {
-      goes = λ rest. (rw (e, ne_eqb n 0 z) at (sym (one rest))) ∙ left.same rest;
+    left_stop e place ys f p = record {
+      goes = λ rest. rw p ((rw (f, ne_eqb _ _ (refusal_nonzero e)) at (sym (one rest))) ∙ left.same rest);
       room = λ a f. never_read f;
     }
 
   pub left_done : (i at : ℕ) (xs : List A) → Left tests value s from count first i at xs → i ≡ count → at ≤ length s →
-      Goes tests value s from count first (To at) xs
+      Goes tests value s from count first (Ok at) xs
   unfolding read_many goes_on passed_as
   left_done i at xs left e l = record {
     goes = λ rest. (let z : count - i ≡ 0 = omega arith in rw (z, e) at (left.same rest));
@@ -100,10 +104,6 @@ each_more P Q n before kept here i k =
     (λ (m : suc i < n + 1). kept i (omega arith) (before i (omega arith)))
     (eq-or-lt_of_le k)
 
--- none of the first n records at these offsets meets a refusal
-abbrev pub AllPass : (List ℕ → List Test) → List ℕ → List ℕ → ℕ → Type 0
-AllPass tests s offsets n = (i : ℕ) → i < n → refusal (tests (drop (get_or offsets i 0) s)) ≡ 0
-
 -- the records whose offsets are in a table
 module _ (s offsets : List ℕ) (n x : ℕ) (h : n < length offsets) where
   offset_kept : (i : ℕ) → i < n → get_or (set offsets n x) i 0 ≡ get_or offsets i 0
@@ -118,146 +118,102 @@ module _ (s offsets : List ℕ) (n x : ℕ) (h : n < length offsets) where
   records_more value =
       tabulate_more _ _ n _ (λ i l. ap (λ p. value (drop p s)) (offset_kept i l)) (ap (λ p. value (drop p s)) offset_put)
 
-  pub pass_more : (tests : List ℕ → List Test) → AllPass tests s offsets n → refusal (tests (drop x s)) ≡ 0 →
-      AllPass tests s (set offsets n x) (n + 1)
-  pass_more tests before here =
-      each_more _ _ n before (λ i l e. rw (offset_kept i l) e) (rw offset_put here)
+  pub whole_more : AllWhole s offsets n → WholeName s x → AllWhole s (set offsets n x) (n + 1)
+  whole_more before here = each_more _ _ n before (λ i l e. rw (offset_kept i l) e) (rw offset_put here)
 
-  pub grouped_more : (names : List ℕ) (g : ℕ) → n < length names → AllGrouped s names offsets n → g ≡ (name_of (drop x s)).group →
-      AllGrouped s (set names n g) (set offsets n x) (n + 1)
+  pub grouped_more : (names : List (Option GroupNo)) (g : Option GroupNo) → n < length names → AllGrouped s names offsets n →
+      Means (name_of (drop x s)).group g → AllGrouped s (set names n g) (set offsets n x) (n + 1)
   grouped_more names g k before here =
-      each_more _ _ n before (λ i l e. rw (offset_kept i l, get_or-set_other names n i g 0 (omega arith)) e)
-      (rw (offset_put, get_or-set_same names n g 0 k) here)
+      each_more _ _ n before (λ i l e. rw (offset_kept i l, get_or-set_other names n i g None (omega arith)) e)
+      (rw (offset_put, get_or-set_same names n g None k) here)
 
-  pub seen_more : (seen : List ℕ) → AllSeen s seen offsets n → Seen s seen x → AllSeen s seen (set offsets n x) (n + 1)
+  pub seen_more : (seen : List Bool) → AllSeen s seen offsets n → Seen seen (name_of (drop x s)).label →
+      AllSeen s seen (set offsets n x) (n + 1)
   seen_more seen before here = each_more _ _ n before (λ i l e. rw (offset_kept i l) e) (rw offset_put here)
 
--- a run of stores in a table
-sets_below : (vs t : List ℕ) (k i : ℕ) → i < k → get_or (sets t k vs) i 0 ≡ get_or t i 0
-sets_below [] t k i h = refl
-sets_below (v ∷ vs) t k i h = sets_below vs (set t k v) (suc k) i (omega arith) ∙ get_or-set_other t k i v 0 (omega arith)
+-- the first n offsets of a table, as a list of their own
+module _ (s offsets : List ℕ) (n : ℕ) (h : n ≤ length offsets) where
+  pub length_first : length (take n offsets) ≡ n
+  length_first = length-take-le n offsets h
 
-sets_at : (vs t : List ℕ) (k j : ℕ) → k + j < length t → j < length vs → get_or (sets t k vs) (k + j) 0 ≡ get_or vs j 0
-sets_at [] t k j h l = absurd (omega arith)
-sets_at (v ∷ vs) t k zero h l =
-    rw add-zero (sets_below vs (set t k v) (suc k) k (omega arith) ∙ get_or-set_same t k v 0 (omega arith))
-sets_at (v ∷ vs) t k (suc j) h l =
-    let e : k + suc j ≡ suc k + j = omega arith in
-    rw e (sets_at vs (set t k v) (suc k) j (simp length-set (omega arith)) (omega arith))
+  pub first_whole : AllWhole s offsets n → AllWhole s (take n offsets) (length (take n offsets))
+  first_whole w = rw length_first (λ j l. rw (get_or-take n offsets j 0 l) (w j l))
 
--- four numbers of a table's entry
-record Four (t : List ℕ) (i a b c d : ℕ) : Type 0 where
-  pub first : get_or t (4 * i) 0 ≡ a
-  pub second : get_or t (4 * i + 1) 0 ≡ b
-  pub third : get_or t (4 * i + 2) 0 ≡ c
-  pub fourth : get_or t (4 * i + 3) 0 ≡ d
+  pub first_seen : (seen : List Bool) → AllSeen s seen offsets n → AllSeen s seen (take n offsets) (length (take n offsets))
+  first_seen seen w = rw length_first (λ j l. rw (get_or-take n offsets j 0 l) (w j l))
 
-four_put : (t : List ℕ) (n a b c d : ℕ) → 4 * n + 3 < length t → Four (sets t (4 * n) (a ∷ b ∷ c ∷ d ∷ [])) n a b c d
-four_put t n a b c d h = record {
-  first = rw add-zero at (sets_at (a ∷ b ∷ c ∷ d ∷ []) t (4 * n) 0 (omega arith) (omega arith));
-  second = sets_at (a ∷ b ∷ c ∷ d ∷ []) t (4 * n) 1 (omega arith) (omega arith);
-  third = sets_at (a ∷ b ∷ c ∷ d ∷ []) t (4 * n) 2 (omega arith) (omega arith);
-  fourth = sets_at (a ∷ b ∷ c ∷ d ∷ []) t (4 * n) 3 (omega arith) (omega arith);
-}
+  pub seen_first : (seen : List Bool) → AllSeen s seen (take n offsets) (length (take n offsets)) → AllSeen s seen offsets n
+  seen_first seen w = λ j l. rw (get_or-take n offsets j 0 l) at ((rw length_first at w) j l)
 
-four_kept : (t vs : List ℕ) (n i : ℕ) → i < n →
-    Four (sets t (4 * n) vs) i (get_or t (4 * i) 0) (get_or t (4 * i + 1) 0) (get_or t (4 * i + 2) 0) (get_or t (4 * i + 3) 0)
-four_kept t vs n i l = record {
-  first = sets_below vs t (4 * n) (4 * i) (omega arith);
-  second = sets_below vs t (4 * n) (4 * i + 1) (omega arith);
-  third = sets_below vs t (4 * n) (4 * i + 2) (omega arith);
-  fourth = sets_below vs t (4 * n) (4 * i + 3) (omega arith);
-}
+  pub first_records : {A : Type 0} (value : List ℕ → A) →
+      records_in value s (take n offsets) (length (take n offsets)) ≡ records_in value s offsets n
+  unfolding records_in
+  first_records value = rw length_first (tabulate_same _ _ n (λ i l. ap (λ p. value (drop p s)) (get_or-take n offsets i 0 l)))
+
+-- one more entry of a table
+module _ {A : Type 0} (d : A) (t : List A) (n : ℕ) (x : A) (h : n < length t) where
+  entry_kept : (i : ℕ) → i < n → get_or (set t n x) i d ≡ get_or t i d
+  entry_kept i l = get_or-set_other t n i x d (omega arith)
+
+  entry_put : get_or (set t n x) n d ≡ x
+  entry_put = get_or-set_same t n x d h
 
 -- the groups
-groups_more : (t : List ℕ) (n : ℕ) (g : GroupRecord) → 4 * n + 3 < length t →
-    groups_in (sets t (4 * n) (g.parent ∷ g.lo ∷ g.hi ∷ g.mode ∷ [])) (n + 1) ≡ groups_in t n ++ (g ∷ [])
+groups_more : (t : List Group) (n : ℕ) (g : Group) → n < length t → groups_in (set t n g) (n + 1) ≡ groups_in t n ++ (group_record g ∷ [])
 unfolding groups_in
 groups_more t n g h =
-    tabulate_more _ _ n g
-    (λ i l. let f = four_kept t (g.parent ∷ g.lo ∷ g.hi ∷ g.mode ∷ []) n i l in rw (f.first, f.second, f.third, f.fourth))
-    (let f = four_put t n g.parent g.lo g.hi g.mode h in rw (f.first, f.second, f.third, f.fourth))
+    tabulate_more _ _ n _ (λ i l. ap group_record (entry_kept no_group t n g h i l)) (ap group_record (entry_put no_group t n g h))
 
 -- the claims
-claim_put : (claims offsets : List ℕ) (n : ℕ) (c : Claim) → ClaimRoom claims offsets n →
-    claim_in (sets claims (4 * n) (claim_numbers c)) (set offsets n (claim_offset c)) n ≡ c
-unfolding claim_in
-claim_put claims offsets n (claim-of.Count c) h =
-    let f = four_put claims n 4 c.name.0 c.lo c.hi h.numbers in rw (f.first, f.second, f.third, f.fourth)
-claim_put claims offsets n (claim-of.Lists l) h =
-    let f = four_put claims n (list_number (list_as l.kind)) l.m l.n 0 h.numbers in
-    rw (f.first, f.second, f.third, get_or-set_same offsets n l.at 0 h.offset, list_back l.kind, list_not_count l.kind)
-
-module _ {claims offsets claims-put offsets-put : List ℕ} {n : ℕ} {c : Claim} (h : ClaimRoom claims offsets n)
-    (w : ClaimPut claims offsets n c claims-put offsets-put) where
-  claim_kept : (i : ℕ) → i < n → claim_in claims-put offsets-put i ≡ claim_in claims offsets i
-  unfolding claim_in
-  claim_kept i l =
-      let f = four_kept claims (claim_numbers c) n i l in
-      rw (
-        w.numbers,
-        w.offset,
-        f.first,
-        f.second,
-        f.third,
-        f.fourth,
-        get_or-set_other offsets n i (claim_offset c) 0 (omega arith),
-      )
-
-  claim_here : claim_in claims-put offsets-put n ≡ c
-  claim_here = rw (w.numbers, w.offset) (claim_put claims offsets n c h)
-
-  claims_more : (s : List ℕ) → claims_in s claims-put offsets-put (n + 1) ≡ claims_in s claims offsets n ++ (claim_record s c ∷ [])
+module _ (claims : List Claim) (n : ℕ) (c : Claim) (h : n < length claims) where
+  claims_more : (s : List ℕ) → claims_in s (set claims n c) (n + 1) ≡ claims_in s claims n ++ (claim_record s c ∷ [])
   unfolding claims_in
-  claims_more s = tabulate_more _ _ n _ (λ i l. ap (claim_record s) (claim_kept i l)) (ap (claim_record s) claim_here)
+  claims_more s =
+      tabulate_more _ _ n _ (λ i l. ap (claim_record s) (entry_kept no_claim claims n c h i l)) (ap (claim_record s) (entry_put no_claim claims n c h))
 
-  pub held_more : (s : List ℕ) (names : ℕ) → AllHeld s names claims offsets n → ClaimHeld s names c →
-      AllHeld s names claims-put offsets-put (n + 1)
-  held_more s names before here = each_more _ _ n before (λ i l e. rw (claim_kept i l) e) (rw claim_here here)
+  pub held_more : (s : List ℕ) (names : ℕ) → AllHeld s names claims n → ClaimHeld s names c → AllHeld s names (set claims n c) (n + 1)
+  held_more s names before here =
+      each_more _ _ n before (λ i l e. rw (entry_kept no_claim claims n c h i l) e) (rw (entry_put no_claim claims n c h) here)
 
 -- a name's tests, its label's use set apart
-pub name_alone : (v : Edition) (groups n : ℕ) (ns : List NameRecord) (b : List ℕ) → refusal (name_tests v groups [] b) ≡ n → (n ≡ 0 → ⊥) →
-    refusal (name_tests v groups ns b) ≡ n
-name_alone v groups n ns b e h = rw (name_apart v groups ns b, e, ne_eqb n 0 h)
+pub name_alone : (v : Edition) (groups : ℕ) (f : Refusal) (ns : List NameRecord) (b : List ℕ) →
+    refusal (name_tests v groups [] b) ≡ refusal_number f → refusal (name_tests v groups ns b) ≡ refusal_number f
+name_alone v groups f ns b e = rw (name_apart v groups ns b, e, ne_eqb _ _ (refusal_nonzero f))
 
 pub name_used : (v : Edition) (groups : ℕ) (ns : List NameRecord) (b : List ℕ) → refusal (name_tests v groups [] b) ≡ 0 →
     used ns (name_of b).label ≡ true → refusal (name_tests v groups ns b) ≡ 6
 name_used v groups ns b e f = rw (name_apart v groups ns b, e, f)
 
 -- one more group, name or claim, as the loops store it
-pub group_again : {s : List ℕ} (t : List ℕ) {u : List ℕ} {from count i at : ℕ} {x : Record} {g : Group} →
-    Left group_tests group_of s from count 2 i at (groups_in t i) → i < count → 4 * i + 3 < length t →
+pub group_again : {s : List ℕ} (t : List Group) {from count i at : ℕ} {x : Record} {g : Group} →
+    Left group_tests group_of s from count 2 i at (groups_in t i) → i < count → i < length t →
     Handed (group_tests (groups_in t i)) (λ b. group (group_of b)) s at x → x ≡ record_of.Group g →
-    u ≡ sets t (4 * i) (g.parent.0 ∷ g.lo ∷ g.hi ∷ g.mode ∷ []) →
-    Left group_tests group_of s from count 2 (i + 1) (at + 12) (groups_in u (i + 1))
-group_again {s} t {u} {from} {count} {i} {at} {x} {g} left h room w e put =
+    Left group_tests group_of s from count 2 (i + 1) (at + 12) (groups_in (set t i g) (i + 1))
+group_again {s} t {from} {count} {i} {at} {x} {g} left h room w e =
     let l = group_whole s at (groups_in t i) w.pass in
-    let r : GroupRecord = record { parent = g.parent.0; lo = g.lo; hi = g.hi; mode = g.mode } in
-    rw (put, groups_more t i r room, group_same w e)
+    rw (groups_more t i g room, group_same w e)
     (left_more group_tests group_of s from count 2 i at (groups_in t i) left h 12 w.pass (omega arith))
 
 pub name_again : {s : List ℕ} (offsets : List ℕ) (v : Edition) (groups : ℕ) {from count i at : ℕ} {x : Record} {n : Name} →
     Left (name_tests v groups) name_of s from count (2 + groups) i at (records_in name_of s offsets i) → i < count → i < length offsets →
     Handed (name_tests v groups []) (λ b. name (name_of b)) s at x → x ≡ record_of.Name n → WholeName s at →
     used (records_in name_of s offsets i) (name_of (drop at s)).label ≡ false →
-    Left (name_tests v groups) name_of s from count (2 + groups) (i + 1) (at + 6 + n.bytes) (records_in name_of s (set offsets i at) (i + 1))
+    Left (name_tests v groups) name_of s from count (2 + groups) (i + 1) (at + (6 + n.bytes)) (records_in name_of s (set offsets i at) (i + 1))
 name_again {s} offsets v groups {from} {count} {i} {at} {x} {n} left h room w e k f =
     let z : refusal (name_tests v groups (records_in name_of s offsets i) (drop at s)) ≡ 0 =
     rw (name_apart v groups (records_in name_of s offsets i) (drop at s), w.pass, f) in
     let y = (name_same w e k).1 in
-    let p : at + 6 + n.bytes ≡ at + (6 + n.bytes) = omega arith in
-    rw (p, records_more s offsets i at room name_of)
+    rw (records_more s offsets i at room name_of)
     (left_more (name_tests v groups) name_of s from count (2 + groups) i at (records_in name_of s offsets i) left h (6 + n.bytes) z
     (omega arith))
 
-pub claim_again : (names : ℕ) {s claims offsets claims-put offsets-put : List ℕ} {from count first i at bytes : ℕ} {x : Record}
-    {c : Claim} →
-    Left (claim_tests names) claim_of s from count first i at (claims_in s claims offsets i) → i < count → ClaimRoom claims offsets i →
+pub claim_again : (names : ℕ) {s : List ℕ} (claims : List Claim) {from count first i at bytes : ℕ} {x : Record} {c : Claim} →
+    Left (claim_tests names) claim_of s from count first i at (claims_in s claims i) → i < count → i < length claims →
     Handed (claim_tests names []) (λ b. claim (claim_of b)) s at x → x ≡ record_of.Claim c →
-    ClaimPut claims offsets i c claims-put offsets-put → bytes ≡ length (encode_claim (claim_record s c)) →
-    Left (claim_tests names) claim_of s from count first (i + 1) (at + bytes) (claims_in s claims-put offsets-put (i + 1))
+    bytes ≡ length (encode_claim (claim_record s c)) →
+    Left (claim_tests names) claim_of s from count first (i + 1) (at + bytes) (claims_in s (set claims i c) (i + 1))
 unfolding claim_tests
-claim_again names {s} {claims} {offsets} {from = from} {count} {first} {i} {at} {bytes} left h room w e put b =
-    rw (claims_more room put s, claim_same w e)
-    (left_more (claim_tests names) claim_of s from count first i at (claims_in s claims offsets i) left h bytes w.pass
+claim_again names {s} claims {from} {count} {first} {i} {at} {bytes} {c = c} left h room w e b =
+    rw (claims_more claims i c room s, claim_same w e)
+    (left_more (claim_tests names) claim_of s from count first i at (claims_in s claims i) left h bytes w.pass
     (sym (claim_bytes_law names w e b)))

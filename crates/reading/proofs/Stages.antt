@@ -1,13 +1,19 @@
 -- A sheet is read in stages, groups, names, claims and the end: each goes on from where the one before stopped, or is refused.
 use Prim.Native.Nat.{ℕ, ◌+◌, ◌-◌, ◌≤◌, ◌<◌}
-use mathlib.Core.Path.{◌≡◌, sym, ◌∙◌, ap}
+use mathlib.Core.Path.{◌≡◌, refl, sym, ◌∙◌, ap}
 use mathlib.Core.List.{List}
 use native.Mathlib.Omega.{arith}
 use borrow.Author.Tests.{eq-eqb, ne_eqb}
 use lib.ListN.{drop, length, length-drop, get_or}
-use Rattle.reading.specs.declared.load.Passed.{Passed}
-use Rattle.reading.specs.declared.load.Passed.TheVariants.{To, Refused}
-use Rattle.reading.specs.declared.load.Loaded.{Loaded}
+use Rattle.std.specs.Prelude.{Result, Ok, Err, Option, None}
+use Rattle.wire.specs.declared.refusals.Refusal.{Refusal}
+use Rattle.wire.specs.declared.refusals.Fault.{Fault}
+use Rattle.wire.specs.Refusals.{refusal_number}
+use Rattle.tables.specs.declared.groups.GroupNo.{GroupNo}
+use Rattle.claim_records.specs.declared.claim.Claim.{Claim}
+use Rattle.reading.specs.declared.sheet_tables.Tables.{Tables}
+use Rattle.tables.specs.Names.{Means}
+use Rattle.records.proofs.Fields.{refusal_nonzero}
 use Rattle.records.specs.declared.record.Head.{Head}
 use Rattle.records.specs.declared.record.Record.{Record}
 use Rattle.wire.specs.Edition.{Edition, edition_of}
@@ -24,29 +30,30 @@ use Rattle.tables.proofs.RecordsInLaws.{get_d_records_in}
 use Rattle.claim_records.specs.ClaimTable.{claims_in}
 use Rattle.records.specs.Answers.{head_record, head}
 use Rattle.records.proofs.Carried.{Handed, head_same}
-use Rattle.reading.specs.Loaded.{goes_on, passed_as, Goes, NamesGo, ClaimsGo, loaded_as, Loads, AllGrouped, HeadLimits}
+use Rattle.reading.specs.Loaded.{goes_on, passed_as, Goes, NamesGo, ClaimsGo, loaded_as, Loads, AllGrouped, HeadLimits, HeadLoads}
 use Rattle.records.specs.declared.record.Record.TheVariants as record_of
 
-pub group_stage : (h : HeadRecord) (s : List ℕ) (from : ℕ) (p : Passed) (gs : List GroupRecord) →
+pub group_stage : (h : HeadRecord) (s : List ℕ) (from : ℕ) (p : Result ℕ Fault) (gs : List GroupRecord) →
     Goes group_tests group_of s from h.groups 2 p gs →
     goes_on (passed_as p) (λ at. read_names h (2 + h.groups) gs (drop at s)) ≡ read_groups h (drop from s)
 unfolding read_groups
 group_stage h s from p gs g = g.goes (read_names h)
 
-pub name_stage : (h : HeadRecord) (s : List ℕ) (from : ℕ) (p : Passed) (gs : List GroupRecord) (names labels : List ℕ) →
+pub name_stage : (h : HeadRecord) (s : List ℕ) (from : ℕ) (p : Result ℕ Fault) (gs : List GroupRecord) (names : List (Option GroupNo))
+    (labels : List ℕ) →
     NamesGo h.edition h.groups s from h.names p names labels →
     goes_on (passed_as p) (λ at. read_claims h gs (2 + h.groups + h.names) (records_in name_of s labels h.names) (drop at s))
     ≡ read_names h (2 + h.groups) gs (drop from s)
 unfolding read_names
 name_stage h s from p gs names labels g = g.reads.goes (read_claims h gs)
 
-pub claim_stage : (h : HeadRecord) (s : List ℕ) (from first : ℕ) (p : Passed) (gs : List GroupRecord)
-    (ns : List NameRecord) (claims offsets : List ℕ) →
-    ClaimsGo h.names first s from h.claims p claims offsets →
-    goes_on (passed_as p) (λ at. closing h.edition gs ns (first + h.claims) (claims_in s claims offsets h.claims) (drop at s))
+pub claim_stage : (h : HeadRecord) (s : List ℕ) (from first : ℕ) (p : Result ℕ Fault) (gs : List GroupRecord)
+    (ns : List NameRecord) (claims : List Claim) →
+    ClaimsGo h.names first s from h.claims p claims →
+    goes_on (passed_as p) (λ at. closing h.edition gs ns (first + h.claims) (claims_in s claims h.claims) (drop at s))
     ≡ read_claims h gs first ns (drop from s)
 unfolding read_claims
-claim_stage h s from first p gs ns claims offsets g = g.reads.goes (closing h.edition gs ns)
+claim_stage h s from first p gs ns claims g = g.reads.goes (closing h.edition gs ns)
 
 -- the end: 7 where bytes follow
 module _ (v : Edition) (gs : List GroupRecord) (ns : List NameRecord) (r : ℕ) (cs : List ClaimRecord) (s : List ℕ) (at : ℕ) where
@@ -59,35 +66,49 @@ module _ (v : Edition) (gs : List GroupRecord) (ns : List NameRecord) (r : ℕ) 
   at_end l = rw (length-drop at s, eq-eqb (length s - at) 0 (omega arith))
 
 -- what goes on from a place
-pub went_on : {p : Passed} {at : ℕ} → p ≡ To at → passed_as p ≡ read at
+pub went_on : {p : Result ℕ Fault} {at : ℕ} → p ≡ Ok at → passed_as p ≡ read at
 unfolding passed_as
 went_on e = rw e
 
-pub went : {p : Passed} {at : ℕ} (next : ℕ → Reading Records) {whole : Reading Records} → p ≡ To at →
+pub went : {p : Result ℕ Fault} {at : ℕ} (next : ℕ → Reading Records) {whole : Reading Records} → p ≡ Ok at →
     goes_on (passed_as p) next ≡ whole → next at ≡ whole
 unfolding goes_on passed_as
 went next e q = rw e at q
 
 -- a refusal of a stage is the sheet's
-pub turned_loads : {p : Passed} {n r : ℕ} (next : ℕ → Reading Records) {whole : Reading Records} {x : Loaded}
-    {s groups names labels claims offsets : List ℕ} → p ≡ Refused n r → loaded_as x ≡ goes_on (passed_as p) (λ at. refused 0 0) →
-    goes_on (passed_as p) next ≡ whole → Loads x whole s groups names labels claims offsets
-unfolding goes_on passed_as
-turned_loads {n = n} {r = r} next {whole} {x} e f q =
-    let z : loaded_as x ≡ refused n r = rw e at f in
-    let w : refused n r ≡ whole = rw e at q in
-    record { reads = rw z w; held = λ h g. never_read (sym z ∙ g) }
+pub turned_loads : {p : Result ℕ Fault} {f : Fault} (next : ℕ → Reading Records) {whole : Reading Records} {s : List ℕ} {t : Tables} →
+    p ≡ Err f → goes_on (passed_as p) next ≡ whole → Loads (Err f) whole s t
+unfolding goes_on passed_as loaded_as
+turned_loads next e q = record { reads = rw e at q; held = λ h g. never_read g }
 
--- the table of names has the group of each name
-pub names_grouped : (s names labels : List ℕ) (count : ℕ) → AllGrouped s names labels count → (n : ℕ) → 1 ≤ n → n ≤ count →
-    get_or names (n - 1) 0 ≡ name_group (records_in name_of s labels count) n
+-- what the head meets is the sheet's, and after it reading goes on
+pub head_turned : {f : Fault} {s : List ℕ} {t : Tables} → HeadLoads (Err f) s → Loads (Err f) (read_sheet s) s t
+unfolding goes_on loaded_as
+head_turned w = record { reads = w.reads; held = λ h g. never_read g }
+
+module _ {h : Head} {s : List ℕ} (w : HeadLoads (Ok h) s) where
+  pub head_read : (12 ≤ length s) × HeadLimits (head_record h)
+  unfolding loaded_as
+  head_read = w.limits _ refl
+
+  pub head_loads : {r : Result Head Fault} {t : Tables} → Loads r (read_groups (head_record h) (drop 12 s)) s t → Loads r (read_sheet s) s t
+  unfolding goes_on loaded_as
+  head_loads l = record { reads = l.reads ∙ w.reads; held = l.held }
+
+-- the table of names has what each name means
+pub names_grouped : (s : List ℕ) (names : List (Option GroupNo)) (labels : List ℕ) (count : ℕ) → AllGrouped s names labels count →
+    (n : ℕ) → 1 ≤ n → n ≤ count → Means (name_group (records_in name_of s labels count) n) (get_or names (n - 1) None)
 names_grouped s names labels count g n a b =
-    g (n - 1) (omega arith) ∙ sym (ap (λ r. r.group) (get_d_records_in name_of s labels count (n - 1) _ (omega arith)))
+    let w = g (n - 1) (omega arith) in
+    record {
+      number = w.number ∙ sym (ap (λ r. r.group) (get_d_records_in name_of s labels count (n - 1) _ (omega arith)));
+      numbered = w.numbered;
+    }
 
 -- the head
-pub head_refused : (s : List ℕ) (n : ℕ) → refusal (head_tests s) ≡ n → (n ≡ 0 → ⊥) → refused n 1 ≡ read_sheet s
+pub head_refused : (s : List ℕ) (e : Refusal) → refusal (head_tests s) ≡ refusal_number e → refused (refusal_number e) 1 ≡ read_sheet s
 unfolding read_sheet onward
-head_refused s n e h = rw (e, ne_eqb n 0 h)
+head_refused s e h = rw (h, ne_eqb _ _ (refusal_nonzero e))
 
 module _ {s : List ℕ} {x : Record} {h : Head} (w : Handed head_tests (λ b. head (head_of b)) s 0 x) (e : x ≡ record_of.Head h) where
   right : HeadRight s

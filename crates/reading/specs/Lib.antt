@@ -1,1 +1,2 @@
+pub mod NoSheet
 pub mod Loaded

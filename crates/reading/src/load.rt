@@ -1,205 +1,158 @@
 // A sheet into lent tables: its groups, names and claims one after another, to the end or to the first refusal.
-ghost use Rattle.std.specs.Prelude.{◌≡◌, ◌+◌, ◌*◌, ◌≤◌, length, drop};
+ghost use Rattle.std.specs.Prelude.{◌≡◌, ◌+◌, ◌≤◌, length, drop};
 ghost use Rattle.wire.specs.Capacity.{group_capacity};
 ghost use Rattle.wire.specs.Edition.{edition_of};
 ghost use Rattle.wire.specs.Limits.{name_limit, claim_limit};
-ghost use Rattle.wire.specs.Record.{refused};
 ghost use Rattle.wire.specs.SheetFormat.{group_of, group_tests, read_groups, read_sheet};
-ghost use Rattle.tables.specs.Groups.{group_fields, groups_in};
-ghost use Rattle.claim_records.specs.ClaimTable.{claim_slots};
+ghost use Rattle.tables.specs.Groups.{groups_in};
 ghost use Rattle.records.specs.Answers.{head_record};
-ghost use Rattle.reading.specs.Loaded.{goes_on, passed_as, loaded_as, Goes, NamesGo, ClaimsGo, Loads, Capacity, HeadLimits, LoadsTree};
+ghost use Rattle.reading.specs.Loaded.{Goes, NamesGo, ClaimsGo, HeadLimits, HeadLoads, Numbered, Loads, LoadsTree};
 
-use claim_records::claim::{claim_bytes, put_claim};
-use labels::used::{LABEL_HASHES, used_label};
+use crate::sheet_tables::Tables;
+use claim_records::claim::Claim;
+use labels::used::{LABEL_HASHES, label_of, used_label};
 use records::read::{read_claim, read_group, read_head, read_name};
-use records::record::{Answer, Head, Record, refusal_of};
-use tables::groups::{GroupNo, put_four};
-use tables::limits::{CLAIM_TABLE, GROUP_FIELDS, LABEL_TABLE, NAME_TABLE, OFFSET_TABLE};
-use tables::names::number_meant;
-use wire::refusals::{LABEL_TWICE, TRAILING, WRONG_KIND};
+use records::record::{Answer, Head, Record};
+use tables::groups::{Group, GroupNo};
+use tables::limits::{CLAIM_TABLE, GROUP_CAPACITY, NAME_TABLE};
+use wire::refusals::{Fault, Refusal};
 
-// The offset after the last of some records, or a refusal's number with the record's number.
-#[derive(Clone, Copy)]
-pub enum Passed {
-    To(usize),
-    Refused(u32, u32),
-}
-
-// A sheet's head, its records being in the tables, or a refusal's number with the record's number.
-#[derive(Clone, Copy)]
-pub enum Loaded {
-    Sheet(Head),
-    Refused(u32, u32),
-}
-
-// a refusal while the records are read is one of the sheet
-fn turned_back(p: Passed) -> Loaded
-    ensures { loaded_as result ≡ goes_on (passed_as p) (λ at. refused 0 0) }
+// the answer on the record of this number, as one on the sheet
+fn numbered(answer: Answer, number: u32) -> Result<Record, Fault>
+    ensures { Numbered answer number result }
 {
-    match p {
-        Passed::To(_) => Loaded::Refused(0, 0),
-        Passed::Refused(n, r) => Loaded::Refused(n, r),
-    }
+    answer.map_err(|refusal| refusal.at(number))
 }
 
-fn load_groups(s: &[u8], from: usize, count: u16, groups: &mut [u16]) -> Passed
-    requires { (from ≤ length s.now) × ((count ≤ group_capacity) × (group_fields * group_capacity ≤ length groups.old)) }
+// the offset after the groups
+fn load_groups(
+    s: &[u8],
+    from: usize,
+    count: u16,
+    groups: &mut [Group; GROUP_CAPACITY],
+) -> Result<usize, Fault>
+    requires { (from ≤ length s.now) × (count ≤ group_capacity) }
     ensures { Goes group_tests group_of s.now from count 2 result (groups_in groups.new count) }
 {
     let mut at = from;
     for i in 0..count {
-        let number = 2 + i as u32;
-        let answer = read_group(s, at, GroupNo(i + 1));
-        let Answer::Record(rec) = answer else {
-            return Passed::Refused(refusal_of(answer), number);
+        let record = numbered(read_group(s, at, GroupNo(i + 1)), 2 + i as u32)?;
+        let Record::Group(group) = record else {
+            unreachable!();
         };
-        let Record::Group(g) = rec else {
-            return Passed::Refused(WRONG_KIND, number);
-        };
-        let k = GROUP_FIELDS * i as usize;
-        put_four(groups, k, g.parent.0, g.lo, g.hi, g.mode);
-        at = at + 12;
+        groups[i as usize] = group;
+        at += 12;
     }
-    Passed::To(at)
+    Ok(at)
 }
 
+// the offset after the names
 fn load_names(
     s: &[u8],
     from: usize,
-    count: u16,
-    edition: u16,
-    groups: u16,
-    names: &mut [u16],
-    labels: &mut [usize],
-) -> Passed
-    requires { (from ≤ length s.now) × ((count ≤ name_limit) × ((name_limit ≤ length names.old)
-        × (name_limit ≤ length labels.old))) }
-    ensures { NamesGo (edition_of edition) groups s.now from count result names.new labels.new }
+    head: Head,
+    names: &mut [Option<GroupNo>; NAME_TABLE],
+    labels: &mut [usize; NAME_TABLE],
+) -> Result<usize, Fault>
+    requires { (from ≤ length s.now) × (head.names ≤ name_limit) }
+    ensures { NamesGo (edition_of head.edition) head.groups s.now from head.names result names.new labels.new }
 {
-    let mut seen = [0u8; LABEL_HASHES];
+    let mut seen = [false; LABEL_HASHES];
     let mut at = from;
-    for i in 0..count {
-        let number = 2 + groups as u32 + i as u32;
+    for i in 0..head.names {
+        let number = 2 + head.groups as u32 + i as u32;
+        let record = numbered(read_name(s, at, head.edition, head.groups), number)?;
+        let Record::Name(name) = record else {
+            unreachable!();
+        };
         let k = i as usize;
-        let answer = read_name(s, at, edition, groups);
-        let Answer::Record(rec) = answer else {
-            return Passed::Refused(refusal_of(answer), number);
-        };
-        let Record::Name(n) = rec else {
-            return Passed::Refused(WRONG_KIND, number);
-        };
-        if used_label(s, labels, k, at, &mut seen) {
-            return Passed::Refused(LABEL_TWICE, number);
+        if used_label(s, &labels[..k], label_of(s, at), &mut seen) {
+            return Err(Refusal::LabelTwice.at(number));
         }
-        let means = n.means;
-        names[k] = number_meant(means);
+        names[k] = name.means;
         labels[k] = at;
-        at = at + 6 + n.bytes as usize;
+        at += 6 + name.bytes as usize;
     }
-    Passed::To(at)
+    Ok(at)
 }
 
+// the offset after the claims, the first of which is the record numbered `first`
 fn load_claims(
     s: &[u8],
     from: usize,
-    count: u16,
-    names: u16,
+    head: Head,
     first: u32,
-    claims: &mut [u16],
-    offsets: &mut [usize],
-) -> Passed
-    requires { (from ≤ length s.now) × ((count ≤ claim_limit) × ((first ≤ 2 + group_capacity + name_limit) ×
-        ((claim_slots * claim_limit ≤ length claims.old) × (claim_limit ≤ length offsets.old)))) }
-    ensures { ClaimsGo names first s.now from count result claims.new offsets.new }
+    claims: &mut [Claim; CLAIM_TABLE],
+) -> Result<usize, Fault>
+    requires { (from ≤ length s.now) × ((head.claims ≤ claim_limit) × (first ≤ 2 + group_capacity + name_limit)) }
+    ensures { ClaimsGo head.names first s.now from head.claims result claims.new }
 {
     let mut at = from;
-    for i in 0..count {
-        let number = first + i as u32;
-        let answer = read_claim(s, at, names);
-        let Answer::Record(rec) = answer else {
-            return Passed::Refused(refusal_of(answer), number);
+    for i in 0..head.claims {
+        let record = numbered(read_claim(s, at, head.names), first + i as u32)?;
+        let Record::Claim(claim) = record else {
+            unreachable!();
         };
-        let Record::Claim(c) = rec else {
-            return Passed::Refused(WRONG_KIND, number);
-        };
-        put_claim(claims, offsets, i as usize, c);
-        at = at + claim_bytes(c);
+        claims[i as usize] = claim;
+        at += claim.bytes();
     }
-    Passed::To(at)
+    Ok(at)
 }
 
 // the records after the head
 fn load_records(
     s: &[u8],
-    h: Head,
-    groups: &mut [u16],
-    names: &mut [u16],
-    labels: &mut [usize],
-    claims: &mut [u16],
-    offsets: &mut [usize],
-) -> Loaded
-    requires { (12 ≤ length s.now) × (HeadLimits (head_record h) × Capacity groups.old names.old labels.old claims.old
-        offsets.old) }
-    ensures { Loads result (read_groups (head_record h) (drop 12 s.now)) s.now groups.new
-        names.new labels.new claims.new offsets.new }
+    head: Head,
+    groups: &mut [Group; GROUP_CAPACITY],
+    names: &mut [Option<GroupNo>; NAME_TABLE],
+    labels: &mut [usize; NAME_TABLE],
+    claims: &mut [Claim; CLAIM_TABLE],
+) -> Result<Head, Fault>
+    requires { (12 ≤ length s.now) × HeadLimits (head_record head) }
+    ensures { Loads result (read_groups (head_record head) (drop 12 s.now)) s.now
+        (record { groups = groups.new; names = names.new; labels = labels.new; claims = claims.new }) }
 {
-    let g = load_groups(s, 12, h.groups, groups);
-    let Passed::To(at_names) = g else {
-        return turned_back(g);
-    };
-    let n = load_names(s, at_names, h.names, h.edition, h.groups, names, labels);
-    let Passed::To(at_claims) = n else {
-        return turned_back(n);
-    };
-    let first = 2 + h.groups as u32 + h.names as u32;
-    let c = load_claims(s, at_claims, h.claims, h.names, first, claims, offsets);
-    let Passed::To(end) = c else {
-        return turned_back(c);
-    };
+    let at_names = load_groups(s, 12, head.groups, groups)?;
+    let at_claims = load_names(s, at_names, head, names, labels)?;
+    let first = 2 + head.groups as u32 + head.names as u32;
+    let end = load_claims(s, at_claims, head, first, claims)?;
     if end < s.len() {
-        return Loaded::Refused(TRAILING, first + h.claims as u32);
+        return Err(Refusal::Trailing.at(first + head.claims as u32));
     }
-    Loaded::Sheet(h)
+    Ok(head)
 }
 
-pub fn load_sheet(
-    sheet: &[u8],
-    groups: &mut [u16],
-    names: &mut [u16],
-    labels: &mut [usize],
-    claims: &mut [u16],
-    offsets: &mut [usize],
-) -> Loaded
-    requires { Capacity groups.old names.old labels.old claims.old offsets.old }
-    ensures { Loads result (read_sheet sheet.now) sheet.now groups.new
-        names.new labels.new claims.new offsets.new }
+fn load_head(sheet: &[u8]) -> Result<Head, Fault>
+    ensures { HeadLoads result sheet.now }
 {
-    let answer = read_head(sheet, 0);
-    let Answer::Record(rec) = answer else {
-        return Loaded::Refused(refusal_of(answer), 1);
+    let record = numbered(read_head(sheet, 0), 1)?;
+    let Record::Head(head) = record else {
+        unreachable!();
     };
-    let Record::Head(h) = rec else {
-        return Loaded::Refused(WRONG_KIND, 1);
-    };
-    load_records(sheet, h, groups, names, labels, claims, offsets)
+    Ok(head)
+}
+
+pub fn load_sheet(sheet: &[u8], tables: &mut Tables) -> Result<Head, Fault>
+    ensures { Loads result (read_sheet sheet.now) sheet.now tables.new }
+{
+    let head = load_head(sheet)?;
+    load_records(
+        sheet,
+        head,
+        &mut tables.groups,
+        &mut tables.names,
+        &mut tables.labels,
+        &mut tables.claims,
+    )
 }
 
 // for operations that need the groups only: names and claims are read, and not kept
-pub fn load_tree(sheet: &[u8], groups: &mut [u16]) -> Loaded
-    requires { group_fields * group_capacity ≤ length groups.old }
+pub fn load_tree(sheet: &[u8], groups: &mut [Group; GROUP_CAPACITY]) -> Result<Head, Fault>
     ensures { LoadsTree result (read_sheet sheet.now) sheet.now groups.new }
 {
-    let mut names = [0u16; NAME_TABLE];
-    let mut labels = [0usize; LABEL_TABLE];
-    let mut claims = [0u16; CLAIM_TABLE];
-    let mut offsets = [0usize; OFFSET_TABLE];
-    load_sheet(
-        sheet,
-        groups,
-        &mut names,
-        &mut labels,
-        &mut claims,
-        &mut offsets,
-    )
+    let head = load_head(sheet)?;
+    let mut names = [None; NAME_TABLE];
+    let mut labels = [0; NAME_TABLE];
+    let mut claims = [Claim::NONE; CLAIM_TABLE];
+    load_records(sheet, head, groups, &mut names, &mut labels, &mut claims)
 }

@@ -3,19 +3,20 @@ use Prim.Native.Nat.{ℕ, ◌+◌, ◌-◌, ◌≤◌, ◌<◌}
 use mathlib.Core.Path.{◌≡◌, ◌∙◌, refl, ap, sym}
 use mathlib.Core.List.{List, []}
 use native.Mathlib.Omega.{arith}
-use borrow.Author.Tests.{ne_eqb, eqb-true, eqb-false}
-use denote.Enum.Declared.{tag_of}
+use borrow.Author.Tests.{ne_eqb, eqb-true}
 use lib.ListN.{drop, length, get_or, take, length-take, length-drop}
 use lib.Seq.{ext_get_or, get_or-take, get_or-drop}
 use lib.Dec.{eqb}
 use Rattle.records.specs.declared.record.Record.{Record}
-use Rattle.records.specs.declared.record.Answer.{Answer}
+use Rattle.wire.specs.declared.refusals.Refusal.{Refusal}
 use Rattle.claim_records.specs.declared.claim.Claim.{Claim}
 use Rattle.records.specs.declared.record.Head.{Head}
-use Rattle.records.specs.declared.record.Group.{Group}
+use Rattle.tables.specs.declared.groups.Group.{Group}
+use Rattle.tables.specs.declared.groups.GroupNo.{GroupNo}
+use Rattle.tables.specs.Groups.{group_record}
 use Rattle.records.specs.declared.record.Name.{Name}
-use Rattle.records.specs.contracts.record.Record.{the_type}
-use Rattle.tables.specs.declared.names.Meant.{Meant}
+use Rattle.std.specs.Prelude.{Option, Result, Ok, Err}
+use Rattle.wire.specs.Refusals.{refusal_number}
 use Rattle.laws.proofs.Cases.{split}
 use Rattle.laws.proofs.TabulateLaws.{length_tabulate, get_d_tabulate}
 use Rattle.wire.specs.Bytes.{u16_at}
@@ -23,13 +24,13 @@ use Rattle.wire.specs.Record.{kind_of, Test, refusal, onward, Reading, read, ref
 use Rattle.wire.specs.SheetFormat.{GroupRecord, NameRecord, head_of, group_of, name_of, claim_of, claim_tests}
 use Rattle.wire.specs.Encoding.{encode_claim}
 use Rattle.wire.proofs.Fields.{length_at}
+use Rattle.records.proofs.Fields.{refusal_nonzero}
 use Rattle.tables.specs.Names.{meant_number}
 use Rattle.labels.specs.WholeName.{WholeName}
 use Rattle.labels.proofs.Strings.{label_length, label_at}
 use Rattle.claim_records.specs.ClaimHeld.{claim_record}
 use Rattle.claim_records.proofs.ClaimBytes.{claim_length_law}
-use Rattle.records.specs.Answers.{Value, record_as, answer_as, AnswerOf, refusal_in, head, group, name, claim, head_record, bytes_from}
-use Rattle.records.specs.declared.record.Answer.TheVariants as answer
+use Rattle.records.specs.Answers.{Value, record_as, answer_as, AnswerOf, head, group, name, claim, head_record, bytes_from}
 use Rattle.records.specs.declared.record.Record.TheVariants as record_of
 
 -- the record x was handed up: all tests passed, and it carries what stands there
@@ -39,19 +40,19 @@ pub record Handed (tests : List ℕ → List Test) (value : List ℕ → Value) 
 
 -- the answer to the tests: the first that failed, or the record
 module _ {tests : List ℕ → List Test} {value : List ℕ → Value} {s : List ℕ} {at : ℕ} where
-  pub answer_refused : {n : ℕ} → (n ≡ 0 → ⊥) → refusal (tests (drop at s)) ≡ n → AnswerOf tests value s at (answer.Refused n)
+  pub answer_refused : {e : Refusal} → refusal (tests (drop at s)) ≡ refusal_number e → AnswerOf tests value s at (Err e)
   unfolding answer_as onward
-  answer_refused {n} h e = record { says = λ k. rw (e, ne_eqb n 0 h) }
+  answer_refused {e} h = record { says = λ k. rw (h, ne_eqb _ _ (refusal_nonzero e)) }
 
   pub answer_record : {x : Record} → refusal (tests (drop at s)) ≡ 0 → record_as s at x ≡ (kind_of (drop at s), value (drop at s)) →
-      AnswerOf tests value s at (answer.Record x)
+      AnswerOf tests value s at (Ok x)
   unfolding answer_as onward
   answer_record e f = record { says = λ k. rw (e, f) }
 
 -- what an answer says of the tests: a record that they all passed, a refusal the first that failed
-module _ {tests : List ℕ → List Test} {value : List ℕ → Value} {s : List ℕ} {at : ℕ} {r : Answer}
+module _ {tests : List ℕ → List Test} {value : List ℕ → Value} {s : List ℕ} {at : ℕ} {r : Result Record Refusal}
     (w : AnswerOf tests value s at r) where
-  pub answered_record : {x : Record} → r ≡ answer.Record x → Handed tests value s at x
+  pub answered_record : {x : Record} → r ≡ Ok x → Handed tests value s at x
   unfolding answer_as onward
   answered_record {x} e =
       let q = rw e at (w.says 0) in
@@ -61,17 +62,14 @@ module _ {tests : List ℕ → List Test} {value : List ℕ → Value} {s : List
       (λ t. let z : read (record_as s at x) ≡ refused (refusal (tests (drop at s))) 0 = rw t at q in
       let y : ◌≡◌ {A = ℕ} 0 1 = cc in absurd (omega arith))
 
-  pub answered_refusal : {k n : ℕ} → r ≡ answer.Refused k → n ≡ refusal_in (answer_as s at 0 r) →
-      (refusal (tests (drop at s)) ≡ n) × (n ≡ 0 → ⊥)
-  unfolding answer_as refusal_in onward
-  answered_refusal {k} {n} e f =
-      let q = rw e at (w.says 0) in
-      let g : n ≡ k = rw e at f in
+  pub answered_refusal : {e : Refusal} → r ≡ Err e → refusal (tests (drop at s)) ≡ refusal_number e
+  unfolding answer_as onward
+  answered_refusal {e} f =
+      let q = rw f at (w.says 0) in
       split (eqb (refusal (tests (drop at s))) 0)
-      (λ t. let z : refused k 0 ≡ read (kind_of (drop at s), value (drop at s)) = rw t at q in
+      (λ t. let z : refused (refusal_number e) 0 ≡ read (kind_of (drop at s), value (drop at s)) = rw t at q in
       let y : ◌≡◌ {A = ℕ} 0 1 = cc in absurd (omega arith))
-      (λ t. let z : ◌≡◌ {A = Reading (ℕ × Value)} (refused k 0) (refused (refusal (tests (drop at s))) 0) = rw t at q in
-      let y : refusal (tests (drop at s)) ≡ n = cc in (y, λ z. eqb-false _ _ t (y ∙ z)))
+      (λ t. let z : ◌≡◌ {A = Reading (ℕ × Value)} (refused (refusal_number e) 0) (refused (refusal (tests (drop at s))) 0) = rw t at q in cc)
 
 -- which of the four sorts a record is
 abbrev sort : Value → ℕ
@@ -80,20 +78,9 @@ sort (group g) = 1
 sort (name n) = 2
 sort (claim c) = 3
 
-tag_sort : (s : List ℕ) (at : ℕ) (x : Record) → tag_of the_type x ≡ sort (record_as s at x).1
-unfolding record_as
-tag_sort s at (record_of.Head h) = refl
-tag_sort s at (record_of.Group g) = refl
-tag_sort s at (record_of.Name n) = refl
-tag_sort s at (record_of.Claim c) = refl
-
 sort_of : {tests : List ℕ → List Test} {value : List ℕ → Value} {s : List ℕ} {at : ℕ} {x : Record} → Handed tests value s at x →
     sort (record_as s at x).1 ≡ sort (value (drop at s))
 sort_of w = ap (λ p. sort p.1) w.carries
-
-pub tag_of_handed : {tests : List ℕ → List Test} {value : List ℕ → Value} {s : List ℕ} {at : ℕ} {x : Record} → Handed tests value s at x →
-    tag_of the_type x ≡ sort (value (drop at s))
-tag_of_handed {s = s} {at = at} {x = x} w = tag_sort s at x ∙ sort_of w
 
 module _ (s : List ℕ) (at : ℕ) where
   some_head : (x : Record) → sort (record_as s at x).1 ≡ 0 → ((h : Head) → x ≡ record_of.Head h → ⊥) → ⊥
@@ -145,10 +132,10 @@ module _ {tests : List ℕ → List Test} {s : List ℕ} {at : ℕ} {x : Record}
   head_same {h} w e = let z : head (head_record h) ≡ head (head_of (drop at s)) = ap (λ p. p.1) (rw e at w.carries) in cc
 
   pub group_same : {g : Group} → Handed tests (λ b. group (group_of b)) s at x → x ≡ record_of.Group g →
-      record { parent = g.parent.0; lo = g.lo; hi = g.hi; mode = g.mode } ≡ group_of (drop at s)
+      group_record g ≡ group_of (drop at s)
   unfolding record_as
   group_same {g} w e =
-      let r : GroupRecord = record { parent = g.parent.0; lo = g.lo; hi = g.hi; mode = g.mode } in
+      let r : GroupRecord = group_record g in
       let z : group r ≡ group (group_of (drop at s)) = ap (λ p. p.1) (rw e at w.carries) in cc
 
   pub name_same : {n : Name} → Handed tests (λ b. name (name_of b)) s at x → x ≡ record_of.Name n → WholeName s at →
@@ -178,7 +165,7 @@ label_from s at n e h =
     (λ i l. let k : i < n = omega (arith, length_tabulate (λ i. get_or s (at + 6 + i) 0) n) in
     get_d_tabulate (λ i. get_or s (at + 6 + i) 0) n i 0 k ∙ sym (get_or-take n (drop (at + 6) s) i 0 k ∙ get_or-drop (at + 6) s i 0)))
 
-pub name_made : (s : List ℕ) (at n : ℕ) (m : Meant) → u16_at (drop at s) 2 ≡ 3 → meant_number m ≡ u16_at (drop at s) 4 →
+pub name_made : (s : List ℕ) (at n : ℕ) (m : Option GroupNo) → u16_at (drop at s) 2 ≡ 3 → meant_number m ≡ u16_at (drop at s) 4 →
     n ≡ u16_at s at - 4 → at + 6 + n ≤ length s →
     record_as s at (record_of.Name (record { means = m; bytes = n })) ≡ (kind_of (drop at s), name (name_of (drop at s)))
 unfolding record_as name_of

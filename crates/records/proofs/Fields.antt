@@ -1,6 +1,6 @@
 -- Laws of the frame of a record at a place, and of what its tests show.
-use Prim.Native.Nat.{ℕ, ◌+◌, ◌≤◌, zero-le, ◌<◌}
-use mathlib.Core.Path.{◌≡◌, sym, ◌∙◌, refl}
+use Prim.Native.Nat.{ℕ, ◌+◌, ◌≤◌}
+use mathlib.Core.Path.{◌≡◌, sym, refl}
 use mathlib.Core.Bool.{true, false, ◌&&◌, Bool, cond, not}
 use mathlib.Core.List.{List, [], ◌∷◌}
 use native.Mathlib.Omega.{arith}
@@ -11,6 +11,10 @@ use Rattle.laws.proofs.Cases.{split, and_true, compare_le, compare_eq}
 use Rattle.wire.specs.Edition.{Edition, label_limit}
 use Rattle.wire.specs.Bytes.{u16_at}
 use Rattle.wire.specs.Record.{framed, refusal, Test, test}
+use Rattle.wire.specs.Refusals.{refusal_number}
+use Rattle.wire.specs.declared.refusals.Refusal.{Refusal}
+use Rattle.wire.specs.declared.refusals.Refusal.TheVariants as refusal
+use Rattle.std.specs.Prelude.{Ok, Err}
 use Rattle.wire.specs.SheetFormat.{ClaimRecord, claim_tests, last_claim, GroupRecord, group_tests, NameRecord, name_tests, name_of, used}
 use Rattle.wire.proofs.Passing.{passed}
 use Rattle.wire.proofs.Sorts.{framed_of, Framed, framed_true, group_nonzero, group_frame, name_nonzero, name_frame, claim_nonzero, claim_frame}
@@ -18,6 +22,26 @@ use Rattle.wire.proofs.Fields.{length_at, read_at}
 use Rattle.labels.specs.WholeName.{WholeName}
 use Rattle.claim_records.specs.Body.{Whole, claim_body}
 use Rattle.records.specs.Answers.{FrameAt, kind_in}
+
+-- each refusal has a number
+pub refusal_nonzero : (e : Refusal) → refusal_number e ≡ 0 → ⊥
+refusal_nonzero refusal.Cut h = omega arith
+refusal_nonzero refusal.WrongKind h = omega arith
+refusal_nonzero refusal.WrongLength h = omega arith
+refusal_nonzero refusal.FieldRange h = omega arith
+refusal_nonzero refusal.BadReference h = omega arith
+refusal_nonzero refusal.LabelTwice h = omega arith
+refusal_nonzero refusal.Trailing h = omega arith
+refusal_nonzero refusal.ManyGroups h = omega arith
+refusal_nonzero refusal.LongLabel h = omega arith
+refusal_nonzero refusal.Impossible h = omega arith
+refusal_nonzero refusal.NoSuchClaim h = omega arith
+refusal_nonzero refusal.TooManyRows h = omega arith
+refusal_nonzero refusal.BadRow h = omega arith
+refusal_nonzero refusal.BadSide h = omega arith
+refusal_nonzero refusal.MemberOrder h = omega arith
+refusal_nonzero refusal.BitAbove h = omega arith
+refusal_nonzero refusal.ReplyShort h = omega arith
 
 -- a frame by its numbers
 whole_framed : (s : List ℕ) (at : ℕ) → 2 ≤ u16_at s at → at + 2 + u16_at s at ≤ length s → framed (drop at s) ≡ true
@@ -30,21 +54,24 @@ framed_whole : (s : List ℕ) (at : ℕ) → Framed (drop at s) → (2 ≤ u16_a
 framed_whole s at f = omega (arith, length_at s at, length-drop at s)
 
 module _ (s : List ℕ) (at : ℕ) {first last : ℕ} where
-  pub framed_none : at ≤ length s → (2 ≤ u16_at s at → at + 2 + u16_at s at ≤ length s → ⊥) → FrameAt s at first last 0
+  pub framed_none : at ≤ length s → (2 ≤ u16_at s at → at + 2 + u16_at s at ≤ length s → ⊥) → FrameAt s at first last (Err refusal.Cut)
+  unfolding refusal
   framed_none l h =
       let e : framed (drop at s) ≡ false = split (framed (drop at s))
       (λ t. let g = framed_whole s at (framed_true (drop at s) t) in absurd (h g.0 g.1)) (λ t. t) in
-      record { says = rw e; room = zero-le }
+      record { met = rw e; whole = tt }
 
   pub framed_other : (kind : ℕ) → kind ≡ u16_at s (at + 2) → 2 ≤ u16_at s at → at + 2 + u16_at s at ≤ length s →
-      (leb first kind && leb kind last) ≡ false → FrameAt s at first last 1
-  framed_other kind k h l e = record { says = rw (whole_framed s at h l, read_at s at 2 kind k, e); room = omega arith }
+      (leb first kind && leb kind last) ≡ false → FrameAt s at first last (Err refusal.WrongKind)
+  unfolding refusal
+  framed_other kind k h l e = record { met = rw (whole_framed s at h l, read_at s at 2 kind k, e); whole = tt }
 
   pub framed_some : (len kind : ℕ) → len ≡ u16_at s at → kind ≡ u16_at s (at + 2) → 2 ≤ len → at + 2 + len ≤ length s →
-      first ≤ kind → kind ≤ last → FrameAt s at first last len
+      first ≤ kind → kind ≤ last → FrameAt s at first last (Ok len)
+  unfolding refusal
   framed_some len kind e k h l a b = record {
-    says = rw (whole_framed s at (omega arith) (omega arith), read_at s at 2 kind k, le-leb _ _ a, le-leb _ _ b, length_at s at) e;
-    room = omega arith;
+    met = rw (whole_framed s at (omega arith) (omega arith), read_at s at 2 kind k, le-leb _ _ a, le-leb _ _ b);
+    whole = record { says = sym e; least = h; room = l };
   }
 
 -- a whole record of that length stands at a place, and its kind is from `first` to `last`
@@ -54,32 +81,32 @@ pub record Led (s : List ℕ) (at first last len : ℕ) : Type 0 where
   pub most : u16_at (drop at s) 2 ≤ last
   pub whole : Whole s at len
 
--- what the frame's length says
-module _ {s : List ℕ} {at first last len : ℕ} (l : at ≤ length s) (f : FrameAt s at first last len) where
-  framed_length : framed (drop at s) ≡ true → kind_in first last (drop at s) ≡ true → Whole s at len
-  framed_length e t =
-      let z : len ≡ u16_at s at = (rw (e, t) at f.says) ∙ length_at s at in
-      let g = framed_whole s at (framed_true (drop at s) e) in
-      record { says = sym z; least = omega arith; room = omega arith }
+-- the tests of a frame, and those that follow
+frame_cases : (a b : Bool) (rest : List Test) → refusal (test 1 a ∷ test 2 b ∷ rest) ≡
+    cond (eqb (refusal (test 1 a ∷ test 2 b ∷ [])) 0) (refusal rest) (refusal (test 1 a ∷ test 2 b ∷ []))
+unfolding refusal
+frame_cases true true rest = refl
+frame_cases true false rest = refl
+frame_cases false b rest = refl
 
-  pub frame_led : 2 ≤ len → Led s at first last len
-  frame_led h =
-      split (framed (drop at s))
-      (λ e. split (kind_in first last (drop at s))
-      (λ t. let a = and_true _ _ t in
-      record { frame = e; least = leb-true _ _ a.0; most = leb-true _ _ a.1; whole = framed_length e t })
-      (λ t. let z : len ≡ 1 = rw (e, t) at f.says in absurd (omega arith)))
-      (λ e. let z : len ≡ 0 = rw e at f.says in absurd (omega arith))
+frame_both : (a b : Bool) → 0 ≡ refusal (test 1 a ∷ test 2 b ∷ []) → (a ≡ true) × (b ≡ true)
+unfolding refusal
+frame_both true true e = (refl, refl)
+frame_both true false e = absurd (omega arith)
+frame_both false b e = absurd (omega arith)
+
+module _ {s : List ℕ} {at first last : ℕ} where
+  pub frame_led : {len : ℕ} → FrameAt s at first last (Ok len) → Led s at first last len
+  frame_led f =
+      let e = frame_both (framed (drop at s)) (kind_in first last (drop at s)) f.met in
+      let a = and_true _ _ e.1 in
+      record { frame = e.0; least = leb-true _ _ a.0; most = leb-true _ _ a.1; whole = f.whole }
 
   -- the record is cut, or has another kind
-  pub frame_refused : {C : Type 0} → len < 2 → (framed (drop at s) ≡ false → len ≡ 0 → C) →
-      (framed (drop at s) ≡ true → kind_in first last (drop at s) ≡ false → len ≡ 1 → C) → C
-  frame_refused h cut other =
-      split (framed (drop at s))
-      (λ e. split (kind_in first last (drop at s))
-      (λ t. let w = framed_length e t in absurd (omega arith))
-      (λ t. other e t (rw (e, t) at f.says)))
-      (λ e. cut e (rw e at f.says))
+  pub frame_refused : {e : Refusal} → FrameAt s at first last (Err e) → (rest : List Test) →
+      refusal (test 1 (framed (drop at s)) ∷ test 2 (kind_in first last (drop at s)) ∷ rest) ≡ refusal_number e
+  frame_refused {e} f rest =
+      rw (frame_cases (framed (drop at s)) (kind_in first last (drop at s)) rest, ← f.met, ne_eqb _ _ (refusal_nonzero e))
 
 -- one kind only
 pub led_kind : {s : List ℕ} {at k len : ℕ} → Led s at k k len → u16_at (drop at s) 2 ≡ k

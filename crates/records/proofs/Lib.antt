@@ -1,3 +1,4 @@
 pub mod Fields
 pub mod Carried
 pub mod ClaimAnswers
+pub mod NameAnswers

@@ -1,12 +1,8 @@
-// The records of a sheet, and what reading one answers: a record with what it carries, or the number of a refusal.
+// The records of a sheet, and what reading one answers: a record with what it carries, or a refusal.
 // A label stays in the bytes of the sheet, so no record holds an array.
-ghost use Rattle.std.specs.Prelude.{◌≡◌, List, ℕ};
-ghost use Rattle.records.specs.Answers.{answer_as, refusal_in};
-
 use claim_records::claim::Claim;
-use tables::groups::GroupNo;
-use tables::names::Meant;
-use wire::bytes;
+use tables::groups::{Group, GroupNo};
+use wire::refusals::Refusal;
 
 // `edition` is the number of an edition
 #[derive(Clone, Copy)]
@@ -17,18 +13,10 @@ pub struct Head {
     pub claims: u16,
 }
 
-#[derive(Clone, Copy)]
-pub struct Group {
-    pub parent: GroupNo,
-    pub lo: u16,
-    pub hi: u16,
-    pub mode: u16,
-}
-
-// what it means, and how many bytes its label has
+// what it means, None for the empty set, and how many bytes its label has
 #[derive(Clone, Copy)]
 pub struct Name {
-    pub means: Meant,
+    pub means: Option<GroupNo>,
     pub bytes: u16,
 }
 
@@ -40,18 +28,4 @@ pub enum Record {
     Claim(Claim),
 }
 
-#[derive(Clone, Copy)]
-pub enum Answer {
-    Record(Record),
-    Refused(u32),
-}
-
-// the number of a refusal, 0 for a record
-pub fn refusal_of(a: Answer) -> u32
-    ensures { (s : List ℕ) (at k : ℕ) → result ≡ refusal_in (answer_as s at k a) }
-{
-    match a {
-        Answer::Record(_) => 0,
-        Answer::Refused(n) => n,
-    }
-}
+pub type Answer = Result<Record, Refusal>;

@@ -6,7 +6,10 @@ use mathlib.Core.List.{List}
 use native.Mathlib.Omega.{arith}
 use borrow.Author.Tests.{le-ltb, lt-ltb}
 use lib.ListN.{length}
-use Rattle.registers.specs.declared.check.Check.{Check}
+use Rattle.std.proofs.Common.{Result, Err, Option}
+use Rattle.wire.specs.declared.refusals.Fault.{Fault}
+use Rattle.wire.specs.Refusals.{refusal_number}
+use Rattle.registers.specs.declared.check.Broken.{Broken}
 use Rattle.laws.proofs.SumLaws.{bit_eq}
 use Rattle.wire.specs.Limits.{row_limit}
 use Rattle.wire.specs.Edition.{Edition}
@@ -27,19 +30,17 @@ use Rattle.tiles.proofs.FillLaws.{members_within}
 use Rattle.registers.specs.Tallies.{Counted}
 use Rattle.registers.specs.Checked.{Checked, Tallied, AnswerTo}
 use Rattle.registers.proofs.Agree.{Agree, answered_agree, count_agree}
-use Rattle.registers.specs.declared.check.Check.TheVariants as check
 
 -- a refused register
-pub checked_refused : (s : Sheet) (d : Reading (List Row)) (n k : ℕ) → refused n k ≡ d → Checked s d (check.Refused n k)
-checked_refused s d n k e =
+pub checked_refused : (s : Sheet) (d : Reading (List Row)) (f : Fault) → refused (refusal_number f.refusal) f.place ≡ d → Checked s d (Err f)
+checked_refused s d f e =
     record {
-      refusal = λ m j f. let z = e ∙ f in cc;
-      answer = λ rows f. absurd (let z : ◌≡◌ {A = ℕ} 0 1 = cc in omega arith);
+      refusal = λ m j g. let z = e ∙ g in cc;
+      answer = λ rows g. absurd (let z = e ∙ g in cc);
     }
 
 pub tallied_refused : (s : Sheet) (d : Reading (List Row)) (n k : ℕ) (t : List ℕ) → refused n k ≡ d → Tallied s d t t
-tallied_refused s d n k t e =
-    record { counts = λ rows f. absurd (let z : ◌≡◌ {A = ℕ} 0 1 = cc in omega arith); kept = λ m j f. refl }
+tallied_refused s d n k t e = record { counts = λ rows f. absurd (let z = e ∙ f in cc); kept = λ m j f. refl }
 
 -- no digit is set from member n on
 pub others_none : {size : ℕ} {rs : List Row} {t : List ℕ} {n : ℕ} → ColumnsFilled size rs n t → (g i : ℕ) → 1 ≤ g → g ≤ size
@@ -79,7 +80,7 @@ module _ (s : Sheet) {size : ℕ} (z : s.size ≤ size) (ed : Edition) (groups :
       }
 
   -- the answer to the columns is the answer to the rows
-  pub checked_columns : (r : Check) → Tree s → AnswerTo s (column_sets t n) r → Checked s (read_register ed groups b) r
+  pub checked_columns : (r : Result (Option Broken) Fault) → Tree s → AnswerTo s (column_sets t n) r → Checked s (read_register ed groups b) r
   checked_columns r y v =
       record {
         refusal = λ m j e. absurd (let x = w ∙ e in let o : ◌≡◌ {A = ℕ} 0 1 = cc in omega arith);

@@ -6,7 +6,8 @@ use mathlib.Core.List.{List}
 use native.Mathlib.Omega.{arith}
 use native.Mathlib.Numerals.{add-one}
 use lib.ListN.{get_or}
-use Rattle.tables.specs.declared.groups.GroupNo.{GroupNo}
+use Rattle.tables.specs.declared.groups.Group.{Group as TableGroup}
+use Rattle.sons.specs.declared.lists.Sons.{Sons}
 use Rattle.laws.proofs.Cases.{compare_le, true_not_false, below_suc}
 use Rattle.meaning.specs.Sheet.{Sheet, Group}
 use Rattle.meaning.specs.SonList.{son_list}
@@ -23,11 +24,33 @@ use Rattle.sons.specs.SonSteps.{several_sons}
 use Rattle.rules.specs.Joins.{Joined, JoinedFor}
 use Rattle.rules.specs.RuleTests.{member_breaks, SomeMember, may_break, count_breaks}
 use Rattle.rules.proofs.JoinLaws.{two_sons}
-use Rattle.rules.proofs.RuleLaws.{rule_first, rule_last, may, rule_numbered, by_member, member_of, may_is, may_asked, by_count, count_of}
+use Rattle.rules.proofs.RuleLaws.{rule_first, rule_last, may, by_member, member_of, may_is, may_asked, by_count, count_of}
 use Rattle.registers.specs.Tallies.{Gathered}
-use Rattle.registers.specs.Checked.{AnswerTo}
+use Rattle.registers.specs.Checked.{AnswerTo, broken_names}
 use Rattle.registers.proofs.Unbroken.{unbroken_fits, fits_answered, broken_answered}
-use Rattle.registers.specs.declared.check.Check.TheVariants as check
+use Rattle.registers.specs.declared.check.Broken.{Broken as BrokenRule}
+use Rattle.rules.specs.Meant.{rule_meant}
+use Rattle.std.proofs.Common.{Ok, Option, Some, None, [], ◌∷◌, unwrap_or, zero, suc}
+use Rattle.tables.specs.declared.groups.GroupNo.{GroupNo}
+use Rattle.tables.specs.Names.{meant_number}
+use Rattle.rules.specs.declared.rule.Rule.{Rule as CodeRule}
+use Rattle.rules.specs.declared.rule.Rule.TheVariants as rule
+
+-- the rules in the order of the scan: each has the number of its place, counted from 1
+pub number_at : (d : CodeRule) (i : ℕ) → i < 6
+    → rule_number (rule_meant (get_or (rule.Outside ∷ rule.Lacking ∷ rule.Uncovered ∷ rule.Shared ∷ rule.Below ∷ rule.Above ∷ []) i d)) ≡ i + 1
+number_at d zero l = refl
+number_at d (suc zero) l = refl
+number_at d (suc (suc zero)) l = refl
+number_at d (suc (suc (suc zero))) l = refl
+number_at d (suc (suc (suc (suc zero)))) l = refl
+number_at d (suc (suc (suc (suc (suc zero))))) l = refl
+number_at d (suc (suc (suc (suc (suc (suc i)))))) l = absurd (omega arith)
+
+-- the number of a parent, 0 where there is none
+pub parent_number : (p : Option GroupNo) → (unwrap_or p (record { 0 = 0 })).0 ≡ meant_number p
+parent_number None = refl
+parent_number (Some g) = refl
 
 -- nothing is broken at a group before g
 pub record ClearGroups {X : Type 0} (s : Sheet) (A : Sets X) (g : ℕ) : Type 0 where
@@ -75,11 +98,11 @@ rules_more : {X : Type 0} (s : Sheet) (A : Sets X) (g k : ℕ) → ClearRules s 
 rules_more s A g k c f =
     record { clear = λ q l b. below_suc (rule_number q) k (rw add-one at l) (λ x. f q x b) (λ x. c.clear q x b) }
 
-module _ {t : List ℕ} {n : ℕ} {c : List ℕ} {members : ℕ} {starts order counts some₀ two₀ : List ℕ} (T : Tabled t n)
-    (G : Gathered t n c members starts order counts some₀ two₀) where
+module _ {t : List TableGroup} {n : ℕ} {c : List ℕ} {members : ℕ} {kept : Sons} {counts : List ℕ} (T : Tabled t n)
+    (G : Gathered t n c members kept counts) where
   -- nothing is broken at any group
   pub scan_fits : (g : ℕ) → n < g → ClearGroups (sheet_in t n) (column_sets c members) g
-      → AnswerTo (sheet_in t n) (column_sets c members) check.Fits
+      → AnswerTo (sheet_in t n) (column_sets c members) (Ok None)
   scan_fits g l d =
       record {
         names = record { group = 0; rule = 0 };
@@ -89,12 +112,13 @@ module _ {t : List ℕ} {n : ℕ} {c : List ℕ} {members : ℕ} {starts order c
       }
 
   module _ {words : ℕ} {some two : List ℕ} (g k : ℕ) (a : 1 ≤ g) (b : g ≤ n) (f : WordsFor members words)
-      (sons : JoinedFor (mode_in t g) (several_sons starts g) (kept_sons starts order g) c words some two)
+      (sons : JoinedFor (mode_in t g) (several_sons kept g) (kept_sons kept g) c words some two)
       (r : ClearRules (sheet_in t n) (column_sets c members) g k) where
     group : Group (sheet_in t n) g
     group = group_in_law t n a b
 
-    joined : (q : Rule) → 3 ≤ rule_number q → may (sheet_in t n) (several_sons starts g) g q ≡ true → Joined (son_list (sheet_in t n) g) c words some two
+    joined : (q : Rule) → 3 ≤ rule_number q → may (sheet_in t n) (several_sons kept g) g q ≡ true
+        → Joined (son_list (sheet_in t n) g) c words some two
     joined q l m = rw (← G.sons.listed g group) (sons.joined (may_asked T g a b _ q l m))
 
     -- no member breaks the rule
@@ -103,18 +127,18 @@ module _ {t : List ℕ} {n : ℕ} {c : List ℕ} {members : ℕ} {starts order c
     rules_member l to m d =
         rules_more (sheet_in t n) (column_sets c members) g k r
         (λ q e v.
-        let x = (member_of (sheet_in t n) T.tree c members words some two g f G.others group (several_sons starts g)
+        let x = (member_of (sheet_in t n) T.tree c members words some two g f G.others group (several_sons kept g)
         (two_sons G.sons group) joined q (omega arith) v).1 in
         members_clash e (parent_in_law t n g group) d x.0 (omega arith) x.2)
 
     -- the rule cannot be broken at the group
-    pub rules_not : k < 5 → may_break t (several_sons starts g) g k ≡ false → ClearRules (sheet_in t n) (column_sets c members) g (k + 1)
+    pub rules_not : k < 5 → may_break t (several_sons kept g) g k ≡ false → ClearRules (sheet_in t n) (column_sets c members) g (k + 1)
     rules_not l d =
         rules_more (sheet_in t n) (column_sets c members) g k r
         (λ q e v.
-        let x = (member_of (sheet_in t n) T.tree c members words some two g f G.others group (several_sons starts g)
+        let x = (member_of (sheet_in t n) T.tree c members words some two g f G.others group (several_sons kept g)
         (two_sons G.sons group) joined q (omega arith) v).0 in
-        true_not_false _ x (sym (may_is T g a b (several_sons starts g) q (omega arith)) ∙ (rw e d)))
+        true_not_false _ x (sym (may_is T g a b (several_sons kept g) q (omega arith)) ∙ (rw e d)))
 
     -- the count does not break the rule
     pub rules_count : 5 ≤ k → count_breaks t (get_or counts g 0) g k ≡ false
@@ -123,39 +147,39 @@ module _ {t : List ℕ} {n : ℕ} {c : List ℕ} {members : ℕ} {starts order c
         rules_more (sheet_in t n) (column_sets c members) g k r
         (λ q e v. count_of T g a b (column_sets c members) q (get_or counts g 0) (omega arith) (G.counts.each g group) (rw e d) v)
 
-    module _ (d : ClearGroups (sheet_in t n) (column_sets c members) g) (o : 1 ≤ k) (p : GroupNo) (e : p.0 ≡ g) where
+    module _ (d : ClearGroups (sheet_in t n) (column_sets c members) g) (p : BrokenRule) (e : p.group.0 ≡ g)
+        (i : k ≡ rule_number (rule_meant p.rule)) where
       -- the rule is broken
-      scan_broken : (q : Rule) → k ≡ rule_number q → Broken (sheet_in t n) (column_sets c members) g q
-          → AnswerTo (sheet_in t n) (column_sets c members) (check.Broken p k)
-      scan_broken q i v =
+      scan_broken : Broken (sheet_in t n) (column_sets c members) g (rule_meant p.rule)
+          → AnswerTo (sheet_in t n) (column_sets c members) (Ok (Some p))
+      scan_broken v =
           record {
-            names = record { group = p.0; rule = k };
+            names = broken_names (Some p);
             gives = refl;
-            answered = rw (e, i) (broken_answered q (record {
+            answered = rw e (broken_answered (rule_meant p.rule) (record {
               group = group;
               broken = v;
               lowest = d.clear;
-              first = λ p l. r.clear p (omega arith);
+              first = λ q l. r.clear q (omega arith);
             }));
           }
 
       -- some member breaks it
-      pub scan_member : k < 5 → (from to : ℕ) → to ≤ word_bits * words → may_break t (several_sons starts g) g k ≡ true
+      pub scan_member : k < 5 → (from to : ℕ) → to ≤ word_bits * words → may_break t (several_sons kept g) g k ≡ true
           → (x : Bool) → SomeMember (member_breaks k c some two g (parent_in t g)) from to x → x ≡ true
-          → AnswerTo (sheet_in t n) (column_sets c members) (check.Broken p k)
+          → AnswerTo (sheet_in t n) (column_sets c members) (Ok (Some p))
       scan_member l from to m y x z h =
-          let q = rule_numbered k o (omega arith) in
-          let i = z.some h in
-          scan_broken q.0 q.1
-          (by_member (sheet_in t n) T.tree c members words some two g f G.others group (several_sons starts g) (two_sons G.sons group) joined
-          q.0 i.0 (omega arith) (omega arith)
-          (sym (may_is T g a b (several_sons starts g) q.0 (omega arith)) ∙ (rw (← q.1) y))
-          (rw (← q.1, parent_in_law t n g group) i.3))
+          let q = rule_meant p.rule in
+          let j = z.some h in
+          scan_broken
+          (by_member (sheet_in t n) T.tree c members words some two g f G.others group (several_sons kept g) (two_sons G.sons group) joined
+          q j.0 (omega arith) (omega arith)
+          (sym (may_is T g a b (several_sons kept g) q (omega arith)) ∙ (rw (← i) y))
+          (rw (← i, parent_in_law t n g group) j.3))
 
       -- the count breaks it
-      pub scan_count : 5 ≤ k → k < 7 → count_breaks t (get_or counts g 0) g k ≡ true
-          → AnswerTo (sheet_in t n) (column_sets c members) (check.Broken p k)
-      scan_count l m x =
-          let q = rule_numbered k o m in
-          scan_broken q.0 q.1
-          (by_count T g a b (column_sets c members) q.0 (get_or counts g 0) (omega arith) (G.counts.each g group) (rw (← q.1) x))
+      pub scan_count : 5 ≤ k → count_breaks t (get_or counts g 0) g k ≡ true
+          → AnswerTo (sheet_in t n) (column_sets c members) (Ok (Some p))
+      scan_count l x =
+          scan_broken
+          (by_count T g a b (column_sets c members) (rule_meant p.rule) (get_or counts g 0) (omega arith) (G.counts.each g group) (rw (← i) x))

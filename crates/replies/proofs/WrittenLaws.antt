@@ -10,8 +10,9 @@ use lib.Seq.{sets}
 use Rattle.replies.specs.declared.verdict.Verdict.{Verdict}
 use Rattle.wire.specs.Limits.{range_bytes, shown_bytes, verdict_bytes}
 use Rattle.wire.specs.Bytes.{le16, le32}
+use Rattle.spans.specs.declared.span.Span.{Span}
 use Rattle.replies.specs.Wrote.{Wrote}
-use Rattle.replies.specs.Written.{RangeAt, ShownAt, RangesPut, SetsPut, U16sPut}
+use Rattle.replies.specs.Written.{RangeAt, ShownAt, no_range, RangesPut, SetsPut, U16sPut}
 use Rattle.replies.specs.Shown.{VerdictIn}
 use Rattle.replies.proofs.WroteLaws.{u16_kept, u32_kept, wrote_u16, u16_put, wrote_then, wrote_u32, u32_put}
 
@@ -43,8 +44,9 @@ verdict_kept w r = record {
 }
 
 -- one more record
-pub ranges_more : {l m : List ℕ} (ranges firsts counts : List ℕ) (n : ℕ) → RangesPut l n ranges firsts counts → Wrote l (range_bytes * n) range_bytes m
-    → RangeAt m (range_bytes * n) (get_or ranges (2 * n) 0) (get_or ranges (2 * n + 1) 0) (get_or firsts n 0) (get_or counts n 0)
+pub ranges_more : {l m : List ℕ} (ranges : List Span) (firsts counts : List ℕ) (n : ℕ) → RangesPut l n ranges firsts counts
+    → Wrote l (range_bytes * n) range_bytes m
+    → RangeAt m (range_bytes * n) (get_or ranges n no_range).least (get_or ranges n no_range).most (get_or firsts n 0) (get_or counts n 0)
     → RangesPut m (n + 1) ranges firsts counts
 ranges_more ranges firsts counts n p w r g h =
     ⊎_elim (λ (e : suc g ≡ n + 1). let same : g ≡ n = omega arith in rw same r)

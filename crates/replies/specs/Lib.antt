@@ -1,4 +1,5 @@
 pub mod Reply
+pub mod Returned
 pub mod Wrote
 pub mod Written
 pub mod Verdict

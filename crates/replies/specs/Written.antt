@@ -2,6 +2,7 @@
 use Rattle.std.specs.Prelude.{ℕ, ◌-◌, ◌+◌, ◌*◌, ◌<◌, ◌≡◌, List, get_or}
 use Rattle.wire.specs.Limits.{answer_bytes, verdict_bytes, range_bytes, shown_bytes}
 use Rattle.wire.specs.Bytes.{u16_at, u32_at}
+use Rattle.spans.specs.declared.span.Span.{Span}
 
 -- kind 20: group and rule
 pub record AnswerAt (out : List ℕ) (g r : ℕ) : Type 0 where
@@ -31,10 +32,14 @@ pub record ShownAt (out : List ℕ) (at f n m : ℕ) : Type 0 where
 abbrev pub U16sPut : List ℕ → ℕ → List ℕ → Type 0
 U16sPut out n ws = (i : ℕ) → i < n → u16_at out (2 * i) ≡ get_or ws i 0
 
+-- what stands for an entry past the end of the ranges
+abbrev pub no_range : Span
+no_range = record { least = 0; most = 0 }
+
 -- every group's record of kind 17, and of kind 19; the groups are numbered from 0 here
-abbrev pub RangesPut : List ℕ → ℕ → List ℕ → List ℕ → List ℕ → Type 0
+abbrev pub RangesPut : List ℕ → ℕ → List Span → List ℕ → List ℕ → Type 0
 RangesPut out n ranges firsts counts =
-    (g : ℕ) → g < n → RangeAt out (range_bytes * g) (get_or ranges (2 * g) 0) (get_or ranges (2 * g + 1) 0) (get_or firsts g 0) (get_or counts g 0)
+    (g : ℕ) → g < n → RangeAt out (range_bytes * g) (get_or ranges g no_range).least (get_or ranges g no_range).most (get_or firsts g 0) (get_or counts g 0)
 
 abbrev pub SetsPut : List ℕ → ℕ → List ℕ → List ℕ → List ℕ → Type 0
 SetsPut out n firsts counts marks =

@@ -1,19 +1,17 @@
-// A verdict and its number.
+// A verdict, with its number in document 01.
 ghost use Rattle.std.specs.Prelude.{◌≡◌};
 ghost use Rattle.replies.specs.Verdict.{verdict_number};
 
-#[derive(Clone, Copy)]
+#[derive(Clone, Copy, PartialEq, Eq)]
 pub enum Verdict {
-    Holds,
-    Denied,
+    Holds = 1,
+    Denied = 0,
 }
 
-// document 01's number: 1 holds, 0 denied
-pub fn verdict_number(v: Verdict) -> u16
-    ensures { result ≡ verdict_number v }
-{
-    match v {
-        Verdict::Holds => 1,
-        Verdict::Denied => 0,
+impl Verdict {
+    pub fn number(self) -> u16
+        ensures { result ≡ verdict_number self }
+    {
+        self as u16
     }
 }

@@ -1,7 +1,6 @@
 -- The bytes of a row are its front, with length and kind as one field, and those of its words, one behind another.
 use Prim.Native.Nat.{ℕ, suc, ◌+◌, ◌*◌, ◌≤◌}
 use mathlib.Core.Path.{◌≡◌, refl}
-use mathlib.Core.Bool.{true}
 use mathlib.Core.List.{List, ◌++◌, flat_map, append_assoc, append-nil}
 use native.Mathlib.Omega.{arith}
 use native.Mathlib.Numerals.{add-one}
@@ -11,11 +10,11 @@ use Rattle.laws.proofs.SetsLaws.{sets_then}
 use Rattle.wire.specs.Bytes.{le16, le32}
 use Rattle.wire.specs.U64.{le64}
 use Rattle.wire.specs.Edition.{Edition, row_kind, row_length}
-use Rattle.wire.specs.Member.{Member, is_side, side_of}
+use Rattle.wire.specs.Member.{Member, side_number}
 use Rattle.wire.specs.Encoding.{encode_record, member_bytes, encode_row}
 use Rattle.wire.proofs.EditionFacts.{row_parts, row_length_fits}
 use Rattle.wire.proofs.Fields.{flat_append, le32_halves}
-use Rattle.wire.proofs.MemberFacts.{side_known, member_size}
+use Rattle.wire.proofs.MemberFacts.{member_size}
 use Rattle.wire.proofs.U64Laws.{length_le64s}
 use Rattle.rows.specs.RowsRead.{row_frame, row_words, word_bytes}
 use Rattle.rows.proofs.RowBits.{words_bytes}
@@ -55,12 +54,11 @@ four_words words i l out at e f =
 abbrev pub front_bytes : Edition → ℕ → ℕ → List ℕ
 front_bytes e number side = le32 (row_frame e) ++ (le32 number ++ le16 side)
 
-pub row_bytes_law : (e : Edition) (number side : ℕ) (words : List ℕ) (i : ℕ) → is_side side ≡ true → i + row_words e ≤ length words
-    → encode_row e (words_row e (record { number = number; side = side_of side }) words i) ≡ front_bytes e number side ++ bytes_of words i (row_words e)
+pub row_bytes_law : (e : Edition) (m : Member) (words : List ℕ) (i : ℕ) → i + row_words e ≤ length words
+    → encode_row e (words_row e m words i) ≡ front_bytes e m.number (side_number m.side) ++ bytes_of words i (row_words e)
 unfolding encode_row encode_record member_bytes
-row_bytes_law e number side words i s l =
+row_bytes_law e m words i l =
     let bits = bytes_of words i (row_words e) in
-    let m : Member = record { number = number; side = side_of side } in
     let size : length (member_bytes m ++ bits) + 2 ≡ row_length e =
     omega (arith, member_size m bits, length_words words i (row_words e) l, words_bytes e, row_parts e) in
-    rw (size, le32_halves (row_length e) (row_kind e) (row_length_fits e), side_known side s) (simp append_assoc)
+    rw (size, le32_halves (row_length e) (row_kind e) (row_length_fits e)) (simp append_assoc)

@@ -10,7 +10,12 @@ use native.Mathlib.Nat.{add-zero}
 use native.Mathlib.Numerals.{add-one}
 use borrow.Author.Tests.{le-leb, lt-leb, eq-eqb, ne_eqb, eqb-true, eqb-false, leb-true, ltb-true, not-true, lt-ltb, le-ltb}
 use lib.Seq.{get_or-take, get_or-drop, drop-drop}
+use Rattle.std.specs.Prelude.{Option, None, Some, Result, Ok, Err}
+use Rattle.wire.specs.declared.refusals.Refusal.{Refusal}
+use Rattle.std.specs.Option.{is_some}
 use Rattle.rows.specs.declared.decode.RowFound.{RowFound}
+use Rattle.rows.specs.declared.sides.Side.{Side}
+use Rattle.rows.specs.Sides.{SideMet}
 use Rattle.laws.proofs.Cases.{split, and_true, compare_eq}
 use Rattle.laws.proofs.Digits.{digit_of_zero}
 use Rattle.wire.specs.Limits.{row_limit}
@@ -31,7 +36,11 @@ use Rattle.wire.proofs.MemberKeyLaws.{key_of_member, precedes_by_key, one_by_key
 use Rattle.wire.proofs.RowFacts.{last_member_behind, clear_some, clear_none}
 use Rattle.rows.specs.RowsRead.{row_frame, Front, ended, held, turned, row_gives, row_held, front_tests, front_at, from_row, rows_before, bit_at, Above}
 use Rattle.rows.specs.RowsRead.{RowsReadable, RowsThere}
-use Rattle.rows.specs.declared.decode.RowAnswer.TheVariants as answer
+
+-- whether a side was met
+pub met_is : (n : ℕ) (o : Option Side) → SideMet n o → is_side n ≡ is_some o
+met_is n None e = e
+met_is n (Some s) e = e.0
 
 -- the offset of the membership bytes of row i
 abbrev pub bits_place : Edition → ℕ → ℕ
@@ -177,10 +186,10 @@ module _ (ed : Edition) where
       pub bits : v.bits ≡ at + row_head
       pub next : v.next ≡ at + row_bytes ed
 
-    pub held_frame : (v : RowFound) → row_gives (answer.Row v) ≡ front_at ed b at last → Held v
+    pub held_frame : (v : RowFound) → row_gives (Ok (Some v)) ≡ front_at ed b at last → Held v
     unfolding row_tests
     held_frame v e =
-        let o = not_empty (row_gives (answer.Row v)) e (λ f. let z : ◌≡◌ {A = ℕ} 0 1 = cc in omega arith) in
+        let o = not_empty (row_gives (Ok (Some v))) e (λ f. let z : ◌≡◌ {A = ℕ} 0 1 = cc in omega arith) in
         let s = e ∙ front_asked o in
         split (eqb (refusal asked) 0)
         (λ y. let w = rw y at s in
@@ -188,7 +197,7 @@ module _ (ed : Edition) where
         (λ y. absurd (let w = rw y at s in let z : ◌≡◌ {A = ℕ} 0 1 = cc in omega arith))
 
     -- its membership bytes are within the bytes
-    pub held_within : (v : RowFound) → row_gives (answer.Row v) ≡ front_at ed b at last → v.bits + membership_bytes ed ≤ length b
+    pub held_within : (v : RowFound) → row_gives (Ok (Some v)) ≡ front_at ed b at last → v.bits + membership_bytes ed ≤ length b
     unfolding row_tests
     held_within v e =
         let w = held_frame v e in
@@ -244,17 +253,11 @@ module _ (ed : Edition) where
         somebody : ltb 0 (member_of (drop at b)).number ≡ true
         somebody = rw member_at (lt-ltb 0 number some)
 
-        front_row : before ≤ key → front_at ed b at (key_member before) ≡ held (key_member key) (eqb key before) (at + row_head) (at + row_bytes ed)
+        pub front_row : before ≤ key → front_at ed b at (key_member before) ≡ held (key_member key) (eqb key before) (at + row_head) (at + row_bytes ed)
         unfolding row_tests
         front_row o =
             front_passed b at (key_member before) some_framed (is_framed, (rw (side_at, s), (rw (somebody, falls_by_key, le-ltb key before o), tt)))
             ∙ (rw (joined_by_key, member_at, k))
-
-        pub front_rises : before < key → front_at ed b at (key_member before) ≡ held (key_member key) false (at + row_head) (at + row_bytes ed)
-        front_rises o = front_row (omega arith) ∙ (rw (ne_eqb key before (λ z. omega arith)))
-
-        pub front_joined : key ≡ before → front_at ed b at (key_member before) ≡ held (key_member key) true (at + row_head) (at + row_bytes ed)
-        front_joined o = front_row (omega arith) ∙ (rw (eq-eqb key before o))
 
         pub front_falls : key < before → turned 12 ≡ front_at ed b at (key_member before)
         unfolding row_tests refusal
@@ -317,7 +320,7 @@ module _ (ed : Edition) where
     more : row_limit - row ≡ suc (row_limit - (row + 1))
     more = omega arith
 
-    pub going_end : row_gives answer.End ≡ front_at ed b offset before → going groups b row ≡ read (rows_before ed b row)
+    pub going_end : ended ≡ front_at ed b offset before → going groups b row ≡ read (rows_before ed b row)
     unfolding going
     going_end e =
         rw more (step_end groups (row_limit - (row + 1)) (rows_before ed b row) (from_row ed b row) (end_empty b offset before e))
@@ -329,10 +332,10 @@ module _ (ed : Edition) where
         rw more (step_refused groups (row_limit - (row + 1)) n (rows_before ed b row) (from_row ed b row) x y p
         ∙ (rw (length_rows_before b row)))
 
-    pub going_refused : (n : ℕ) → row_gives (answer.Refused n) ≡ front_at ed b offset before → going groups b row ≡ refused n (row + 1)
+    pub going_refused : (n : ℕ) → turned n ≡ front_at ed b offset before → going groups b row ≡ refused n (row + 1)
     going_refused n e = let w = turned_tests b offset before groups n e in going_turned n w.0 w.1 w.2
 
-    module _ (v : RowFound) (e : row_gives (answer.Row v) ≡ front_at ed b offset before) where
+    module _ (v : RowFound) (e : row_gives (Ok (Some v)) ≡ front_at ed b offset before) where
       is_row : Held b offset before v
       is_row = held_frame b offset before v e
 
@@ -443,7 +446,7 @@ module _ (ed : Edition) where
     stands : front_at ed b at last ≡ row_held ed b (row_bytes ed * i) (last_member (rows_before ed b i))
     stands = rw (e, k) (r.each i l)
 
-    pub row_stands : (v : RowFound) → row_gives (answer.Row v) ≡ front_at ed b at last → Stands b i v
+    pub row_stands : (v : RowFound) → row_gives (Ok (Some v)) ≡ front_at ed b at last → Stands b i v
     unfolding row_of row_tests
     row_stands v f =
         let z = f ∙ stands in
@@ -460,8 +463,7 @@ module _ (ed : Edition) where
           follows = not-true (precedes (member_of (from_row ed b i)) (last_member (rows_before ed b i))) w.1;
         }
 
-    pub not_ended : row_gives answer.End ≡ front_at ed b at last → ⊥
-    not_ended f = let z = f ∙ stands in let o : ◌≡◌ {A = ℕ} 0 1 = cc in omega arith
-
-    pub not_refused : (m : ℕ) → row_gives (answer.Refused m) ≡ front_at ed b at last → ⊥
-    not_refused m f = let z = f ∙ stands in let o : ◌≡◌ {A = ℕ} 0 1 = cc in omega arith
+    pub row_known : (r : Result (Option RowFound) Refusal) → row_gives r ≡ front_at ed b at last → (v : RowFound) × (r ≡ Ok (Some v))
+    row_known (Ok (Some v)) f = (v, refl)
+    row_known (Ok None) f = let z = f ∙ stands in absurd (let o : ◌≡◌ {A = ℕ} 0 1 = cc in omega arith)
+    row_known (Err e) f = let z = f ∙ stands in absurd (let o : ◌≡◌ {A = ℕ} 0 1 = cc in omega arith)

@@ -1,1 +1,2 @@
 pub mod RowsRead
+pub mod Sides

@@ -1,15 +1,15 @@
 -- What the row decoder gives, and what reading all rows gives, under a sheet of either edition.
-use Rattle.std.specs.Prelude.{ℕ, ◌/◌, ◌+◌, ◌*◌, zero, suc, ◌%◌, ◌<◌, ◌≤◌, ◌≡◌, Bool, cond, true, false, List, [], ◌∷◌, ◌++◌, drop, take, length, get_or, eqb}
-use Rattle.rows.specs.declared.decode.RowAnswer.{RowAnswer}
-use Rattle.rows.specs.declared.read.Rows.{Rows}
+use Rattle.std.specs.Prelude.{ℕ, ◌/◌, ◌+◌, ◌*◌, zero, suc, ◌%◌, ◌<◌, ◌≤◌, ◌≡◌, Bool, cond, true, false, List, [], ◌∷◌, ◌++◌, drop, take, length, get_or, eqb, Option, None, Some, Result, Ok, Err}
+use Rattle.rows.specs.declared.decode.RowFound.{RowFound}
 use Rattle.laws.specs.Digit.{digit}
 use Rattle.wire.specs.Edition.{Edition, group_limit, row_kind, row_length, row_bytes, row_head}
 use Rattle.wire.specs.Member.{Member, one_member, is_side}
-use Rattle.wire.specs.Record.{Test, refusal, Reading, read, refused}
+use Rattle.wire.specs.Record.{Test, refusal, Reading}
 use Rattle.wire.specs.RegisterFormat.{Row, side_field, member_of, row_tests, row_of, last_member}
 use Rattle.wire.specs.MemberKey.{key_member}
-use Rattle.rows.specs.declared.decode.RowAnswer.TheVariants as answer
-use Rattle.rows.specs.declared.read.Rows.TheVariants as rows
+use Rattle.wire.specs.declared.refusals.Refusal.{Refusal}
+use Rattle.wire.specs.declared.refusals.Fault.{Fault}
+use Rattle.wire.specs.Refusals.{refusal_number, reading_of}
 
 -- a word of membership bytes has eight of them, a bit for each of 64 groups, and so many words have those of a row
 abbrev pub word_bytes : ℕ
@@ -32,11 +32,17 @@ pub data Front : Type 0 where
   held : Member → Bool → ℕ → ℕ → Front
   turned : ℕ → Front
 
--- document 01's number and values of the decoder's answer, which has a member by its key
-abbrev pub row_gives : RowAnswer → Front
-row_gives answer.End = ended
-row_gives (answer.Row r) = held (key_member r.key) r.joined r.bits r.next
-row_gives (answer.Refused n) = turned n
+-- what the decoder's answer, which has a member by its key, says of it
+abbrev pub row_gives : Result (Option RowFound) Refusal → Front
+row_gives (Ok None) = ended
+row_gives (Ok (Some r)) = held (key_member r.key) r.joined r.bits r.next
+row_gives (Err e) = turned (refusal_number e)
+
+-- How the reader that walks the rows moves, from an offset and a key: behind the row that it found; where it found none, it stays.
+abbrev pub Moved : Result (Option RowFound) Refusal → ℕ → ℕ → ℕ → ℕ → Type 0
+Moved (Ok (Some r)) at last at' last' = (at' ≡ r.next) × (last' ≡ r.key)
+Moved (Ok None) at last at' last' = (at' ≡ at) × (last' ≡ last)
+Moved (Err e) at last at' last' = (at' ≡ at) × (last' ≡ last)
 
 -- the row at an offset
 abbrev pub row_held : Edition → List ℕ → ℕ → Member → Front
@@ -73,10 +79,9 @@ pub record Above (groups before n : ℕ) (f : ℕ → ℕ) (r : Bool) : Type 0 w
   pub some : r ≡ true → (j : ℕ) × (groups ≤ before + j) × (j < n) × (f j ≡ 1)
   pub none : r ≡ false → (j : ℕ) → groups ≤ before + j → j < n → f j ≡ 0
 
--- document 01's number and values of the reader's answer: so many rows, or a refusal with its row
-abbrev pub rows_give : Edition → List ℕ → Rows → Reading (List Row)
-rows_give e b (rows.Count n) = read (rows_before e b n)
-rows_give e b (rows.Refused n r) = refused n r
+-- what the number of rows of a register, or the refusal that its row meets, stands for
+abbrev pub rows_give : Edition → List ℕ → Result ℕ Fault → Reading (List Row)
+rows_give e b = reading_of (rows_before e b)
 
 -- each of the first n rows stands at its offset, behind the rows before it: what is known of a register that was read
 pub record RowsReadable (e : Edition) (b : List ℕ) (n : ℕ) : Type 0 where

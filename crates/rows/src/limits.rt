@@ -17,11 +17,6 @@ pub const ROW_SIDE: usize = 8;
 
 pub const ROW_BITS: usize = 10;
 
-// The sides.
-pub const LEFT: u16 = 1;
-
-pub const RIGHT: u16 = 2;
-
 // The membership bytes as words of eight bytes, a bit for each of 64 groups.
 pub const WORD_BYTES: usize = 8;
 

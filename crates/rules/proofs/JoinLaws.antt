@@ -1,6 +1,6 @@
 -- The columns of a group's sons put together: word by word, son by son, and what they tell of the sons.
 use Prim.Native.Nat.{ℕ, ◌*◌, ◌/◌, ◌%◌, ◌<◌, min, max, ◌+◌, ◌≤◌, zero, suc, ◌-◌}
-use mathlib.Core.Path.{◌≡◌, refl, ◌∙◌, ap}
+use mathlib.Core.Path.{◌≡◌, refl, ◌∙◌, ap, sym}
 use mathlib.Core.Bool.{true, false}
 use mathlib.Core.List.Memᴰ
 use mathlib.Core.List.{List, [], ◌∷◌, ◌++◌, Memᴰ, append-nil}
@@ -9,8 +9,10 @@ use native.Mathlib.Omega.{arith}
 use native.Mathlib.Nat.{zero-add}
 use native.Mathlib.Numerals.{add-one}
 use borrow.Author.Tests.{lt-ltb}
-use lib.ListN.{get_or, length, take, length-take, drop_of_length-le}
-use lib.Seq.{append_snoc, slice, slice-cons, length-slice}
+use lib.ListN.{get_or, length, drop, drop_of_length-le}
+use lib.Seq.{append_snoc, slice, drop-cons, length-slice}
+use Rattle.std.proofs.lemmas.List.{length-map}
+use Rattle.sons.specs.declared.lists.Sons.{Sons}
 use lib.Bits.{bit_and}
 use Rattle.laws.proofs.Cases.{compare_le, compare_eq, not_true_false, true_not_false}
 use Rattle.laws.proofs.Digits.{digit_of_zero, digit_and, digit_or}
@@ -96,30 +98,32 @@ joined_one {l} {left} {t} {g} w c =
     }
 
 -- the first group that is left is on the list
-pub left_listed : {l t : List ℕ} {words : ℕ} {some two : List ℕ} (order : List ℕ) (k to : ℕ)
-    → JoinedBut l (slice k to order) t words some two → k < to → to ≤ length order → Memᴰ (get_or order k 0) l
-left_listed order k to w a b = rw (← w.whole, slice-cons k to order 0 a b) (Memᴰ.append_right w.done (Memᴰ.head refl))
+pub left_listed : {l t : List ℕ} {words : ℕ} {some two : List ℕ} (k : ℕ) → JoinedBut l (drop k l) t words some two → k < length l
+    → Memᴰ (get_or l k 0) l
+left_listed {l} k w a =
+    let m : Memᴰ (get_or l k 0) (w.done ++ drop k l) = rw (drop-cons l k 0 a) (Memᴰ.append_right w.done (Memᴰ.head refl)) in
+    rw w.whole at m
 
--- a slice without its first group, and nothing left behind its end
-pub joined_more : {l t : List ℕ} {words : ℕ} {some two some' two' : List ℕ} (order : List ℕ) (k to : ℕ)
-    → JoinedBut l (slice k to order) t words some two → k < to → to ≤ length order
-    → ColumnJoined t (get_or order k 0) words some two some' two' → JoinedBut l (slice (k + 1) to order) t words some' two'
-joined_more order k to w a b c = rw (add-one k) (joined_one (rw (slice-cons k to order 0 a b) at w) c)
+-- the list without its first group
+pub joined_more : {l t : List ℕ} {words : ℕ} {some two some' two' : List ℕ} (k : ℕ)
+    → JoinedBut l (drop k l) t words some two → k < length l
+    → ColumnJoined t (get_or l k 0) words some two some' two' → JoinedBut l (drop (k + 1) l) t words some' two'
+joined_more {l} k w a c = rw (add-one k) (joined_one (rw (drop-cons l k 0 a) at w) c)
 
-pub joined_all : {l t : List ℕ} {words : ℕ} {some two : List ℕ} (order : List ℕ) (k to : ℕ)
-    → JoinedBut l (slice k to order) t words some two → to ≤ k → Joined l t words some two
-joined_all order k to w o =
-    let e = drop_of_length-le (take to order) {i = k} (omega (arith, length-take to order)) in
-    rw (← w.whole, e, append-nil) w.joined
+pub joined_all : {l t : List ℕ} {words : ℕ} {some two : List ℕ} (k : ℕ)
+    → JoinedBut l (drop k l) t words some two → length l ≤ k → Joined l t words some two
+joined_all {l} k w o =
+    let e = drop_of_length-le l {i = k} o in
+    let f : w.done ≡ l = sym (append-nil w.done) ∙ (rw e at w.whole) in
+    rw f at w.joined
 
 -- the list of each group of the sheet can be read off
-pub sons_readable : {s : Sheet} {starts order : List ℕ} {g : ℕ} → SonsListed s starts order → s.size ≤ group_capacity → Group s g
-    → SonsReadable starts order g
-sons_readable {s} {starts} {order} {g} w z k =
+pub sons_readable : {s : Sheet} {w : Sons} {g : ℕ} → SonsListed s w → s.size ≤ group_capacity → Group s g → SonsReadable w g
+sons_readable {s} {w} {g} l z k =
     record {
-      long = omega (arith, w.long, k.last);
-      within = w.within g k;
-      groups = λ h m. let c = listed_son s g h (rw (w.listed g k) at m) in omega (arith, c.group.last);
+      long = omega (arith, l.long, k.last);
+      within = l.within g k;
+      groups = λ h m. let c = listed_son s g h (rw (l.listed g k) at m) in omega (arith, c.group.last);
     }
 
 -- a total and its terms: one, some, two of them
@@ -207,10 +211,10 @@ several [] h j m n o = absurd (Memᴰ.not-nil m)
 several (x ∷ []) h j m n o = absurd (omega (arith, Memᴰ.eq_of_singleton m, Memᴰ.eq_of_singleton n))
 several (x ∷ (y ∷ l)) h j m n o = omega arith
 
-pub two_sons : {s : Sheet} {starts order : List ℕ} {g : ℕ} → SonsListed s starts order → Group s g → (h j : ℕ) → Son s g h → Son s g j → h < j
-    → several_sons starts g ≡ true
-two_sons {s} {starts} {order} {g} w k h j y z o =
-    let l = several (son_list s g) h j (son_listed y) (son_listed z) o in
-    let e = ap length (w.listed g k) in
-    lt-ltb (get_or starts g 0 + 1) (get_or starts (suc g) 0)
-    (omega (arith, length-slice (get_or starts g 0) (get_or starts (suc g) 0) order (w.within g k)))
+pub two_sons : {s : Sheet} {w : Sons} {g : ℕ} → SonsListed s w → Group s g → (h j : ℕ) → Son s g h → Son s g j → h < j
+    → several_sons w g ≡ true
+two_sons {s} {w} {g} l k h j y z o =
+    let n = several (son_list s g) h j (son_listed y) (son_listed z) o in
+    let e = sym (length-map (slice (get_or w.starts g 0) (get_or w.starts (suc g) 0) w.order) (λ g. g.0)) ∙ ap length (l.listed g k) in
+    lt-ltb (get_or w.starts g 0 + 1) (get_or w.starts (suc g) 0)
+    (omega (arith, length-slice (get_or w.starts g 0) (get_or w.starts (suc g) 0) w.order (l.within g k)))

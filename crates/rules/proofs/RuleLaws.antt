@@ -1,5 +1,5 @@
 -- The tests of the scan say when a rule is broken at a group.
-use Prim.Native.Nat.{ℕ, ◌*◌, ◌<◌, ◌≤◌, zero, suc}
+use Prim.Native.Nat.{ℕ, ◌*◌, ◌<◌, ◌≤◌}
 use mathlib.Core.Path.{◌≡◌, refl, sym, ◌∙◌}
 use mathlib.Core.Bool.{false, true, Bool, ◌&&◌, not, false≢true}
 use mathlib.Core.List.{List}
@@ -14,6 +14,7 @@ use Rattle.meaning.specs.SonList.{son_list}
 use Rattle.meaning.specs.Sets.{Sets, count}
 use Rattle.meaning.specs.Rule.{Rule, outside, lacking, uncovered, shared, below, above, rule_number, Broken}
 use Rattle.meaning.proofs.SonLaws.{son_parent}
+use Rattle.tables.specs.declared.groups.Group.{Group as TableGroup}
 use Rattle.tables.specs.Groups.{parent_in, lo_in, hi_in, mode_in}
 use Rattle.tables.specs.Modes.{disjoint_mode, cover_mode, same_mode}
 use Rattle.tables.specs.SheetIn.{sheet_in, Tabled}
@@ -128,18 +129,8 @@ rule_last shared = omega arith
 rule_last below = omega arith
 rule_last above = omega arith
 
-pub rule_numbered : (k : ℕ) → 1 ≤ k → k < 7 → (q : Rule) × (k ≡ rule_number q)
-rule_numbered zero a b = absurd (omega arith)
-rule_numbered (suc zero) a b = (outside, refl)
-rule_numbered (suc (suc zero)) a b = (lacking, refl)
-rule_numbered (suc (suc (suc zero))) a b = (uncovered, refl)
-rule_numbered (suc (suc (suc (suc zero)))) a b = (shared, refl)
-rule_numbered (suc (suc (suc (suc (suc zero))))) a b = (below, refl)
-rule_numbered (suc (suc (suc (suc (suc (suc zero)))))) a b = (above, refl)
-rule_numbered (suc (suc (suc (suc (suc (suc (suc k))))))) a b = absurd (omega arith)
-
 -- the tests of a table of groups
-module _ {t : List ℕ} {n : ℕ} (k : Tabled t n) (g : ℕ) (a : 1 ≤ g) (b : g ≤ n) where
+module _ {t : List TableGroup} {n : ℕ} (k : Tabled t n) (g : ℕ) (a : 1 ≤ g) (b : g ≤ n) where
   group : Group (sheet_in t n) g
   group = group_in_law t n a b
 

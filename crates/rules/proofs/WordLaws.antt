@@ -5,18 +5,19 @@ use mathlib.Core.Bool.{Bool, true, false, not, ◌&&◌}
 use mathlib.Core.List.{List}
 use native.Mathlib.Omega.{arith}
 use native.Mathlib.Nat.{div-one}
-use borrow.Author.Tests.{eqb-true, eqb-false, not-true, not-false}
+use mir.Syntax.{w64}
 use lib.ListN.{get_or}
-use lib.Dec.{eqb}
 use lib.Bits.{bit_and, bit_or, and_le_l, and_le_r, or_zero_l, or_add_and}
 use Rattle.laws.specs.Sum.{bit}
 use Rattle.laws.proofs.Cases.{split, compare_le, compare_eq}
 use Rattle.laws.proofs.SumLaws.{bit_true}
-use Rattle.laws.proofs.Digits.{digit_less, digit_of_zero, digit_some}
+use Rattle.std.proofs.lemmas.Nat.Bits.{bit_at_not}
+use Rattle.laws.specs.Digit.{digit}
+use Rattle.laws.proofs.Digits.{digit_le, digit_and, digit_of_zero, digit_some}
 use Rattle.rows.specs.RowsRead.{word_bits}
 use Rattle.columns.specs.Columns.{column_word, in_column}
 use Rattle.columns.proofs.ColumnLaws.{digit_at, bit_column}
-use Rattle.rules.specs.RuleTests.{MembersPassing, SomeMember}
+use Rattle.rules.specs.RuleTests.{MembersPassing}
 
 -- a word of a table that has one column
 pub first_word : (t : List ℕ) (w : ℕ) → get_or t w 0 ≡ get_or t (column_word 0 w) 0
@@ -26,16 +27,22 @@ first_word t w = let e : column_word 0 w ≡ w = omega arith in rw e
 pub members_in : (t : List ℕ) (g w : ℕ) {a : ℕ} → a ≡ get_or t (column_word g w) 0 → MembersPassing (in_column t g) w a
 members_in t g w x = record { each = λ j l. rw (x, bit_column t g (word_bits * w + j)) (let d = digit_at t g w j l in omega arith) }
 
+-- the digits of a word that another lacks
+digit_lacking : (a b j : ℕ) → b < 2 ^ 64 → j < 64 → digit (bit_and a (18446744073709551615 - b)) j ≡ digit a j - digit b j
+unfolding digit
+digit_lacking a b j m l =
+    digit_and a (18446744073709551615 - b) j ∙ (rw (bit_at_not w64 b j m l) (omega (arith, digit_le a j, digit_le b j)))
+
 pub passing_as : {f h : ℕ → Bool} {w word : ℕ} → ((i : ℕ) → h i ≡ f i) → MembersPassing f w word → MembersPassing h w word
 passing_as e p = record { each = λ j l. p.each j l ∙ (rw (e _)) }
 
 pub members_lack : (c d : List ℕ) (g p w : ℕ) {a b r : ℕ} → a ≡ get_or c (column_word g w) 0 → b ≡ get_or d (column_word p w) 0
-    → r ≡ a - bit_and a b → MembersPassing (λ i. in_column c g i && not (in_column d p i)) w r
-members_lack c d g p w {a} {b} x y z =
+    → b < 2 ^ 64 → r ≡ bit_and a (18446744073709551615 - b) → MembersPassing (λ i. in_column c g i && not (in_column d p i)) w r
+members_lack c d g p w {a} {b} x y m z =
     record {
       each = λ j l.
           rw z
-          (digit_less a b j
+          (digit_lacking a b j m l
           ∙ both (in_column c g (word_bits * w + j)) (in_column d p (word_bits * w + j)) ((members_in c g w x).each j l) ((members_in d p w y).each j l));
     }
   where
@@ -49,9 +56,6 @@ members_lack c d g p w {a} {b} x y z =
 pub record MembersSeen (f : ℕ → Bool) (from to all : ℕ) : Type 0 where
   pub some : (all ≡ 0 → ⊥) → (i : ℕ) × (from ≤ i) × (i < to) × (f i ≡ true)
   pub none : all ≡ 0 → (i : ℕ) → from ≤ i → i < to → f i ≡ false
-
-pub members_seen_none : (f : ℕ → Bool) (from : ℕ) → MembersSeen f from from 0
-members_seen_none f from = record { some = λ e. absurd (omega arith); none = λ e i a b. absurd (omega arith) }
 
 pub members_seen_more : {f : ℕ → Bool} {from w all word : ℕ} → MembersSeen f from (word_bits * w) all → from ≤ word_bits * w
     → MembersPassing f w word
@@ -74,10 +78,3 @@ members_seen_more {f} {from} {w} {all} {word} s o p l =
   where
     positive : all ≡ 0 → (bit_or all word ≡ 0 → ⊥) → 0 < word
     positive z e = let x : word ≡ 0 → ⊥ = λ y. e (rw (z, y) (or_zero_l 0)) in omega arith
-
-pub members_seen_all : {f : ℕ → Bool} {from to all : ℕ} → MembersSeen f from to all → SomeMember f from to (not (eqb all 0))
-members_seen_all {f} {from} {to} {all} s =
-    record {
-      some = λ x. s.some (eqb-false all 0 (not-true _ x));
-      none = λ x. s.none (eqb-true all 0 (not-false _ x));
-    }

@@ -1,3 +1,4 @@
-pub mod Joins
 pub mod Asked
+pub mod Joins
+pub mod Meant
 pub mod RuleTests

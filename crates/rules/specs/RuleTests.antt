@@ -4,6 +4,7 @@ use Rattle.std.specs.Prelude.{ℕ, ◌*◌, ◌+◌, ◌<◌, ◌≤◌, ◌≡�
 use Rattle.laws.specs.Sum.{bit}
 use Rattle.laws.specs.Digit.{digit}
 use Rattle.wire.specs.Limits.{no_end}
+use Rattle.tables.specs.declared.groups.Group.{Group}
 use Rattle.tables.specs.Groups.{parent_in, mode_in, lo_in, hi_in}
 use Rattle.tables.specs.Modes.{disjoint_mode, cover_mode, same_mode}
 use Rattle.rows.specs.RowsRead.{word_bits}
@@ -14,7 +15,7 @@ abbrev pub by_rule : ℕ → Bool → Bool → Bool → Bool → Bool
 by_rule k a b c d = cond (eqb k 1) a (cond (eqb k 2) b (cond (eqb k 3) c d))
 
 -- rules 1 and 2 need a parent, 2 one that is 'same', 3 needs 'cover' and 4 'disjoint' over several sons
-unfoldable pub may_break : List ℕ → Bool → ℕ → ℕ → Bool
+unfoldable pub may_break : List Group → Bool → ℕ → ℕ → Bool
 may_break t several g k =
     by_rule
     k
@@ -44,5 +45,5 @@ pub record SomeMember (f : ℕ → Bool) (from to : ℕ) (r : Bool) : Type 0 whe
   pub none : r ≡ false → (i : ℕ) → from ≤ i → i < to → f i ≡ false
 
 -- whether a count c of group g breaks rule 5 or rule 6
-unfoldable pub count_breaks : List ℕ → ℕ → ℕ → ℕ → Bool
+unfoldable pub count_breaks : List Group → ℕ → ℕ → ℕ → Bool
 count_breaks t c g k = cond (eqb k 5) (ltb c (lo_in t g)) (not (eqb (hi_in t g) no_end) && ltb (hi_in t g) c)

@@ -15,13 +15,14 @@ use Rattle.meaning.specs.Sons.{is_son}
 use Rattle.meaning.specs.Arranged.{ended, first_of}
 use Rattle.meaning.proofs.SonLaws.{son_of_law, no_son_before, son_parent, son_is, one_parent}
 use Rattle.sizes.specs.Balanced.{Balanced}
+use Rattle.tables.specs.declared.groups.Group.{Group as TableGroup}
 use Rattle.tables.specs.Groups.{group_in}
 use Rattle.tables.specs.Modes.{disjoint_mode, cover_mode, same_mode}
 use Rattle.tables.specs.SheetIn.{size_limit, sheet_in, Tabled}
 use Rattle.tables.specs.Numbers.{number_in}
-use Rattle.tables.proofs.SheetInLaws.{few_groups_law, disjoint_in, cover_in, same_in}
-use Rattle.runs.specs.Told.{Told, run_limit}
-use Rattle.runs.specs.Started.{start_by, Started, StartIs}
+use Rattle.tables.proofs.SheetInLaws.{size_in, few_groups_law, disjoint_in, cover_in, same_in}
+use Rattle.runs.specs.Told.{Told, run_limit, Startable}
+use Rattle.runs.specs.Started.{start_by, Started}
 
 -- one more group, g, a son of p: what changes in the two tables
 pub record Starting (s : Sheet) (f first end first' end' : ℕ → ℕ) (p g : ℕ) : Type 0 where
@@ -30,6 +31,11 @@ pub record Starting (s : Sheet) (f first end first' end' : ℕ → ℕ) (p g : �
   pub own : end' g ≡ first' g
   pub last : end' p ≡ first' g + f g
   pub ends : (h : ℕ) → 1 ≤ h → (h ≡ g → ⊥) → (h ≡ p → ⊥) → end' h ≡ end h
+
+-- x is the start of the son g of p, and leaves room for its members
+pub record StartIs (s : Sheet) (f first end : ℕ → ℕ) (p g x : ℕ) : Type 0 where
+  pub start : x ≡ start_by (s.same p) (s.disjoint p) (s.cover p) (first p) (end p) (f p) (f g)
+  pub room : x + f g ≤ run_limit
 
 -- only the starts before a group matter to its own
 pub ended_eq : (s : Sheet) (first first' f : ℕ → ℕ) (p n : ℕ) → first' p ≡ first p
@@ -152,7 +158,7 @@ module _ {s : Sheet} {f : ℕ → ℕ} (t : Tree s) (r : Rooted s) (b : Balanced
   started_all w = record { root = w.root; son = λ p g k. w.son p g k k.group.last }
 
 -- one more son, in a table of groups
-module _ {t : List ℕ} {n : ℕ} {f first end : ℕ → ℕ} (h : Tabled t n) (b : Balanced (sheet_in t n) f) (top : f 1 ≤ size_limit)
+module _ {t : List TableGroup} {n : ℕ} {f first end : ℕ → ℕ} (h : Tabled t n) (b : Balanced (sheet_in t n) f) (top : f 1 ≤ size_limit)
     (p g : ℕ) (k : Son (sheet_in t n) p g) (w : Started (sheet_in t n) f first end (g - 1)) where
   abbrev s : Sheet
   s = sheet_in t n
@@ -177,14 +183,9 @@ module _ {t : List ℕ} {n : ℕ} {f first end : ℕ → ℕ} (h : Tabled t n) (
       (omega (arith, w.near p parent (omega (arith, below)), below)) (w.close p parent (omega (arith, below))) in
       record { start = here; room = omega (arith, size_limit_law h.tree h.rooted b top g k.group, below, few) }
 
-  -- the sums that it takes
-  pub start_room : (f g ≤ f p) × (first p + f p ≤ run_limit) × (end p + f g ≤ run_limit)
-  start_room = (
-    (b.at p parent).inside g k,
-    omega (arith, w.near p parent (omega (arith, below)), below, few),
-    omega
-        (arith, w.close p parent (omega (arith, below)), size_limit_law h.tree h.rooted b top g k.group, below, few),
-  )
+  -- the sum that it takes
+  pub start_room : (f g ≤ f p) × (first p + f p ≤ run_limit)
+  start_room = ((b.at p parent).inside g k, omega (arith, w.near p parent (omega (arith, below)), below, few))
 
 -- the stores for one more group
 pub started_by : {s : Sheet} {f : ℕ → ℕ} (firsts ends : List ℕ) (p g x : ℕ) → Tree s → Rooted s → Balanced s f → f 1 ≤ size_limit
@@ -212,3 +213,9 @@ started_by {s} {f} firsts ends p (suc i) x tr r b top u v k w z =
       ends = λ h a n o. get_or-set_other (set ends i x) (p - 1) (h - 1) (x + f (suc i)) 0 (λ m. o (omega arith))
           ∙ get_or-set_other ends i (h - 1) x 0 (λ m. n (omega arith));
     }))
+
+-- all groups, in a table of groups
+pub started_told : {t : List TableGroup} {n i : ℕ} {sizes firsts ends : List ℕ} {first end : ℕ → ℕ} → Tabled t n
+    → Startable t n sizes firsts ends → Started (sheet_in t n) (number_in sizes) first end i → i ≡ n
+    → Told (sheet_in t n) (number_in sizes) first
+started_told {t} {n} k w v e = started_all k.tree k.rooted w.balanced w.top (rw (e ∙ sym (size_in t n)) at v)

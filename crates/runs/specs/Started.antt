@@ -4,7 +4,6 @@ use Rattle.std.specs.Prelude.{ℕ, ◌+◌, ◌-◌, min, suc, ◌*◌, ◌≤�
 use Rattle.meaning.specs.Sheet.{Sheet, Group, Son}
 use Rattle.meaning.specs.Arranged.{ended, first_of}
 use Rattle.tables.specs.SheetIn.{size_limit}
-use Rattle.runs.specs.Told.{run_limit}
 
 -- The start of a son with y members: the modes of its parent ('same', 'disjoint', 'cover'), the parent's start a and count
 -- z, and where the previous son ended, w.
@@ -18,8 +17,3 @@ pub record Started (s : Sheet) (f first end : ℕ → ℕ) (i : ℕ) : Type 0 wh
   pub last : (p : ℕ) → Group s p → p ≤ i → end p ≡ ended s first f p (suc i)
   pub near : (g : ℕ) → Group s g → g ≤ i → first g + f g ≤ 1 + size_limit * g
   pub close : (g : ℕ) → Group s g → g ≤ i → end g ≤ 1 + size_limit * i
-
--- x is the start of the son g of p, and leaves room for its members
-pub record StartIs (s : Sheet) (f first end : ℕ → ℕ) (p g x : ℕ) : Type 0 where
-  pub start : x ≡ start_by (s.same p) (s.disjoint p) (s.cover p) (first p) (end p) (f p) (f g)
-  pub room : x + f g ≤ run_limit

@@ -4,7 +4,8 @@ use Rattle.wire.specs.Capacity.{group_capacity}
 use Rattle.meaning.specs.Sheet.{Sheet, Son}
 use Rattle.meaning.specs.Arranged.{first_of}
 use Rattle.sizes.specs.Balanced.{Balanced}
-use Rattle.tables.specs.SheetIn.{size_limit, sheet_in, Tabled}
+use Rattle.tables.specs.declared.groups.Group.{Group}
+use Rattle.tables.specs.SheetIn.{size_limit, sheet_in}
 use Rattle.tables.specs.Numbers.{number_in}
 
 -- The root starts at 1, and every son where document 01 says.
@@ -17,8 +18,7 @@ abbrev pub run_limit : ℕ
 run_limit = 1 + size_limit * group_capacity
 
 -- the tables that `start_runs` takes: lent long enough, the sizes balanced and not too large
-pub record Startable (groups : List ℕ) (n : ℕ) (sizes firsts ends : List ℕ) : Type 0 where
-  pub grown : Tabled groups n
+pub record Startable (groups : List Group) (n : ℕ) (sizes firsts ends : List ℕ) : Type 0 where
   pub sizes_long : n ≤ length sizes
   pub firsts_long : n ≤ length firsts
   pub ends_long : n ≤ length ends

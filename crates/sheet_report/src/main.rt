@@ -3,15 +3,18 @@
 // Document 01, "Worked sheets", the printed case; document 02, card 5 (how many bytes).
 #![tactic(auto)]
 
-ghost use Rattle.std.specs.Prelude.{◌<◌, ◌≡◌, ◌≤◌, IfOk, length};
-ghost use Rattle.wire.specs.Capacity.{group_capacity};
+ghost use Rattle.std.specs.Prelude.{◌≡◌, ◌≤◌, IfOk, length};
+ghost use Rattle.sheet_report.specs.Given.{given};
 
+use group_sheet::claim::sheet_claim;
+use group_sheet::ranges::sheet_ranges;
 use replies::pairs::PAIR;
 use replies::{RANGE_BYTES, SHOWN_BYTES, VERDICT_BYTES};
 use spans::span::NO_GREATEST;
-use std::io;
 use std::io::Read;
+use std::{fmt, io};
 use tables::limits::{CLAIMS, GROUP_CAPACITY};
+use wire::bytes::u32_at;
 
 // most bytes that are taken as a sheet
 const SHEET_BYTES: usize = 16384;
@@ -21,115 +24,86 @@ const RANGES_BYTES: usize = RANGE_BYTES * GROUP_CAPACITY;
 
 const SHOWN_SETS_BYTES: usize = VERDICT_BYTES + SHOWN_BYTES * GROUP_CAPACITY;
 
-// a four-byte field of a reply, 0 where it is cut
-fn field(reply: &[u8], at: usize) -> u64 {
-    if reply.len() < 4 {
-        return 0;
-    }
-    if reply.len() - 4 < at {
-        return 0;
-    }
-    byte(reply[at])
-        + 256 * byte(reply[at + 1])
-        + 65536 * byte(reply[at + 2])
-        + 16777216 * byte(reply[at + 3])
+// A refusal as a call returns it, its number with a record number.
+#[derive(Clone, Copy)]
+struct Refused {
+    number: u64,
+    record: u64,
 }
 
-fn byte(x: u8) -> u64
-    ensures { (result ≡ x) × (result < 256) }
+impl fmt::Display for Refused {
+    fn fmt<W: fmt::Write>(&self, f: &mut fmt::Formatter<W>) -> fmt::Result {
+        write!(f, "refused {} {}", self.number, self.record)
+    }
+}
+
+// what a call gave: how many bytes it wrote, or its refusal
+fn given(returned: u64) -> Result<u64, Refused>
+    ensures { given result ≡ returned }
 {
-    x as u64
-}
-
-fn number(rt: &impl Print, n: u64) -> io::Result<()> {
-    print!(rt; "{n}")
-}
-
-fn text(rt: &impl Print, s: &[u8]) -> io::Result<()> {
-    rt.write_all(s)
-}
-
-fn after_space(rt: &impl Print, n: u64) -> io::Result<()> {
-    text(rt, b" ")?;
-    number(rt, n)
-}
-
-// The greatest count, a hyphen where there is none.
-fn greatest(rt: &impl Print, n: u64) -> io::Result<()> {
-    if n == NO_GREATEST as u64 {
-        return text(rt, b" -");
+    let number = returned / PAIR;
+    let second = returned % PAIR;
+    if number == 0 {
+        Ok(second)
+    } else {
+        Err(Refused {
+            number,
+            record: second,
+        })
     }
-    after_space(rt, n)
 }
 
-fn print_refusal(rt: &impl Print, answer: u64) -> io::Result<()> {
-    text(rt, b"refused")?;
-    after_space(rt, answer / PAIR)?;
-    after_space(rt, answer % PAIR)?;
-    text(rt, b"\n")
-}
+// A greatest count, a hyphen where there is none.
+#[derive(Clone, Copy)]
+struct Greatest(u32);
 
-// The line of the group numbered i + 1.
-fn print_group(rt: &impl Print, reply: &[u8], i: usize) -> io::Result<()>
-    requires { i < group_capacity }
-{
-    number(rt, i as u64 + 1)?;
-    let at = RANGE_BYTES * i;
-    after_space(rt, field(reply, at + 4))?;
-    greatest(rt, field(reply, at + 8))?;
-    after_space(rt, field(reply, at + 12))?;
-    after_space(rt, field(reply, at + 16))?;
-    text(rt, b"\n")
-}
-
-fn print_groups(rt: &impl Print, reply: &[u8], size: u64) -> io::Result<()> {
-    let mut i: usize = 0;
-    while i < GROUP_CAPACITY {
-        if size <= i as u64 {
-            return Ok(());
+impl fmt::Display for Greatest {
+    fn fmt<W: fmt::Write>(&self, f: &mut fmt::Formatter<W>) -> fmt::Result {
+        if self.0 == NO_GREATEST {
+            write!(f, "-")
+        } else {
+            write!(f, "{}", self.0)
         }
-        print_group(rt, reply, i)?;
-        i += 1;
+    }
+}
+
+// a line for each record of the ranges
+fn print_groups(rt: &impl Print, ranges: &[u8]) -> io::Result<()> {
+    for (i, record) in ranges.chunks_exact(RANGE_BYTES).enumerate() {
+        let least = u32_at(record, 4);
+        let greatest = Greatest(u32_at(record, 8));
+        let first = u32_at(record, 12);
+        let count = u32_at(record, 16);
+        println!(rt; "{} {least} {greatest} {first} {count}", i + 1)?;
     }
     Ok(())
 }
 
-// The line of one claim; answers whether there is such a claim.
-fn print_claim(rt: &impl Print, sheet: &[u8], claim: u32) -> io::Result<bool> {
-    let mut reply = [0u8; SHOWN_SETS_BYTES];
-    let answer = group_sheet::claim::sheet_claim(sheet, claim, &mut reply);
-    if answer / PAIR != 0 {
-        return Ok(false);
-    }
-    text(rt, b"claim")?;
-    after_space(rt, claim as u64)?;
-    if reply[4] == 1 {
-        text(rt, b" holds\n")?;
-    } else {
-        text(rt, b" denied\n")?;
-    }
-    Ok(true)
-}
-
+// a line for each claim, up to the first number that has none
 fn print_claims(rt: &impl Print, sheet: &[u8]) -> io::Result<()> {
-    let mut k: u32 = 1;
-    while k <= CLAIMS as u32 {
-        if !print_claim(rt, sheet, k)? {
-            return Ok(());
-        }
-        k += 1;
+    for claim in 1..=CLAIMS as u32 {
+        let mut reply = [0u8; SHOWN_SETS_BYTES];
+        let returned = sheet_claim(sheet, claim, &mut reply);
+        let Ok(_) = given(returned) else {
+            break;
+        };
+        let verdict = if reply[4] == 1 { "holds" } else { "denied" };
+        println!(rt; "claim {claim} {verdict}")?;
     }
     Ok(())
 }
 
 fn report(rt: &impl Print, sheet: &[u8]) -> io::Result<()> {
     let mut reply = [0u8; RANGES_BYTES];
-    let answer = group_sheet::ranges::sheet_ranges(sheet, &mut reply);
-    if answer / PAIR != 0 {
-        return print_refusal(rt, answer);
+    let returned = sheet_ranges(sheet, &mut reply);
+    match given(returned) {
+        Err(refused) => println!(rt; "{refused}"),
+        Ok(bytes) => {
+            let written = reply.len().min(bytes as usize);
+            print_groups(rt, &reply[..written])?;
+            print_claims(rt, sheet)
+        }
     }
-    print_groups(rt, &reply, answer % PAIR / RANGE_BYTES as u64)?;
-    print_claims(rt, sheet)
 }
 
 // Reads until the sheet's room is full or the input ends, and answers how many bytes it took.

@@ -1,4 +1,4 @@
-// The sons of every group, listed once: `gather` fills the lists, `lists` reads where a group's list begins and ends.
+// The sons of every group, listed once: `lists` has the table and reads a group's list off it, `gather` fills it.
 // `specs/SonLists` says what is listed, `specs/SonSteps` what each pass over the groups leaves.
 // Document 02, card 3.
 #![tactic(auto)]

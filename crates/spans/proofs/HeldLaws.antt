@@ -3,7 +3,8 @@ use Prim.Native.Nat.{ℕ, ◌<◌, ◌≤◌, min, max, ◌-◌, ◌+◌}
 use mathlib.Core.Path.{◌≡◌, refl, sym, ◌∙◌}
 use mathlib.Core.Bool.{Bool, true, false}
 use native.Mathlib.Omega.{arith}
-use borrow.Author.Tests.{lt-leb, le-leb, ne_eqb, lt-ltb}
+use lib.Dec.{ltb}
+use borrow.Author.Tests.{lt-leb, le-leb, ne_eqb, lt-ltb, ltb-true, ltb-false}
 use Rattle.laws.proofs.Cases.{compare_eq, compare_le}
 use Rattle.wire.specs.Limits.{no_greatest, no_end}
 use Rattle.meaning.specs.Sheet.{fin, end_of, inf, Top}
@@ -12,7 +13,7 @@ use Rattle.sizes.specs.Span.{none, span, smaller, larger, less, make, meet, hull
 use Rattle.sizes.specs.Fold.{own_to}
 use Rattle.sizes.proofs.BoundsLaws.{weight_least, weight_most}
 use Rattle.tables.specs.SheetIn.{size_limit}
-use Rattle.spans.specs.Held.{span_of, top_of, Room, EndRoom, AlikeBoth}
+use Rattle.spans.specs.Held.{span_of, top_of, Room, AlikeBoth}
 
 pub span_eq : {l m u v : ℕ} → l ≡ m → u ≡ v → span_of l u ≡ span_of m v
 span_eq d e = rw (d, e)
@@ -24,6 +25,13 @@ none_of {l} {m} h = rw (lt-leb l m h)
 pub some_of : {l m : ℕ} → l ≤ m → span_of l m ≡ span l (top_of m)
 unfolding span_of
 some_of {l} {m} h = rw (le-leb l m h)
+
+-- the same, by a test of emptiness
+pub none_by : (l m : ℕ) {r : Bool} → r ≡ ltb m l → r ≡ true → span_of l m ≡ none
+none_by l m e h = none_of (ltb-true m l (sym e ∙ h))
+
+pub some_by : (l m : ℕ) {r : Bool} → r ≡ ltb m l → r ≡ false → l ≤ m
+some_by l m e h = ltb-false m l (sym e ∙ h)
 
 -- upper ends, in records and in tables
 pub end_fin : {n h : ℕ} → (h ≡ n → ⊥) → end_of n h ≡ fin h
@@ -89,37 +97,44 @@ unfolding hull
 hull_ends l u m v a b h k = rw (some_of h, some_of k, some_of {l = min l m} {m = max u v} (omega arith), top_max a b)
 
 -- a span with room has ends with room
+abbrev pub EndRoom : ℕ → Type 0
+EndRoom m = (m ≡ no_greatest → ⊥) → m ≤ size_limit
+
 pub room_least : {l m : ℕ} → l ≤ m → Room (span_of l m) → l ≤ size_limit
 room_least {l} {m} h r = weight_least l (top_of m) size_limit (rw (some_of h) at r)
 
 pub room_most : {l m : ℕ} → l ≤ m → Room (span_of l m) → EndRoom m
 room_most {l} {m} h r e = weight_most l m size_limit (rw (some_of h, top_fin e) at r)
 
--- the sum of upper ends, in the three cases that the code takes
-pub plus_left : (a b : ℕ) → a ≡ no_greatest → top_of no_greatest ≡ plus (top_of a) (top_of b)
-plus_left a b e = rw (e, top_end) (any (top_of b))
+-- the sum of upper ends that have room
+pub top_plus : {a b : ℕ} → EndRoom a → EndRoom b → a ≤ no_greatest → b ≤ no_greatest → top_of (min (a + b) no_greatest) ≡ plus (top_of a) (top_of b)
+top_plus {a} {b} r t h k =
+    compare_eq a no_greatest
+    (λ e. let m : min (a + b) no_greatest ≡ no_greatest = omega arith in rw (m, e, top_end) (any (top_of b)))
+    (λ e. compare_eq b no_greatest
+    (λ d. let m : min (a + b) no_greatest ≡ no_greatest = omega arith in rw (m, d, top_end, top_fin e))
+    (λ d. let l = r e in
+    let g = t d in
+    let m : min (a + b) no_greatest ≡ a + b = omega arith in
+    rw (m, top_fin e, top_fin d, top_fin {m = a + b} (λ z. omega arith))))
   where
     any : (t : Top) → inf ≡ plus inf t
     any (fin k) = refl
     any inf = refl
 
-pub plus_right : (a b : ℕ) → (a ≡ no_greatest → ⊥) → b ≡ no_greatest → top_of no_greatest ≡ plus (top_of a) (top_of b)
-plus_right a b n e = rw (e, top_end, top_fin n)
-
-pub plus_both : (a b : ℕ) → (a ≡ no_greatest → ⊥) → (b ≡ no_greatest → ⊥) → a ≤ size_limit → b ≤ size_limit
-    → top_of (a + b) ≡ plus (top_of a) (top_of b)
-plus_both a b n k h j = rw (top_fin n, top_fin k, top_fin {m = a + b} (λ e. omega arith))
-
 -- joined spans, by their ends
-pub lap_of : (l u m v n w : ℕ) → n ≡ max l m → (top_of w ≡ plus (top_of u) (top_of v)) × (w ≡ min (u + v) no_greatest)
-    → u ≤ no_greatest → v ≤ no_greatest → l ≤ u → m ≤ v → span_of n w ≡ join lap (span_of l u) (span_of m v)
-unfolding join
-lap_of l u m v n w d e a b h k = rw (some_of h, some_of k, some_of {l = n} {m = w} (omega arith), e.0, d)
+module _ {l u m v : ℕ} (a : u ≤ no_greatest) (b : v ≤ no_greatest) (h : l ≤ u) (k : m ≤ v)
+    (r : Room (span_of l u)) (t : Room (span_of m v)) where
+  pub lap_of : span_of (max l m) (min (u + v) no_greatest) ≡ join lap (span_of l u) (span_of m v)
+  unfolding join
+  lap_of = rw (some_of h, some_of k, some_of {l = max l m} {m = min (u + v) no_greatest} (omega arith), top_plus (room_most h r) (room_most k t) a b)
 
-pub add_of : (l u m v w : ℕ) → (top_of w ≡ plus (top_of u) (top_of v)) × (w ≡ min (u + v) no_greatest) → l ≤ size_limit → m ≤ size_limit
-    → l ≤ u → m ≤ v → span_of (l + m) w ≡ join add (span_of l u) (span_of m v)
-unfolding join
-add_of l u m v w e a b h k = rw (some_of h, some_of k, some_of {l = l + m} {m = w} (omega arith), e.0)
+  pub add_of : span_of (l + m) (min (u + v) no_greatest) ≡ join add (span_of l u) (span_of m v)
+  unfolding join
+  add_of =
+      let c = room_least h r in
+      let d = room_least k t in
+      rw (some_of h, some_of k, some_of {l = l + m} {m = min (u + v) no_greatest} (omega arith), top_plus (room_most h r) (room_most k t) a b)
 
 -- nothing is joined to nothing
 pub join_none_left : (q : Kind) (a b : Span) → a ≡ none → join q a b ≡ none

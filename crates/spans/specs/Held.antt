@@ -1,9 +1,10 @@
--- How the code's numbers are read: two numbers as a span, two spans as those of a group, a flag, a mode.
-use Rattle.std.specs.Prelude.{ℕ, ◌≤◌, ◌/◌, ◌%◌, ◌≡◌, cond, Bool, true, false, leb, eqb}
+-- How the code's values are read: two numbers as a span, two spans as those of a group, a flag, a mode.
+use Rattle.std.specs.Prelude.{ℕ, ◌≤◌, ◌≡◌, cond, Bool, true, false, leb}
 use Rattle.spans.specs.declared.span.Span.{Span as SpanCode}
 use Rattle.spans.specs.declared.pair.Pair.{Pair as PairCode}
 use Rattle.spans.specs.declared.kind.Kind.{Kind as KindCode}
 use Rattle.spans.specs.declared.kind.Kind.TheVariants.{Lap, Add, Eq}
+use Rattle.spans.specs.declared.may.May.{May}
 use Rattle.wire.specs.Limits.{no_greatest}
 use Rattle.meaning.specs.Sheet.{Top, end_of}
 use Rattle.sizes.specs.Span.{Span, none, span, Kind, lap, add, eq}
@@ -36,20 +37,17 @@ kind_held Lap = lap
 kind_held Add = add
 kind_held Eq = eq
 
--- ends that leave room for one sum
-abbrev pub EndRoom : ℕ → Type 0
-EndRoom m = (m ≡ no_greatest → ⊥) → m ≤ size_limit
-
+-- a span whose ends leave room for one sum
 abbrev pub Room : Span → Type 0
 Room s = weight s ≤ size_limit
 
 abbrev pub RoomBoth : (Bool → Span) → Type 0
 RoomBoth f = (c : Bool) → Room (f c)
 
--- a flag is a sum of 1 (the member may be out of the group) and 2 (it may be in it)
-abbrev pub may_flag : ℕ → Bool → Bool
-may_flag f false = eqb (f % 2) 1
-may_flag f true = eqb (f / 2 % 2) 1
+-- whether the member may be out of the group (false), and in it (true)
+abbrev pub may_flag : May → Bool → Bool
+may_flag f false = f.out
+may_flag f true = f.inn
 
 -- how the sons of a group of this mode are joined
 unfoldable pub mode_kind : ℕ → Kind

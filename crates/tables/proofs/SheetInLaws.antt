@@ -9,20 +9,21 @@ use Rattle.laws.proofs.Digits.{digit_zero}
 use Rattle.wire.specs.Limits.{no_end}
 use Rattle.wire.specs.Capacity.{group_capacity}
 use Rattle.meaning.specs.Sheet.{Group, end_of, Son}
+use Rattle.tables.specs.declared.groups.Group.{Group as TableGroup}
 use Rattle.tables.specs.Groups.{group_in}
 use Rattle.tables.specs.Modes.{disjoint_mode, cover_mode, same_mode}
 use Rattle.tables.specs.SheetIn.{sheet_in, Tabled}
 use Rattle.tables.proofs.GroupsLaws.{length_groups_in, group_at_groups_in}
 
-pub size_in : (t : List ℕ) (n : ℕ) → (sheet_in t n).size ≡ n
+pub size_in : (t : List TableGroup) (n : ℕ) → (sheet_in t n).size ≡ n
 unfolding sheet_in
 size_in t n = length_groups_in t n
 
-pub group_in_law : (t : List ℕ) (n : ℕ) {g : ℕ} → 1 ≤ g → g ≤ n → Group (sheet_in t n) g
+pub group_in_law : (t : List TableGroup) (n : ℕ) {g : ℕ} → 1 ≤ g → g ≤ n → Group (sheet_in t n) g
 group_in_law t n a b = record { first = a; last = omega (arith, size_in t n) }
 
 -- the fields of a group
-module _ (t : List ℕ) (n g : ℕ) (k : Group (sheet_in t n) g) where
+module _ (t : List TableGroup) (n g : ℕ) (k : Group (sheet_in t n) g) where
   pub parent_in_law : (sheet_in t n).parent g ≡ (group_in t (g - 1)).parent
   unfolding sheet_in
   parent_in_law = ap (λ r. r.parent) (group_at_groups_in t n g k.first (omega (arith, size_in t n)))
@@ -49,16 +50,16 @@ module _ (t : List ℕ) (n g : ℕ) (k : Group (sheet_in t n) g) where
   unfolding sheet_in digit
   same_in = ap (λ r. same_mode r.mode) (group_at_groups_in t n g k.first (omega (arith, size_in t n)))
 
-pub few_groups_law : {t : List ℕ} {n : ℕ} → Tabled t n → (sheet_in t n).size ≤ group_capacity
+pub few_groups_law : {t : List TableGroup} {n : ℕ} → Tabled t n → (sheet_in t n).size ≤ group_capacity
 few_groups_law {t} {n} k = omega (arith, size_in t n, k.small)
 
 -- number 0, which is no group, has no parent
-pub none_above : {t : List ℕ} {n : ℕ} → Tabled t n → (sheet_in t n).parent 0 ≡ 0
+pub none_above : {t : List TableGroup} {n : ℕ} → Tabled t n → (sheet_in t n).parent 0 ≡ 0
 unfolding sheet_in
 none_above k = k.rooted.top
 
 -- the number that the table has as a group's parent is below the group's; a group other than the root is a son of that group
-module _ {t : List ℕ} {n : ℕ} (k : Tabled t n) (g p : ℕ) (b : g ≤ n) (e : p ≡ (group_in t (g - 1)).parent) where
+module _ {t : List TableGroup} {n : ℕ} (k : Tabled t n) (g p : ℕ) (b : g ≤ n) (e : p ≡ (group_in t (g - 1)).parent) where
   pub parent_below : 1 ≤ g → p < g
   parent_below a =
       let q = group_in_law t n a b in

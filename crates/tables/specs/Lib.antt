@@ -1,3 +1,4 @@
+pub mod Entry
 pub mod Groups
 pub mod Modes
 pub mod SheetIn

@@ -22,21 +22,10 @@ pub const NO_END: u16 = 65535;
 // The groups that tables hold, in every edition: a table of one number for each group has this length.
 pub const GROUP_CAPACITY: usize = 256;
 
-// How many numbers the tables have for each group and for each claim.
-pub const GROUP_FIELDS: usize = 4;
-
-pub const CLAIM_SLOTS: usize = 4;
-
-// The lengths of the tables that hold any sheet: groups, names, offsets of labels, claims, offsets of claims' names.
-pub const GROUP_TABLE: usize = GROUP_FIELDS * GROUP_CAPACITY;
-
+// The lengths of the tables of names and claims that hold any sheet.
 pub const NAME_TABLE: usize = NAMES as usize;
 
-pub const LABEL_TABLE: usize = NAMES as usize;
-
-pub const CLAIM_TABLE: usize = CLAIM_SLOTS * OFFSET_TABLE;
-
-pub const OFFSET_TABLE: usize = CLAIMS as usize;
+pub const CLAIM_TABLE: usize = CLAIMS as usize;
 
 // the last kind of a claim
 pub const LAST_CLAIM: u16 = 7;

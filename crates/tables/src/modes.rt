@@ -2,23 +2,26 @@
 ghost use Rattle.std.specs.Prelude.{◌≡◌};
 ghost use Rattle.tables.specs.Modes.{disjoint_mode, cover_mode, same_mode};
 
-// whether a mode has 'disjoint'
-pub fn is_disjoint(mode: u16) -> bool
-    ensures { result ≡ disjoint_mode mode }
-{
-    mode % 2 == 1
-}
+// a sum as a record has it
+#[derive(Clone, Copy, PartialEq, Eq)]
+pub struct Mode(pub u16);
 
-// whether it has 'cover'
-pub fn is_cover(mode: u16) -> bool
-    ensures { result ≡ cover_mode mode }
-{
-    mode / 2 % 2 == 1
-}
+impl Mode {
+    pub fn is_disjoint(self) -> bool
+        ensures { result ≡ disjoint_mode self.0 }
+    {
+        self.0 % 2 == 1
+    }
 
-// whether it has 'same'
-pub fn is_same(mode: u16) -> bool
-    ensures { result ≡ same_mode mode }
-{
-    mode / 4 % 2 == 1
+    pub fn is_cover(self) -> bool
+        ensures { result ≡ cover_mode self.0 }
+    {
+        self.0 / 2 % 2 == 1
+    }
+
+    pub fn is_same(self) -> bool
+        ensures { result ≡ same_mode self.0 }
+    {
+        self.0 / 4 % 2 == 1
+    }
 }

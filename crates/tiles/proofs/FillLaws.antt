@@ -3,7 +3,7 @@ use Prim.Native.Nat.{ℕ, ◌≤◌, ◌<◌, ◌+◌, ◌-◌, ◌*◌, ◌/◌
 use mathlib.Core.Path.{◌≡◌, ◌∙◌, refl, sym}
 use mathlib.Core.Bool.{Bool, true, false, cond}
 use mathlib.Core.List.{List, [], ◌∷◌, ◌++◌}
-use lib.ListN.{length, get_or, length-append, replicate, length-replicate, get_or-replicate, get_or-eq_default}
+use lib.ListN.{length, get_or, length-append}
 use native.Mathlib.Omega.{arith}
 use native.Mathlib.Numerals.{add-one}
 use borrow.Author.Tests.{eq-eqb, ne_eqb, le-ltb, lt-ltb}
@@ -187,10 +187,3 @@ module _ {ed : Edition} {b : List ℕ} {row : ℕ} {v : RowFound} (s : Stands ed
         begun = λ l. r.begun;
         within = r.within;
       }
-
--- tables start as zeros
-pub zeros : (n i : ℕ) → get_or {A = ℕ} (replicate n 0) i 0 ≡ 0
-zeros n i =
-    compare_le n i
-    (λ o. get_or-eq_default (replicate n 0) 0 (rw (length-replicate {A = ℕ} n 0) o))
-    (λ o. get_or-replicate n i 0 0 o)

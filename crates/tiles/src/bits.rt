@@ -1,65 +1,37 @@
 // The groups of a word put into the columns bit by bit, lowest first; as many are left to put as there are ones left.
-ghost use Rattle.std.specs.Prelude.{◌≡◌, ◌-◌, ◌<◌, ◌+◌, ◌≤◌, length};
-ghost use Rattle.std.specs.Int.Count.{ones};
-ghost use Rattle.std.specs.Int.Bits.{bit_and};
-ghost use Rattle.laws.specs.Lowest.{Lowest};
+ghost use Rattle.std.specs.Prelude.{◌<◌, ◌+◌, ◌≤◌};
 ghost use Rattle.wire.specs.Capacity.{group_capacity};
 ghost use Rattle.rows.specs.RowsRead.{word_bits};
-ghost use Rattle.columns.specs.Columns.{column_words, columns_length};
+ghost use Rattle.columns.specs.Columns.{column_words};
 ghost use Rattle.tiles.specs.TileSteps.{LowestGroup, GroupPut, GroupsPut};
 
-use columns::table::put_column_word;
+use columns::table::Columns;
 use tables::groups::GroupNo;
 
-// how many groups a word has: its number of ones
-pub fn groups_in(word: u64) -> u32
-    ensures { result ≡ ones word }
-{
-    u64::count_ones(word)
-}
-
-// the lowest bit of a word
-fn lowest_of(word: u64) -> u32
-    requires { 0 < word }
-    ensures { (result < word_bits) × Lowest word result (bit_and word (word - 1)) }
-{
-    u64::trailing_zeros(word)
-}
-
-// the group of that bit, `before` groups being in the words below
+// the group of the lowest bit of a word, `before` groups being in the words below
 fn lowest_group(word: u64, before: u16) -> GroupNo
     requires { (0 < word) × (before ≤ group_capacity) }
     ensures { LowestGroup before word result.0 }
 {
-    GroupNo(before + lowest_of(word) as u16 + 1)
-}
-
-// a word without its lowest bit
-fn rest_of(word: u64) -> u64
-    requires { 0 < word }
-    ensures { result ≡ bit_and word (word - 1) }
-{
-    word & (word - 1)
+    GroupNo(before + word.trailing_zeros() as u16 + 1)
 }
 
 // one bit of word w of a group's column, that of member i of a tile
-fn put_group(columns: &mut [u64], g: GroupNo, w: usize, i: usize)
-    requires { (g.0 ≤ group_capacity) × ((w < column_words) × ((i < word_bits) × (columns_length ≤ length columns.old))) }
-    ensures { GroupPut g.0 w i columns.old columns.new }
+fn put_group(columns: &mut Columns, g: GroupNo, w: usize, i: usize)
+    requires { (g.0 ≤ group_capacity) × ((w < column_words) × (i < word_bits)) }
+    ensures { GroupPut g.0 w i columns.old.words columns.new.words }
 {
-    put_column_word(columns, g, w, 1u64 << i);
+    columns.put(g, w, 1 << i);
 }
 
-// the bits of member i in the groups of a word, lowest first; as many are left to put as there are ones left
-pub fn put_groups(word: u64, before: u16, w: usize, i: usize, columns: &mut [u64])
-    requires { (before + word_bits ≤ group_capacity) × ((w < column_words) × ((i < word_bits) × (columns_length ≤ length columns.old))) }
-    ensures { GroupsPut word before w i columns.old columns.new }
+// the bits of member i in the groups of a word, lowest first
+pub fn put_groups(word: u64, before: u16, w: usize, i: usize, columns: &mut Columns)
+    requires { (before + word_bits ≤ group_capacity) × ((w < column_words) × (i < word_bits)) }
+    ensures { GroupsPut word before w i columns.old.words columns.new.words }
 {
     let mut left = word;
-    let mut number = groups_in(left);
-    while number != 0 {
+    while left.count_ones() != 0 {
         put_group(columns, lowest_group(left, before), w, i);
-        left = rest_of(left);
-        number = groups_in(left);
+        left &= left - 1;
     }
 }

@@ -5,7 +5,7 @@ use tables::limits::GROUP_CAPACITY;
 // A tile has the words of so many members: word k of member i is at TILE_MEMBERS * k + i.
 pub const TILE_MEMBERS: usize = WORD_BITS as usize;
 
-pub const TILE: usize = GROUP_CAPACITY;
+pub const TILE_WORDS: usize = GROUP_CAPACITY;
 
 // A tile is taken to have few groups where so many of its members, the same number apart, have no more of 64 groups together.
 pub const SAMPLE: usize = 16;

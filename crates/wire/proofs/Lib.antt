@@ -15,3 +15,4 @@ pub mod MemberKeyLaws
 pub mod RowFacts
 pub mod Longest
 pub mod ConversionLaws
+pub mod LittleEndian

@@ -5,6 +5,7 @@ pub mod Member
 pub mod Bytes
 pub mod U64
 pub mod Record
+pub mod Refusals
 pub mod SheetFormat
 pub mod RegisterFormat
 pub mod Encoding

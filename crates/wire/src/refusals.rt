@@ -1,34 +1,50 @@
 // The refusals by name: document 01, "Turned back, in checking order"; document 02, cards 4 (15) and 6 (16, 17). `tests/header` holds them to the header.
-pub const CUT: u32 = 1;
+ghost use Rattle.std.specs.Prelude.{◌≡◌};
+ghost use Rattle.wire.specs.Refusals.{refusal_number};
 
-pub const WRONG_KIND: u32 = 2;
+// In the header's order, each with its number.
+#[derive(Clone, Copy, PartialEq, Eq)]
+pub enum Refusal {
+    Cut = 1,
+    WrongKind = 2,
+    WrongLength = 3,
+    FieldRange = 4,
+    BadReference = 5,
+    LabelTwice = 6,
+    Trailing = 7,
+    ManyGroups = 16,
+    LongLabel = 17,
+    Impossible = 8,
+    NoSuchClaim = 9,
+    TooManyRows = 10,
+    BadRow = 11,
+    BadSide = 15,
+    MemberOrder = 12,
+    BitAbove = 13,
+    ReplyShort = 14,
+}
 
-pub const WRONG_LENGTH: u32 = 3;
+impl Refusal {
+    pub fn number(self) -> u32
+        ensures { result ≡ refusal_number self }
+    {
+        self as u32
+    }
 
-pub const FIELD_RANGE: u32 = 4;
+    // the refusal, met by the record or row of this number
+    pub fn at(self, place: u32) -> Fault
+        ensures { result ≡ record { refusal = self; place = place } }
+    {
+        Fault {
+            refusal: self,
+            place,
+        }
+    }
+}
 
-pub const BAD_REFERENCE: u32 = 5;
-
-pub const LABEL_TWICE: u32 = 6;
-
-pub const TRAILING: u32 = 7;
-
-pub const MANY_GROUPS: u32 = 16;
-
-pub const LONG_LABEL: u32 = 17;
-
-pub const IMPOSSIBLE: u32 = 8;
-
-pub const NO_SUCH_CLAIM: u32 = 9;
-
-pub const TOO_MANY_ROWS: u32 = 10;
-
-pub const BAD_ROW: u32 = 11;
-
-pub const BAD_SIDE: u32 = 15;
-
-pub const MEMBER_ORDER: u32 = 12;
-
-pub const BIT_ABOVE: u32 = 13;
-
-pub const REPLY_SHORT: u32 = 14;
+// A refusal with the number of the record or row that meets it, 0 where it is no record's.
+#[derive(Clone, Copy, PartialEq, Eq)]
+pub struct Fault {
+    pub refusal: Refusal,
+    pub place: u32,
+}

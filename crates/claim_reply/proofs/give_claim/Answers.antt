@@ -1,4 +1,5 @@
 -- `give_claim` meets its contract: refusal 8, refusal 9, or the verdict.
+use Prim.Native.Nat.{◌-◌}
 use mathlib.Core.Path.{refl, sym, ◌∙◌}
 use mathlib.Core.Bool.{false≢true}
 use mathlib.Core.Logic.{⊎_elim}
@@ -6,51 +7,54 @@ use native.Mathlib.Omega.{arith}
 use borrow.Author.Rules.{rules}
 use Rattle.tables.specs.SheetIn.{sheet_in}
 use Rattle.claim_records.proofs.ClaimTableLaws.{length_claims_in}
+use Rattle.reading.proofs.TabledLaws.{tabled}
 use Rattle.replies.proofs.ReplyLaws.{as_read, once_none_fit, once_some_fit}
 use Rattle.claim_reply.specs.ClaimReply.{ClaimVerdict}
 use Rattle.claim_reply.proofs.ClaimLaws.{verdict_as, claim_askable, claim_told}
+use Rattle.claim_reply.proofs.give_claim.Goals.{then-claim-eq0-via-then-claim-eq0, then-claim-eq0-via-else-claim-eq0+then-head-claim}
 use Rattle.claim_reply.proofs.give_claim.Goals as goal
+
+pub invariant_of-groups : goal.invariant_of-groups
+invariant_of-groups c =
+    let w = c.requires in
+    record { tabled = tabled _ _ _ _ w.reads refl w.held.room }
 
 pub returns-then-not-some_fit : goal.returns-then-not-some_fit
 unfolding sheet_in
 returns-then-not-some_fit c =
     as_read (λ d. ClaimVerdict _ d _) c.requires.reads
-    (once_none_fit (λ p. false≢true (sym c.if-not-some_fit.true ∙ c.some_fit.ensures.1 p))
-    c.refuse.ensures)
+    (once_none_fit (λ p. false≢true (sym c.if-not-some_fit.true ∙ c.some_fit.ensures.1 p)) (search rules))
 
 pub returns-then-claim-eq0 : goal.returns-then-claim-eq0
 unfolding sheet_in
 returns-then-claim-eq0 c =
     as_read (λ d. ClaimVerdict _ d _) c.requires.reads
     (once_some_fit (c.some_fit.ensures.0 c.if-not-some_fit.false)
-    (record { unnumbered = λ o. c.refuse-then-claim-eq0.ensures; numbered = λ a b. absurd (omega arith) }))
-
-pub returns-then-head-claim : goal.returns-then-head-claim
-unfolding sheet_in
-returns-then-head-claim c =
-    as_read (λ d. ClaimVerdict _ d _) c.requires.reads
-    (once_some_fit (c.some_fit.ensures.0 c.if-not-some_fit.false)
-    (record { unnumbered = λ o. c.refuse-then-head-claim.ensures; numbered = λ a b. absurd (omega (arith, simp length_claims_in at b)) }))
+    (record {
+      unnumbered = λ o. search rules;
+      numbered = λ a b. absurd (elim c.then-claim-eq0.branch [
+        | then-claim-eq0-via-then-claim-eq0 w ↦ omega arith
+        | then-claim-eq0-via-else-claim-eq0+then-head-claim w ↦ omega (arith, simp length_claims_in at b)
+      ]);
+    }))
 
 pub give_verdict-requires : goal.give_verdict-requires
 give_verdict-requires c =
+    let a = c.args in
     let w = c.requires in
-    let x = c.claim_in-c.ensures in (
-      w.tabled,
-      claim_askable _ _ _ _ _ _ w.reads w.held (omega (arith, w.held.limits.few_names, w.rooms.name_room)) _ (search rules) x,
-    )
+    claim_askable a.head a.sheet.now a.tables.now w.reads w.held (omega (arith, w.held.limits.few_names)) (a.claim - 1) (omega arith)
 
 pub returns : goal.returns
 unfolding sheet_in
 returns c =
+    let a = c.args in
     let w = c.requires in
-    let x = c.claim_in-c.ensures in
     as_read (λ d. ClaimVerdict _ d _) w.reads
     (once_some_fit (c.some_fit.ensures.0 c.if-not-some_fit.false)
     (record {
       unnumbered = λ o. absurd (⊎_elim c.if-claim-eq0.false (λ b. omega (arith, simp length_claims_in at b)) o);
-      numbered = λ a b.
+      numbered = λ i j.
           verdict_as _ _
-          (claim_told _ _ _ _ _ _ w.reads w.held (omega (arith, w.held.limits.few_names, w.rooms.name_room)) _ (search rules) x _ refl)
+          (claim_told a.head a.sheet.now a.tables.now w.reads w.held (omega (arith, w.held.limits.few_names)) (a.claim - 1) (omega arith) a.claim refl)
           c.give_verdict.ensures;
     }))

@@ -1,26 +1,16 @@
--- `convert_sheet` meets its contract: the sheet's refusal, or the reply under it.
-use borrow.Author.Rules.{rules}
-use Rattle.reading.proofs.LoadedLaws.{loaded_sheet, loaded_held, loaded_refused}
-use Rattle.replies.proofs.ReplyLaws.{once_turned}
+-- `convert_sheet` meets its contract: the refusal of the sheet or of its way, or the sheet with another edition in its head.
+use Rattle.wire.specs.Edition.{edition_of}
+use Rattle.wire.specs.Encoding.{encode_sheet}
+use Rattle.replies.specs.Reply.{OnceBytes}
+use Rattle.conversion_reply.proofs.GivenLaws.{sheet_length, sheet_in_law, once_there}
 use Rattle.conversion_reply.proofs.convert_sheet.Goals as goal
 
-pub give_sheet-requires : goal.give_sheet-requires
-give_sheet-requires c =
-    let load = c.load_sheet.ensures in
-    let told = c.in-Sheet.is in (
-      record {
-        groups = _;
-        claims = _;
-        offsets = _;
-        reads = loaded_sheet load _ told;
-        limits = (loaded_held load _ told).limits;
-        whole = (loaded_held load _ told).whole;
-        room = search rules;
-      },
-      search rules,
-    )
+pub give_edition-requires : goal.give_edition-requires
+give_edition-requires c = sheet_length _ _ c.in_ok-load_towards.ensures.reads
 
-pub returns-in-Refused : goal.returns-in-Refused
-returns-in-Refused c =
-    once_turned (loaded_refused c.load_sheet.ensures _ _ c.in-Refused.is)
-    c.refuse.ensures
+pub returns : goal.returns
+returns c =
+    let a = c.args in
+    let w = c.in_ok-load_towards.ensures in
+    once_there (λ d converted. OnceBytes (encode_sheet converted) _) w
+    (sheet_in_law (edition_of a.edition) a.sheet.now (λ i. (c.type_inv.sheet i).fits) _ w.reads a.edition c.requires c.give_edition.ensures)

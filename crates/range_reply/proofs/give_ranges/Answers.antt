@@ -3,31 +3,26 @@ use Prim.Native.Nat.{◌*◌}
 use mathlib.Core.Path.{sym, ap, ◌∙◌}
 use mathlib.Core.Bool.{false≢true}
 use native.Mathlib.Omega.{arith}
+use borrow.Author.Rules.{rules}
 use Rattle.tables.proofs.SheetInLaws.{size_in}
 use Rattle.wire.specs.Limits.{range_bytes}
-use Rattle.replies.proofs.ReplyLaws.{once_none_fit, once_some_fit, once_short, once_replied, room_said, written}
+use Rattle.replies.proofs.ReplyLaws.{once_none_fit, once_some_fit, once_short, once_written, room_said, too_short}
 use Rattle.range_reply.proofs.give_ranges.Goals as goal
 
 pub returns-then-not-measure : goal.returns-then-not-measure
 returns-then-not-measure c =
-    let w = c.measure.ensures in
-    once_none_fit (λ p. false≢true (sym c.if-not-measure.true ∙ w.told.1 p)) c.refuse.ensures
+    once_none_fit (λ p. false≢true (sym c.if-not-measure.true ∙ c.measure.ensures.told.1 p)) (search rules)
 
-pub returns-then-reply-bytes : goal.returns-then-reply-bytes
-returns-then-reply-bytes c =
-    let a = c.args in
+pub returns-in_err-room : goal.returns-in_err-room
+returns-in_err-room c =
+    let t = c.args.groups.now in
     once_some_fit (c.measure.ensures.told.0 c.if-not-measure.false)
-    (once_short (omega (arith, size_in a.groups.now a.size)) c.refuse-then-reply-bytes.ensures)
-
-pub put-requires : goal.put-requires
-put-requires c =
-    let w = c.measure.ensures in
-    record { measured = w.measured (w.told.0 c.if-not-measure.false); room = c.if-reply-bytes.false }
+    (once_short (omega (arith, size_in t.table t.size, c.in_err-room.ensures.0)) (too_short _ _ c.from_residual.ensures.1 c.in_err-room.ensures.1))
 
 pub returns : goal.returns
 returns c =
-    let a = c.args in
+    let a = c.args.groups.now in
     let put = c.put.ensures in
     once_some_fit (c.measure.ensures.told.0 c.if-not-measure.false)
-    (room_said (ap (λ m. range_bytes * m) (sym (size_in a.groups.now a.size))) (λ out p. p)
-    (once_replied c.if-reply-bytes.false (written put.wrote c.pack.ensures) put.ranges))
+    (room_said (ap (λ m. range_bytes * m) (sym (size_in a.table a.size))) (λ out p. p)
+    (once_written _ c.in_ok-room.ensures put.wrote put.ranges))

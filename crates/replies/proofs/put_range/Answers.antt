@@ -1,3 +1,4 @@
+use native.Mathlib.Omega.{arith}
 use Rattle.replies.proofs.WrittenLaws.{range_put}
 use Rattle.replies.proofs.put_range.Goals as goal
 
@@ -11,8 +12,8 @@ returns c =
     c.put_u32-3.ensures
     c.put_u32-4.ensures
     c.requires
-    c.ranges.least.fits
-    c.ranges.greatest.fits
+    (omega arith)
+    (omega arith)
     c.ranges.first.fits
     c.ranges.count.fits in
     record { kept = w.0; put = w.1 }

@@ -4,6 +4,8 @@ use Rattle.laws.proofs.SetsLaws.{sets_then}
 use Rattle.wire.specs.Bytes.{le16, le32}
 use Rattle.wire.specs.Edition.{edition_of}
 use Rattle.wire.proofs.EditionFacts.{row_parts}
+use Rattle.wire.specs.Member.{Member, side_number}
+use Rattle.rows.specs.Sides.{side_meant}
 use Rattle.rows.specs.RowsRead.{row_words}
 use Rattle.rows.proofs.RowBits.{words_bytes}
 use Rattle.row_writing.proofs.WordsRowLaws.{bytes_of, front_bytes, row_bytes_law}
@@ -20,6 +22,7 @@ unfolding le16 le32
 returns c =
     let a = c.args in
     let e = edition_of a.edition in
-    rw (row_bytes_law e a.number a.side a.words.now a.first c.requires.0 c.requires.1.0)
-    (sets_then (front_bytes e a.number a.side) (bytes_of a.words.now a.first (row_words e)) a.out.now a.at
+    let m : Member = record { number = a.number; side = side_meant a.side } in
+    rw (row_bytes_law e m a.words.now a.first c.requires.0)
+    (sets_then (front_bytes e m.number (side_number m.side)) (bytes_of a.words.now a.first (row_words e)) a.out.now a.at
     c.put_front.ensures c.put_words.ensures)

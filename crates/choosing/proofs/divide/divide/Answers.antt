@@ -1,91 +1,71 @@
--- `divide` meets its contract: up to i the groups have their numbers and marks.
+-- `divide` meets its contract: the groups before n have their numbers and marks.
 use Prim.Native.Nat.{◌+◌, ◌-◌}
-use mathlib.Core.Path.{◌≡◌, refl, ap, ◌∙◌}
-use native.Mathlib.Omega.{arith}
+use mathlib.Core.Path.{◌≡◌, ap, subst, ◌∙◌}
 use lib.ListN.{replicate}
+use native.Mathlib.Omega.{arith}
 use Rattle.wire.specs.Capacity.{group_capacity}
 use Rattle.tables.specs.Numbers.{number_in}
 use Rattle.tables.proofs.NumbersLaws.{number_same}
 use Rattle.tables.specs.SheetIn.{sheet_in}
 use Rattle.tables.proofs.SheetInLaws.{size_in}
-use Rattle.choosing.specs.Divided.{marked_in, RoomFor}
+use Rattle.measuring.specs.Pairs.{pair_in}
+use Rattle.choosing.specs.Divided.{no_part, marked_in, DividedTo}
 use Rattle.choosing.proofs.DividedLaws.{mark_same, divided_root, divided_all}
-use Rattle.choosing.proofs.divide.divide.Goals.{Start}
 use Rattle.choosing.proofs.divide.divide.Goals as goal
 
-room : (s : Start) → RoomFor 1 s.args.sizes.now s.args.marks.now
-    (replicate group_capacity 0) (replicate group_capacity 0)
-room s =
-    let n = s.requires.tabled.0.some in
-    record {
-      sizes_long = omega (arith, s.requires.size_in_bounds.0);
-      marks_long = omega (arith, s.requires.size_in_bounds.1);
-      rest_long = omega arith;
-      states_long = omega arith;
-    }
-
-pub give-requires : goal.give-requires
-give-requires c = (omega arith, room (goal.at.give-requires c).Start)
-
-pub loop-i-init : goal.loop-i-init
-loop-i-init c =
-    let e = c.give.ensures in
-    let k = c.give.auto in
+pub loop-n-init : goal.loop-n-init
+loop-n-init c =
+    let a = c.args in
+    let g = a.groups.now in
     let w = c.requires in
-    let l = room (goal.at.loop-i-init c).Start in
-    let t = w.tabled.0 in (
-      omega arith,
-      t.some,
-      refl,
-      refl,
-      k.rest,
-      k.states,
-      ap (λ t. number_in t 1) e.sizes_after ∙ number_same c.args.sizes.now 1 c.args.r (omega arith) l.sizes_long,
-      ap (λ t. marked_in t 1) e.marks_after ∙ mark_same c.args.marks.now 1 c.args.c (omega arith) l.marks_long,
-      rw (e.sizes_after, e.marks_after, e.rest_after, e.states_after)
-          (divided_root t.tree w.tabled.1.measured c.args.sizes.now c.args.marks.now (replicate group_capacity 0)
-          (replicate group_capacity 0) c.args.r c.args.c t.rooted.one l w.size_in_bounds.2),
-    )
-
-pub divide_son-requires : goal.divide_son-requires
-divide_son-requires c =
-    let i = c.loop-i.invariant in
-    let m = c.loop-i.i in
-    let k = c.give.auto in
-    let e : m + 1 - 1 ≡ m = omega arith in record {
-      tabled = c.requires.tabled;
-      le_g = (
-        omega arith,
-        omega arith,
-        record {
-          sizes_long = omega (arith, i.2, k.sizes, c.requires.size_in_bounds.0);
-          marks_long = omega (arith, i.3, k.marks, c.requires.size_in_bounds.1);
-          rest_long = omega (arith, i.4, c.requires.tabled.0.small);
-          states_long = omega (arith, i.5, c.requires.tabled.0.small);
-        },
-      );
-      divided_to = rw e i.8;
+    let e = c.give.ensures in
+    let some = g.tabled.some in record {
+      most = omega arith;
+      sizes_long = omega (arith, w.room.0);
+      marks_long = omega (arith, w.room.1);
+      root = ap (λ t. number_in t 1) e.sizes_after ∙ number_same a.sizes.now 1 a.r (omega arith) (omega (arith, w.room.0));
+      state = ap (λ t. marked_in t 1) e.marks_after ∙ mark_same a.marks.now 1 a.c (omega arith) (omega (arith, w.room.1));
+      divided = rw (e.sizes_after, e.marks_after, e.left_after)
+          (divided_root g.tabled.tree w.folded.measured a.sizes.now a.marks.now
+          (replicate group_capacity no_part) a.r a.c g.tabled.rooted.one
+          (record {
+            sizes_long = omega (arith, w.room.0);
+            marks_long = omega (arith, w.room.1);
+            left_long = omega arith;
+          })
+          w.room.2);
     }
 
-pub loop-i-preserved : goal.loop-i-preserved
-loop-i-preserved c =
-    let i = c.loop-i.invariant in
+pub loop-n-preserved : goal.loop-n-preserved
+loop-n-preserved c =
+    let i = c.loop-n.invariant in
     let d = c.divide_son in
-    let k = d.auto in (
-      omega arith,
-      omega arith,
-      k.sizes ∙ i.2,
-      k.marks ∙ i.3,
-      k.rest ∙ i.4,
-      k.states ∙ i.5,
-      d.ensures.sizes_unchanged.0 ∙ i.6,
-      d.ensures.sizes_unchanged.1 ∙ i.7,
-      d.ensures.divided_to_2,
-    )
+    let k = d.auto in
+    let e : c.loop-n.n + 1 - 1 ≡ c.loop-n.n = omega arith in record {
+      most = omega arith;
+      sizes_long = omega (arith, k.sizes);
+      marks_long = omega (arith, k.marks);
+      root = d.ensures.root_unchanged.0 ∙ i.root;
+      state = d.ensures.root_unchanged.1 ∙ i.state;
+      divided = rw e d.ensures.given;
+    }
 
 pub returns : goal.returns
 returns c =
-    let i = c.loop-i.invariant in
-    let e : c.loop-i.i ≡ (sheet_in c.args.groups.now c.args.size).size =
-    omega (arith, size_in c.args.groups.now c.args.size) in
-    divided_all c.requires.tabled.0.tree (rw e at i.8) i.6 i.7
+    let g = c.args.groups.now in
+    let s = sheet_in g.table g.size in
+    let i = c.loop-n.invariant in
+    let e : c.loop-n.n - 1 ≡ s.size = omega (arith, size_in g.table g.size, g.tabled.some) in
+    divided_all g.tabled.tree
+    (subst (DividedTo s (pair_in c.args.measured.now.spans) c.loop-n.sizes c.loop-n.marks c.loop-n.left) e i.divided) i.root i.state
+
+pub returns-2 : goal.returns-2
+returns-2 c =
+    let g = c.args.groups.now in
+    let s = sheet_in g.table g.size in
+    let i = c.loop-n.invariant in
+    let d = c.divide_son in
+    let e : c.loop-n.n ≡ s.size = omega (arith, size_in g.table g.size) in
+    divided_all g.tabled.tree
+    (subst (DividedTo s (pair_in c.args.measured.now.spans) d.new.sizes d.new.marks d.new.left) e d.ensures.given)
+    (d.ensures.root_unchanged.0 ∙ i.root) (d.ensures.root_unchanged.1 ∙ i.state)

@@ -4,4 +4,4 @@ use Rattle.group_sheet.proofs.editions.sheet_register_to_edition2.Goals as goal
 
 pub returns : goal.returns
 unfolding edition_of edition_number
-returns c = c.convert_register.ensures
+returns c = rw c.pack.ensures c.convert_register.ensures

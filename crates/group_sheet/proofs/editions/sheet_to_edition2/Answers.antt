@@ -9,4 +9,4 @@ convert_sheet-requires c = refl
 
 pub returns : goal.returns
 unfolding edition_of edition_number
-returns c = c.convert_sheet.ensures
+returns c = rw c.pack.ensures c.convert_sheet.ensures

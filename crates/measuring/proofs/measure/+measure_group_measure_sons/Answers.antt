@@ -1,87 +1,116 @@
 -- The cycle of calls of `measure_group` and `measure_sons` meets its contracts.
-use Prim.Native.Nat.{ℕ, ◌≤◌}
-use lib.ListN.{get_or}
+use Prim.Native.Nat.{◌≤◌, ◌-◌}
+use lib.ListN.{length, get_or}
+use mathlib.Core.Path.{sym, ap, ◌∙◌}
 use native.Mathlib.Omega.{arith}
-use Rattle.wire.specs.Limits.{no_end}
-use Rattle.spans.specs.Held.{pair_of}
+use Rattle.sizes.specs.Fold as fold
+use Rattle.sizes.specs.Fold.{spans_of}
+use Rattle.sizes.proofs.MeasuredLaws.{spans_measured}
+use Rattle.spans.specs.Held.{pair_of, mode_kind}
+use Rattle.tables.specs.SheetIn.{sheet_in}
 use Rattle.tables.proofs.SheetInLaws.{size_in}
-use Rattle.measuring.proofs.LinksLaws.{next_less}
-use Rattle.measuring.proofs.DoneLaws.{put_alike, done_put, finished, at_last, at_next, all_joined, room_sum, room_son}
+use Rattle.measuring.specs.Pairs.{no_pair}
+use Rattle.measuring.specs.Tables.{may_in}
+use Rattle.measuring.proofs.TablesLaws.{kind_in_law}
+use Rattle.measuring.proofs.PairsLaws.{pair_put, pair_read}
+use Rattle.measuring.proofs.DoneLaws.{put_alike, done_put, finished, at_last, at_next, next_less, all_joined, room_span, room_later}
 use Rattle.measuring.proofs.measure.+measure_group_measure_sons.Goals as goal
 
-pub measure_group-measure_sons-below-requires : goal.measure_group-measure_sons-below-requires
-measure_group-measure_sons-below-requires t c = (omega arith, (c.requires.readable, (c.requires.lent, c.requires.group)))
-
-pub measure_group-put_pair-requires : goal.measure_group-put_pair-requires
-measure_group-put_pair-requires t c =
-    omega (arith, size_in c.args.groups.now c.args.size, c.requires.lent.spans_long)
+pub measure_group-bounds-measured-index : goal.measure_group-bounds-measured-index
+measure_group-bounds-measured-index t c =
+    let g = c.args.reading.now.groups.now in
+    omega (arith, size_in g.table g.size, g.tabled.small)
 
 pub measure_group-returns : goal.measure_group-returns
 measure_group-returns t c =
+    let r = c.args.reading.now in
+    let g = r.groups.now in
     let d = c.measure_sons-below.ensures in
-    let z = finished c.requires.readable c.requires.group
-    (pair_of c.measure_sons-below.result) d.alike_both (pair_of c.finish.result) c.finish.ensures in
-    let p = put_alike z c.put_pair.ensures in
-    record { done = done_put d.done p; spanned = p.put }
+    let n : c.args.g.0 ≤ length c.measure_sons-below.new.measured.spans = omega (arith, size_in g.table g.size, g.tabled.small) in
+    let z = finished (spans_measured (sheet_in g.table g.size) (may_in r.flags.now) g.tabled.tree) c.requires
+    (pair_of c.measure_sons-below.result) (pair_of c.own_of.result) (pair_of c.meet.result) d.joined c.own_of.ensures c.meet.ensures in
+    let p = put_alike z (pair_put c.measure_sons-below.new.measured.spans c.args.g.0 c.meet.result c.requires.first n) in
+    rw c.index.ensures (record { done = done_put d.done p; spanned = p.put })
 
-pub measure_sons-link_at-i-requires : goal.measure_sons-link_at-i-requires
-measure_sons-link_at-i-requires t c =
-    omega (arith, size_in c.args.groups.now c.args.size, c.requires.group.last, c.requires.readable.long.last_long)
+pub measure_sons-get-requires : goal.measure_sons-get-requires
+measure_sons-get-requires t c = let g = c.args.reading.now.groups.now in omega (arith, size_in g.table g.size)
 
-pub measure_sons-loop-i-init : goal.measure_sons-loop-i-init
-measure_sons-loop-i-init t c =
-    at_last c.requires.readable c.requires.group _ _ _ _ c.link_at-i.ensures c.start_of-sum.ensures
+pub measure_sons-last-next-requires : goal.measure_sons-last-next-requires
+measure_sons-last-next-requires t c =
+    let g = c.args.reading.now.groups.now in
+    omega (arith, size_in g.table g.size, g.tabled.small)
+
+pub measure_sons-loop-next-init : goal.measure_sons-loop-next-init
+measure_sons-loop-next-init t c =
+    let r = c.args.reading.now in
+    rw c.last-next.ensures
+    (at_last r.chained c.requires _ _ _ (λ b. c.start-sum.ensures b ∙ ap (λ h. fold.start h b) c.is_shut.ensures))
 
 pub measure_sons-measure_group-requires : goal.measure_sons-measure_group-requires
 measure_sons-measure_group-requires t c =
-    let k = c.loop-i.invariant.chain (omega arith) in
-    let r = c.requires.readable in (
-      omega (arith, size_in c.args.groups.now c.args.size, r.long.tabled.tree.before _ k.group),
-      (r, (record { spans_long = omega arith; after_long = omega arith }, k.group)),
+    let g = c.args.reading.now.groups.now in
+    let k = c.loop-next.invariant.son c.in-Some.is in
+    (omega (arith, size_in g.table g.size, g.tabled.tree.before _ k.group, k.under), k.group)
+
+pub measure_sons-index-requires : goal.measure_sons-index-requires
+measure_sons-index-requires t c = (c.loop-next.invariant.son c.in-Some.is).group.first
+
+pub measure_sons-bounds-measured-index : goal.measure_sons-bounds-measured-index
+measure_sons-bounds-measured-index t c =
+    let g = c.args.reading.now.groups.now in
+    let k = c.loop-next.invariant.son c.in-Some.is in
+    omega (arith, size_in g.table g.size, g.tabled.small, k.group.last)
+
+pub measure_sons-index-requires-in-Some : goal.measure_sons-index-requires-in-Some
+measure_sons-index-requires-in-Some t c = (c.loop-next.invariant.son c.in-Some.is).group.first
+
+pub measure_sons-bounds-measured-index-in-Some : goal.measure_sons-bounds-measured-index-in-Some
+measure_sons-bounds-measured-index-in-Some t c =
+    let g = c.args.reading.now.groups.now in
+    let k = c.loop-next.invariant.son c.in-Some.is in
+    omega (arith, size_in g.table g.size, g.tabled.small, k.group.last)
+
+pub measure_sons-join-sum-requires : goal.measure_sons-join-sum-requires
+measure_sons-join-sum-requires t c =
+    let r = c.args.reading.now in
+    let g = r.groups.now in
+    let s = sheet_in g.table g.size in
+    let i = c.loop-next.invariant in
+    let k = i.son c.in-Some.is in
+    let m = spans_measured s (may_in r.flags.now) g.tabled.tree in (
+      λ b. rw (i.joins b) (room_later g.tabled m c.args.g.0 _ b (omega arith)),
+      λ b. rw (c.index-in-Some.ensures, pair_read, c.measure_group.ensures.spanned b) (room_span g.tabled m _ k.group b),
     )
 
-pub measure_sons-put_pair-requires : goal.measure_sons-put_pair-requires
-measure_sons-put_pair-requires t c =
-    let k = c.loop-i.invariant.chain (omega arith) in
-    omega (arith, size_in c.args.groups.now c.args.size)
+pub measure_sons-before-next-requires : goal.measure_sons-before-next-requires
+measure_sons-before-next-requires t c =
+    let g = c.args.reading.now.groups.now in
+    let k = c.loop-next.invariant.son c.in-Some.is in
+    omega (arith, size_in g.table g.size, g.tabled.small, k.group.first, k.group.last)
 
-pub measure_sons-pair_at-requires : goal.measure_sons-pair_at-requires
-measure_sons-pair_at-requires t c =
-    let k = c.loop-i.invariant.chain (omega arith) in
-    omega (arith, size_in c.args.groups.now c.args.size)
+pub measure_sons-loop-next-smaller : goal.measure_sons-loop-next-smaller
+measure_sons-loop-next-smaller t c =
+    let r = c.args.reading.now in
+    rw c.before-next.ensures (next_less r.chained c.requires c.loop-next.invariant c.in-Some.is)
 
-pub measure_sons-join_son-sum-requires-clause-room_both : goal.measure_sons-join_son-sum-requires-clause-room_both
-measure_sons-join_son-sum-requires-clause-room_both t c =
-    let k = c.loop-i.invariant.chain (omega arith) in
-    let r = c.requires.readable in
-    let b : (j : ℕ) → get_or c.args.groups.now j 0 ≤ no_end = λ j. let h = c.type_inv.groups j in omega arith in (
-      room_sum r c.requires.group b c.loop-i.invariant,
-      room_son r c.requires.group b _ k.group c.pair_at.ensures c.measure_group.ensures.spanned,
-    )
-
-pub measure_sons-link_at-i-requires-in-loop-i : goal.measure_sons-link_at-i-requires-in-loop-i
-measure_sons-link_at-i-requires-in-loop-i t c =
-    let k = c.loop-i.invariant.chain (omega arith) in
-    omega (arith, size_in c.args.groups.now c.args.size)
-
-pub measure_sons-loop-i-smaller : goal.measure_sons-loop-i-smaller
-measure_sons-loop-i-smaller t c =
-    let r = c.requires.readable in
-    omega (
-      arith,
-      c.link_at-i-in-loop-i.ensures,
-      next_less _ _ _ _ r.links _ c.requires.group _ c.loop-i.invariant.chain (omega arith),
-    )
-
-pub measure_sons-loop-i-preserved : goal.measure_sons-loop-i-preserved
-measure_sons-loop-i-preserved t c =
+pub measure_sons-loop-next-preserved : goal.measure_sons-loop-next-preserved
+measure_sons-loop-next-preserved t c =
+    let r = c.args.reading.now in
+    let g = r.groups.now in
     let m = c.measure_group.ensures in
-    at_next c.requires.readable c.requires.group
-    (pair_of c.join_son-sum.result) (pair_of c.pair_at.result)
-    c.loop-i.invariant (omega arith) m.done m.spanned
-    c.put_pair.ensures c.pair_at.ensures c.join_son-sum.ensures c.link_at-i-in-loop-i.ensures
+    let e = c.in-Some.is in
+    let k = c.loop-next.invariant.son e in
+    let n : c.in-Some.son.0 ≤ length c.measure_group.new.measured.after = omega (arith, size_in g.table g.size, g.tabled.small, k.group.last) in
+    let kind = c.of-kind.ensures ∙ ap (λ x. mode_kind x.mode.0) c.get.ensures ∙ sym (kind_in_law g.table g.size c.args.g.0 c.requires) in
+    rw (c.before-next.ensures, c.index.ensures)
+    (at_next r.chained c.requires (pair_of c.join-sum.result) (pair_of (get_or c.measure_group.new.measured.spans (c.in-Some.son.0 - 1) no_pair))
+    c.loop-next.invariant e m.done m.spanned
+    (pair_put c.measure_group.new.measured.after c.in-Some.son.0 c.loop-next.sum k.group.first n)
+    (λ b. ap (λ f. f b) (pair_read c.measure_group.new.measured.spans c.in-Some.son.0))
+    (λ b. rw (← kind, ← c.index-in-Some.ensures) (c.join-sum.ensures b)))
 
 pub measure_sons-returns : goal.measure_sons-returns
 measure_sons-returns t c =
-    let d = all_joined c.requires.readable c.requires.group c.loop-i.invariant c.loop-i-test.false in
-    record { done = d.0; alike_both = d.1 }
+    let r = c.args.reading.now in
+    let d = all_joined r.chained c.requires c.loop-next.invariant c.in_default.is in
+    record { done = d.0; joined = d.1 }

@@ -3,4 +3,4 @@ use Rattle.questions.proofs.CountsLaws.{place_sized}
 use Rattle.questions.proofs.count.any_sets.Goals as goal
 
 pub returns : goal.returns
-returns c = place_sized c.requires.grown.tree c.ask_place.ensures
+returns c = place_sized c.args.groups.now.tabled.tree c.ask_place.ensures

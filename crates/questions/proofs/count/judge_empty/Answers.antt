@@ -1,10 +1,10 @@
 -- `judge_empty` meets its contract.
-use native.Mathlib.Omega.{arith}
+use Rattle.std.proofs.Common.{arith}
 use Rattle.questions.proofs.CountsLaws.{empty_kept, empty_count}
 use Rattle.questions.proofs.count.judge_empty.Goals as goal
 
-pub returns-then-lo-eq0 : goal.returns-then-lo-eq0
-returns-then-lo-eq0 c = λ hi. empty_kept _ hi c.if-lo-eq0.true
+pub returns-then-lo-ne0 : goal.returns-then-lo-ne0
+returns-then-lo-ne0 c = λ hi. empty_count c.args.lo hi c.args.groups.now.tabled.tree (omega arith) c.any_sets.ensures
 
-pub returns : goal.returns
-returns c = λ hi. empty_count c.args.lo hi c.requires.grown.tree (omega arith) c.any_sets.ensures
+pub returns-else-lo-ne0 : goal.returns-else-lo-ne0
+returns-else-lo-ne0 c = λ hi. empty_kept c.args.lo hi c.if-lo-ne0.false

@@ -1,14 +1,12 @@
 -- `arrange` meets its contract: sizes, then starts.
-use native.Mathlib.Omega.{arith}
+use Rattle.std.proofs.Common.{arith}
 use Rattle.ranging.proofs.SizedLaws.{table_placeable, table_arranged}
-use borrow.Author.Rules.{rules}
 use Rattle.ranging.proofs.arrange.arrange.Goals as goal
 
 pub start_runs-requires : goal.start_runs-requires
 start_runs-requires c =
     table_placeable c.requires.arrangeable _ c.size_groups.ensures _ _
-    (λ i. omega (arith, c.type_inv.groups i))
-    (search rules) (search rules) (search rules)
+    (omega arith) (omega arith) (omega arith)
 
 pub returns : goal.returns
 returns c =

@@ -1,50 +1,52 @@
--- `size_groups` meets its contract. The loop's invariant: the groups up to i have their sizes.
-use Prim.Native.Nat.{◌+◌, ◌-◌}
-use mathlib.Core.Path.{◌≡◌, refl, sym, ◌∙◌}
-use native.Mathlib.Omega.{arith}
-use lib.ListN.{length-set}
+-- `size_groups` meets its contract.
+use Rattle.std.proofs.Common.{◌≡◌, ◌+◌, ◌-◌, ℕ, sym, refl, ◌∙◌, arith}
+use lib.ListN.{set, length-set}
 use lib.Seq.{get_or-set_same}
+use Rattle.meaning.specs.Arranged.{Arranged}
+use Rattle.tables.specs.Numbers.{number_in}
+use Rattle.tables.specs.SheetIn.{sheet_in}
 use Rattle.tables.proofs.SheetInLaws.{size_in}
-use Rattle.ranging.proofs.SizedLaws.{sized_root, size_step}
-use borrow.Author.Rules.{rules}
+use Rattle.measuring.specs.Pairs.{least_in, greatest_in}
+use Rattle.ranging.proofs.SizedLaws.{SizedTo, sized_root, size_step, sizing}
+use Rattle.ranging.proofs.arrange.size_groups.Goals.{After-saturating_sub}
 use Rattle.ranging.proofs.arrange.size_groups.Goals as goal
 
-pub loop-i-init : goal.loop-i-init
-loop-i-init c =
-    let k = c.requires.arrangeable.tabled in
-    let root = c.out_at-root.ensures.least in (
-      search rules,
-      search rules,
-      refl,
-      refl,
-      simp length-set (omega arith),
-      simp length-set (omega arith),
-      λ first f a. sized_root k.tree k.rooted.one
-          (get_or-set_same c.args.sizes.now 0 _ 0 (omega arith) ∙ (root ∙ sym a.root_size))
-          (get_or-set_same c.args.left.now 0 _ 0 (omega arith) ∙ (root ∙ sym a.root_size)),
-    )
+pub loop-n-init : goal.loop-n-init
+loop-n-init c = (
+  omega arith,
+  λ first f a.
+      let t = c.args.groups.now.tabled in
+      sized_root t.tree t.rooted.one (get_or-set_same c.args.sizes.now 0 _ 0 (omega arith) ∙ sym a.root_size)
+      (get_or-set_same c.args.left.now 0 _ 0 (omega arith) ∙ sym a.root_size),
+)
 
-pub loop-i-preserved : goal.loop-i-preserved
-loop-i-preserved c =
-    let l = c.loop-i in
-    let e : l.i + 1 - 1 ≡ l.i = omega arith in (
-      omega arith,
-      search rules,
-      c.put_size.auto.sizes ∙ l.invariant.2,
-      c.put_size.auto.left ∙ l.invariant.3,
-      search rules,
-      search rules,
-      λ first f a. size_step c.requires.arrangeable _ _ _ c.parent_group-p.ensures.0 _ refl c.size_of-n.ensures
-          c.put_size.ensures first f a (rw e (l.invariant.6 first f a)),
-    )
+-- one turn
+sized : (c : After-saturating_sub) → (first f : ℕ → ℕ)
+    → Arranged (sheet_in c.args.groups.now.table c.args.groups.now.size) (least_in c.args.measured.now.spans) (greatest_in c.args.measured.now.spans) first f
+    → SizedTo (sheet_in c.args.groups.now.table c.args.groups.now.size) f (number_in (set c.loop-n.sizes c.index-i.result c.size_under-count.result))
+    (number_in (set (set c.loop-n.left c.index-i.result c.size_under-count.result) c.index-j.result c.saturating_sub.result)) c.loop-n.n
+sized c first f a =
+    let i = c.index-i.ensures in
+    let j = c.index-j.ensures in
+    let k = c.parent-parent.ensures in
+    rw (i, j)
+    (size_step c.requires.arrangeable c.loop-n.n _ _ k.0 _ refl
+    (rw (c.get.ensures, c.saturating_sub-rest.ensures, i, j) at c.size_under-count.ensures)
+    (sizing c.loop-n.sizes c.loop-n.left _ c.loop-n.n _ _ k.1 k.2 (omega (arith, length-set {A = ℕ})) (omega (arith, length-set {A = ℕ}))
+    (rw (i, j) at c.saturating_sub.ensures))
+    first f a (c.loop-n.invariant.1 first f a))
 
-pub shape_of-sizes : goal.shape_of-sizes
-shape_of-sizes c = c.loop-i.invariant.2 ∙ simp length-set
-
-pub shape_of-left : goal.shape_of-left
-shape_of-left c = c.loop-i.invariant.3 ∙ simp length-set
+pub loop-n-preserved : goal.loop-n-preserved
+loop-n-preserved c =
+    let e : c.loop-n.n + 1 - 1 ≡ c.loop-n.n = omega arith in
+    (omega arith, λ first f a. rw e (sized (goal.at.loop-n-preserved c).After-saturating_sub first f a))
 
 pub returns : goal.returns
 returns c =
-    let l = c.loop-i in
-    λ first f a g q. (l.invariant.6 first f a).found g q (omega (arith, q.last, size_in c.args.groups.now c.args.size))
+    let long = size_in c.args.groups.now.table c.args.groups.now.size in
+    λ first f a g q. (c.loop-n.invariant.1 first f a).found g q (omega (arith, q.last))
+
+pub returns-2 : goal.returns-2
+returns-2 c =
+    let long = size_in c.args.groups.now.table c.args.groups.now.size in
+    λ first f a g q. (sized (goal.at.returns-2 c).After-saturating_sub first f a).found g q (omega (arith, q.last))

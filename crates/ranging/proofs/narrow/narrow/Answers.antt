@@ -1,60 +1,60 @@
--- `narrow` meets its contract. The loop's invariant: the groups up to i have their ranges.
-use Prim.Native.Nat.{◌+◌, ◌-◌}
-use mathlib.Core.Path.{◌≡◌, ap, ◌∙◌}
-use native.Mathlib.Omega.{arith}
+-- `narrow` meets its contract.
+use Rattle.std.proofs.Common.{◌≡◌, ◌+◌, ◌-◌, ℕ, Bool, ap, ◌∙◌, arith}
+use lib.ListN.{set, length-set}
+use lib.Seq.{get_or-set_same}
+use Rattle.sizes.specs.Span.{Span}
 use Rattle.tables.specs.SheetIn.{sheet_in}
 use Rattle.tables.proofs.SheetInLaws.{size_in}
-use Rattle.spans.specs.Held.{mode_kind}
-use Rattle.measuring.proofs.PairsLaws.{out_held}
-use borrow.Author.Rules.{rules}
-use Rattle.ranging.proofs.NarrowedLaws.{narrowed_root, narrow_step, narrowed_all}
+use Rattle.spans.specs.declared.span.Span.{Span as SpanCode}
+use Rattle.spans.specs.Held.{span_held, mode_kind}
+use Rattle.measuring.specs.Pairs.{pair_in}
+use Rattle.measuring.specs.Fitting.{Measures}
+use Rattle.ranging.specs.Table.{span_in, no_span}
+use Rattle.ranging.proofs.NarrowedLaws.{Narrowed, narrowed_root, narrow_step, narrowed_all}
+use Rattle.ranging.proofs.narrow.narrow.Goals.{After-meet}
 use Rattle.ranging.proofs.narrow.narrow.Goals as goal
 
-pub loop-i-init : goal.loop-i-init
-loop-i-init c = (
-  search rules,
-  search rules,
-  search rules,
-  search rules,
-  search rules,
-  search rules,
-  λ z m. let root = out_held _ _ _ _ c.out_at-root.ensures ∙ m.spanned 1 c.requires.tabled.0.rooted.one in
-      narrowed_root c.requires.tabled.0.tree c.requires.tabled.0.rooted (c.put_span.ensures.put ∙ root)
-      (c.put_span-2.ensures.put ∙ root),
+pub loop-n-init : goal.loop-n-init
+unfolding span_in pair_in
+loop-n-init c = (
+  omega arith,
+  λ z m.
+      let t = c.args.groups.now.tabled in
+      let root = m.spanned 1 t.rooted.one in
+      narrowed_root t.tree t.rooted
+      (ap span_held (get_or-set_same c.args.ranges.now 0 _ no_span (omega arith)) ∙ root)
+      (ap span_held (get_or-set_same c.args.rest.now 0 _ no_span (omega arith)) ∙ root),
 )
 
-pub out_at-others-requires : goal.out_at-others-requires
-out_at-others-requires c = omega (arith, c.requires.tabled.1, c.loop-i-test.true)
+-- one turn
+turned : (c : After-meet) → (z : ℕ → Bool → Span)
+    → Measures (sheet_in c.args.groups.now.table c.args.groups.now.size) z c.args.measured.now.spans c.args.measured.now.after
+    → Narrowed (sheet_in c.args.groups.now.table c.args.groups.now.size) z (span_in (set c.loop-n.ranges c.index-i.result c.meet-range.result))
+    (span_in (set (set c.loop-n.rest c.index-i.result c.meet-range.result) c.index-j.result c.meet.result)) c.loop-n.n
+unfolding span_in pair_in
+turned c z m =
+    let i = c.index-i.ensures in
+    let j = c.index-j.ensures in
+    rw (i, j)
+    (narrow_step c.loop-n.ranges c.loop-n.rest c.meet-range.result c.meet.result c.args.groups.now.tabled c.loop-n.n _
+    c.parent-parent.ensures.0 (c.of-kind.ensures ∙ ap (λ g. mode_kind g.mode.0) c.get.ensures)
+    (rw (i, j) at c.pull.ensures) (rw i at c.meet-range.ensures)
+    (rw (i, j) at c.pull-in-loop-n.ensures) (rw i at c.meet.ensures)
+    (omega (arith, length-set {A = SpanCode})) (omega (arith, length-set {A = SpanCode})) z m (c.loop-n.invariant.1 z m))
 
-pub put_turn-requires : goal.put_turn-requires
-put_turn-requires c =
-    let l = c.loop-i in
-    let t = c.loop-i-test.true in
-    (c.parent_group-p.ensures.1, c.parent_group-p.ensures.2, omega (arith, l.invariant, t), omega (arith, l.invariant, t))
-
-pub loop-i-smaller : goal.loop-i-smaller
-loop-i-smaller c = omega (arith, c.loop-i-test.true)
-
-pub loop-i-preserved : goal.loop-i-preserved
-loop-i-preserved c =
-    let l = c.loop-i in
-    let e : l.i + 1 - 1 ≡ l.i = omega arith in (
-      omega arith,
-      omega (arith, c.loop-i-test.true),
-      c.put_turn.auto.ranges ∙ l.invariant.2,
-      c.put_turn.auto.rest ∙ l.invariant.3,
-      omega (arith, c.put_turn.auto.ranges, l.invariant.4),
-      omega (arith, c.put_turn.auto.rest, l.invariant.5),
-      λ z m. narrow_step c.requires.tabled.0 _ _ c.parent_group-p.ensures.0
-          (c.kind_of-kind.ensures ∙ ap mode_kind c.mode_of.ensures)
-          (out_held _ _ _ _ c.out_at-own.ensures) (out_held _ _ _ _ c.out_at-others.ensures)
-          c.span_at-whole.ensures c.pull.ensures c.meet-range.ensures
-          c.pull-in-loop-i.ensures c.meet-left.ensures c.put_turn.ensures z m (rw e (l.invariant.6 z m)),
-    )
+pub loop-n-preserved : goal.loop-n-preserved
+loop-n-preserved c =
+    let e : c.loop-n.n + 1 - 1 ≡ c.loop-n.n = omega arith in
+    (omega arith, λ z m. rw e (turned (goal.at.loop-n-preserved c).After-meet z m))
 
 pub returns : goal.returns
 returns c =
-    let l = c.loop-i in
-    let e : l.i ≡ (sheet_in c.args.groups.now c.args.size).size =
-    omega (arith, size_in c.args.groups.now c.args.size) in
-    λ z m. narrowed_all c.requires.tabled.0.tree c.requires.tabled.0.rooted (rw e at (l.invariant.6 z m))
+    let t = c.args.groups.now in
+    let e : c.loop-n.n - 1 ≡ (sheet_in t.table t.size).size = omega (arith, size_in t.table t.size) in
+    λ z m. narrowed_all t.tabled.tree t.tabled.rooted (rw e at (c.loop-n.invariant.1 z m))
+
+pub returns-2 : goal.returns-2
+returns-2 c =
+    let t = c.args.groups.now in
+    let e : c.loop-n.n ≡ (sheet_in t.table t.size).size = omega (arith, size_in t.table t.size) in
+    λ z m. narrowed_all t.tabled.tree t.tabled.rooted (rw e at (turned (goal.at.returns-2 c).After-meet z m))

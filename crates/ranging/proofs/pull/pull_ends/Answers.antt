@@ -1,13 +1,13 @@
--- `pull_ends` meets its contract: none where b has more than t, else the two ends.
-use native.Mathlib.Omega.{arith}
-use mathlib.Core.Path.{sym, ◌∙◌}
+-- `pull_ends` meets its contract: none where the others have more than the total, else the two ends.
+use Rattle.std.proofs.Common.{sym, ◌∙◌, arith}
+use Rattle.spans.proofs.HeldLaws.{none_of}
 use Rattle.ranging.proofs.PullLaws.{by_none, by_some}
 use Rattle.ranging.proofs.pull.pull_ends.Goals as goal
 
-pub returns-then-t-b : goal.returns-then-t-b
-returns-then-t-b c = c.nothing.ensures ∙ sym (by_none _ _ _ _ _ (omega arith) c.if-t-b.true)
+pub returns-then-total-others : goal.returns-then-total-others
+returns-then-total-others c = none_of {l = 1} {m = 0} (omega arith) ∙ sym (by_none _ _ _ _ _ (omega arith) c.if-total-others.true)
 
 pub returns : goal.returns
 returns c =
-    rw c.minus.ensures
-    (by_some _ _ _ _ _ _ (omega arith) (omega arith) c.if-t-b.false c.shorter.ensures)
+    rw c.saturating_sub.ensures
+    (by_some _ _ _ _ _ _ (omega arith) (omega arith) c.if-total-others.false c.shorter.ensures)

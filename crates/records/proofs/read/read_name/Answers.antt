@@ -1,106 +1,76 @@
--- `read_name` meets its contract: the tests in the code's order are those of the format, and no label was used before.
-use Prim.Native.Nat.{◌+◌, ◌-◌, ◌≤◌, ◌<◌}
-use mathlib.Core.Path.{sym, ap, ◌∙◌}
-use native.Mathlib.Omega.{arith}
+-- The tests in the code's order are those of the format, and no label was used before.
+use Rattle.std.proofs.Common.{◌≡◌, ◌+◌, ◌-◌, ◌≤◌, ◌<◌, ◌&&◌, false, cond, [], drop, sym, ap, ◌∙◌, arith}
+use lib.Dec.{leb}
+use Rattle.wire.specs.Bytes.{u16_at}
+use Rattle.std.proofs.lemmas.Result.{err_from_is_err_and}
 use borrow.Author.Tests.{le-leb, lt-leb}
-use Rattle.wire.specs.Record.{refusal}
+use Rattle.wire.specs.Record.{refusal, kind_of}
 use Rattle.wire.specs.Edition.{edition_of, label_limit}
-use Rattle.wire.specs.SheetFormat.{name_tests, used}
-use Rattle.records.proofs.Fields.{Led, frame_led, frame_refused, one_kind, led_kind}
+use Rattle.wire.specs.SheetFormat.{name_tests, name_of, label_bytes, used}
 use Rattle.wire.proofs.Fields.{read_at}
 use Rattle.claim_records.proofs.BodyLaws.{whole_length}
-use Rattle.records.proofs.Carried.{answer_refused, answer_record, name_made}
-use Rattle.labels.proofs.Strings.{label_at}
-use Rattle.records.proofs.read.read_name.Goals.{Else-label_limit-len}
-use Rattle.records.proofs.read.read_name.Goals.{Else-len-lt2}
-use Rattle.records.proofs.read.read_name.Goals.{Then-label_limit-len}
+use Rattle.records.proofs.Fields.{frame_led, frame_refused, one_kind, led_kind}
+use Rattle.records.proofs.Carried.{name_made}
+use Rattle.records.proofs.NameAnswers.{name_refused, name_answered}
+use Rattle.records.proofs.read.read_name.Goals.{After-label_allowed}
+use Rattle.records.proofs.read.read_name.Goals.{then-len-lt5-via-then-len-lt5, then-len-lt5-via-else-len-lt5+then-label_limit-len}
 use Rattle.records.proofs.read.read_name.Goals as goal
 
--- frame and kind, where they are the record's
-led : (c : Else-len-lt2) → let a = c.args in Led a.s.now a.at 3 3 c.frame-len.result
-led c = frame_led c.requires c.frame-len.ensures c.if-len-lt2.false
+pub returns-in_err-len : goal.returns-in_err-len
+unfolding name_tests
+returns-in_err-len c =
+    let p = err_from_is_err_and c.from_residual.result c.from_residual.ensures.1 in
+    rw (p.1, p.2) (name_refused (rw (one_kind 3 (kind_of (drop c.args.at c.args.s.now))) (frame_refused c.in_err-len.ensures _)))
 
--- the length against the most bytes of a label
-short : (c : Else-label_limit-len) → let a = c.args in
-    c.frame-len.result ≤ label_limit (edition_of a.edition) + 4
-short c = omega arith
-
-long : (c : Then-label_limit-len) → let a = c.args in
-    label_limit (edition_of a.edition) + 4 < c.frame-len.result
-long c = omega arith
-
-pub returns-then-len-lt2 : goal.returns-then-len-lt2
-unfolding refusal name_tests
-returns-then-len-lt2 c =
-    answer_refused (λ z. omega arith) (frame_refused c.requires c.frame-len.ensures c.if-len-lt2.true
-    (λ e z. simp (e, z)) (λ e k z. simp (e, one_kind 3, k, z)))
+pub label_of-requires : goal.label_of-requires
+label_of-requires c =
+    let w = (frame_led c.in_ok-len.ensures).whole in record { least = omega arith; room = omega arith }
 
 pub returns-then-len-lt5 : goal.returns-then-len-lt5
 unfolding refusal name_tests
 returns-then-len-lt5 c =
-    let l = led (goal.at.returns-then-len-lt5 c).Else-len-lt2 in answer_refused (λ z. omega arith)
-    (simp (l.frame, led_kind l, whole_length _ _ _ l.whole, lt-leb _ _ c.if-len-lt5.true))
+    let w = frame_led c.in_ok-len.ensures in
+    let len = c.in_ok-len.len in
+    let f : (leb 5 len && leb len (label_limit (edition_of c.args.edition) + 4)) ≡ false = elim c.then-len-lt5.branch [
+      | then-len-lt5-via-then-len-lt5 x ↦ simp (lt-leb 5 len x.if-len-lt5.true)
+      | then-len-lt5-via-else-len-lt5+then-label_limit-len x ↦
+          let k : label_limit (edition_of c.args.edition) + 4 < len = omega (arith, x.label_limit.ensures) in
+          simp (le-leb 5 len x.if-len-lt5.false, lt-leb _ _ k)
+    ] in
+    name_refused (simp (w.frame, led_kind w, whole_length _ _ _ w.whole, f))
 
-pub returns-then-label_limit-len : goal.returns-then-label_limit-len
-unfolding refusal name_tests
-returns-then-label_limit-len c =
-    let l = led (goal.at.returns-then-label_limit-len c).Else-len-lt2 in answer_refused (λ z. omega arith) (simp
-    (l.frame, led_kind l, whole_length _ _ _ l.whole, le-leb _ _ c.if-len-lt5.false, lt-leb _ _ (long c)))
+-- the tests before that of the label
+past : (c : After-label_allowed) → let a = c.args in
+    refusal (name_tests (edition_of a.edition) a.groups [] (drop a.at a.s.now))
+    ≡ cond c.label_allowed.result (cond (leb (u16_at (drop a.at a.s.now) 4) a.groups) 0 5) 4
+unfolding refusal name_tests used
+past c =
+    let w = frame_led c.in_ok-len.ensures in
+    let k : c.in_ok-len.len ≤ label_limit (edition_of c.args.edition) + 4 = omega (arith, c.label_limit.ensures) in
+    let e : c.label_allowed.result ≡ label_bytes (name_of (drop c.args.at c.args.s.now)).label = rw c.label_of.ensures at c.label_allowed.ensures in
+    simp (w.frame, led_kind w, whole_length _ _ _ w.whole, le-leb _ _ c.if-len-lt5.false, le-leb _ _ k, sym e)
 
 pub returns-then-not-label_allowed : goal.returns-then-not-label_allowed
-unfolding refusal name_tests
 returns-then-not-label_allowed c =
-    let l = led (goal.at.returns-then-not-label_allowed c).Else-len-lt2 in
-    let a = c.args in
-    answer_refused (λ z. omega arith) (simp (
-      l.frame,
-      led_kind l,
-      whole_length _ _ _ l.whole,
-      le-leb _ _ c.if-len-lt5.false,
-      le-leb _ _ (short (goal.at.returns-then-not-label_allowed c).Else-label_limit-len),
-      label_at a.s.now a.at,
-      l.whole.says,
-      sym c.label_allowed.ensures ∙ c.if-not-label_allowed.true,
-    ))
+    name_refused (simp (past (goal.at.returns-then-not-label_allowed c).After-label_allowed, c.if-not-label_allowed.true))
 
 pub returns-then-groups-group : goal.returns-then-groups-group
-unfolding refusal name_tests
 returns-then-groups-group c =
-    let l = led (goal.at.returns-then-groups-group c).Else-len-lt2 in
     let a = c.args in
-    answer_refused (λ z. omega arith) (simp (
-      l.frame,
-      led_kind l,
-      whole_length _ _ _ l.whole,
-      le-leb _ _ c.if-len-lt5.false,
-      le-leb _ _ (short (goal.at.returns-then-groups-group c).Else-label_limit-len),
-      label_at a.s.now a.at,
-      l.whole.says,
-      sym c.label_allowed.ensures
-          ∙ c.if-not-label_allowed.false,
+    name_refused (simp (
+      past (goal.at.returns-then-groups-group c).After-label_allowed,
+      c.if-not-label_allowed.false,
       read_at a.s.now a.at 4 _ c.u16_at-group.ensures,
       lt-leb _ _ c.if-groups-group.true,
     ))
 
 pub returns : goal.returns
-unfolding refusal name_tests used
 returns c =
-    let l = led (goal.at.returns c).Else-len-lt2 in
+    let w = frame_led c.in_ok-len.ensures in
     let a = c.args in
     let s = a.s.now in
     let group = read_at s a.at 4 _ c.u16_at-group.ensures in
-    answer_record
-    (simp (
-      l.frame,
-      led_kind l,
-      whole_length _ _ _ l.whole,
-      le-leb _ _ c.if-len-lt5.false,
-      le-leb _ _ (short (goal.at.returns c).Else-label_limit-len),
-      label_at s a.at,
-      l.whole.says,
-      sym c.label_allowed.ensures
-          ∙ c.if-not-label_allowed.false,
-      group,
-      le-leb _ _ c.if-groups-group.false,
-    ))
-    (name_made s a.at _ _ (led_kind l) (c.meaning_of.ensures.number ∙ sym group) (ap (λ n. n - 4) (sym l.whole.says)) (omega arith))
+    name_answered
+    (simp (past (goal.at.returns c).After-label_allowed, c.if-not-label_allowed.false, group, le-leb _ _ c.if-groups-group.false))
+    (name_made s a.at _ _ (led_kind w) (c.group_meant.ensures.number ∙ sym group) (ap (λ n. n - 4) (sym w.whole.says)) (omega (arith, w.whole.room)))
+    c.group_meant.ensures.numbered

@@ -1,28 +1,28 @@
--- `registers::check::breaking` meets its contract.
+-- Each rule's test, word by word.
+use Rattle.std.proofs.Common.{arith, refl}
 use borrow.Author.Tests.{ne_eqb}
 use Rattle.rules.specs.RuleTests.{member_breaks}
 use Rattle.rules.proofs.WordLaws.{first_word, members_in, passing_as, members_lack}
 use Rattle.rules.proofs.tests.breaking.Goals as goal
 
-pub returns-then-rule-eq1 : goal.returns-then-rule-eq1
+pub returns-in-1 : goal.returns-in-1
 unfolding member_breaks
-returns-then-rule-eq1 c = rw c.if-rule-eq1.true (members_lack _ _ _ _ _ c.column_word.ensures c.column_word-then-rule-eq1.ensures c.beyond.ensures)
+returns-in-1 c = rw c.in-1.is (members_lack _ _ _ _ _ c.word.ensures c.word-in-1.ensures (omega arith) refl)
 
-pub returns-then-rule-eq2 : goal.returns-then-rule-eq2
+pub returns-in-2 : goal.returns-in-2
 unfolding member_breaks
-returns-then-rule-eq2 c = rw c.if-rule-eq2.true (members_lack _ _ _ _ _ c.column_word-then-rule-eq2.ensures c.column_word-then-rule-eq2-2.ensures c.beyond-then-rule-eq2.ensures)
+returns-in-2 c = rw c.in-2.is (members_lack _ _ _ _ _ c.word-in-2.ensures c.word-in-2-2.ensures (omega arith) refl)
 
-pub returns-then-rule-eq3 : goal.returns-then-rule-eq3
+pub returns-in-3 : goal.returns-in-3
 unfolding member_breaks
-returns-then-rule-eq3 c =
+returns-in-3 c =
     let q = c.args in
-    rw c.if-rule-eq3.true
-    (members_lack _ _ _ _ _ c.column_word-then-rule-eq3.ensures (first_word q.some.now q.w) c.beyond-then-rule-eq3.ensures)
+    rw c.in-3.is (members_lack _ _ _ _ _ c.word-in-3.ensures (first_word q.joined.now.some q.w) (omega arith) refl)
 
-pub returns : goal.returns
+pub returns-in_default : goal.returns-in_default
 unfolding member_breaks
-returns c =
+returns-in_default c =
     let q = c.args in
     passing_as
-    (λ i. rw (ne_eqb _ _ c.if-rule-eq1.false, ne_eqb _ _ c.if-rule-eq2.false, ne_eqb _ _ c.if-rule-eq3.false))
-    (members_in q.two.now 0 q.w (first_word q.two.now q.w))
+    (λ i. rw (ne_eqb q.rule 1 (λ e. omega arith), ne_eqb q.rule 2 (λ e. omega arith), ne_eqb q.rule 3 (λ e. omega arith)))
+    (members_in q.joined.now.two 0 q.w (first_word q.joined.now.two q.w))

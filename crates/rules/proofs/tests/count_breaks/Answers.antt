@@ -1,23 +1,29 @@
--- `registers::check::count_breaks` meets its contract.
-use mathlib.Core.Path.{sym, ◌∙◌}
+-- A count below `lo`, and one above an upper end.
+use Rattle.std.proofs.Common.{arith, ◌∙◌, ap}
+use Rattle.std.proofs.lemmas.List.{get_or_read}
+use lib.ListN.{get_or}
 use borrow.Author.Tests.{ne_eqb}
+use Rattle.tables.specs.Entry.{no_group}
 use Rattle.rules.specs.RuleTests.{count_breaks}
 use Rattle.rules.proofs.tests.count_breaks.Goals as goal
 
-pub returns-then-rule-eq5 : goal.returns-then-rule-eq5
+pub returns-in-5 : goal.returns-in-5
 unfolding count_breaks
-returns-then-rule-eq5 c = rw (c.if-rule-eq5.true, c.count_of-n.ensures, c.lo_of.ensures)
+returns-in-5 c =
+    let t = c.args.groups.now in
+    let e = get_or_read t c.index.result _ (omega (arith, c.index.ensures)) c.index-groups-index.is no_group ∙ ap (λ i. get_or t i no_group) c.index.ensures in
+    rw (c.in-5.is, e)
 
-pub returns-then-hi : goal.returns-then-hi
+pub returns-then-group : goal.returns-then-group
 unfolding count_breaks
-returns-then-hi c = rw (ne_eqb _ _ c.if-rule-eq5.false, sym c.hi_of-hi.ensures ∙ c.if-hi.true)
+returns-then-group c =
+    let t = c.args.groups.now in
+    let e = get_or_read t c.index.result _ (omega (arith, c.index.ensures)) c.index-groups-index.is no_group ∙ ap (λ i. get_or t i no_group) c.index.ensures in
+    rw (ne_eqb c.args.rule 5 (λ e. omega arith), ← e, ne_eqb _ _ c.if-group.true)
 
-pub returns : goal.returns
+pub returns-else-group : goal.returns-else-group
 unfolding count_breaks
-returns c =
-    rw (
-      ne_eqb _ _ c.if-rule-eq5.false,
-      ← c.hi_of-hi.ensures,
-      ne_eqb _ _ c.if-hi.false,
-      c.count_of-n.ensures,
-    )
+returns-else-group c =
+    let t = c.args.groups.now in
+    let e = get_or_read t c.index.result _ (omega (arith, c.index.ensures)) c.index-groups-index.is no_group ∙ ap (λ i. get_or t i no_group) c.index.ensures in
+    rw (ne_eqb c.args.rule 5 (λ e. omega arith), ← e, c.if-group.false)

@@ -1,57 +1,61 @@
--- `rules::tests::may_break` meets its contract.
-use Prim.Native.Nat.{◌<◌}
-use mathlib.Core.Path.{sym, ◌∙◌}
-use native.Mathlib.Omega.{arith}
-use borrow.Author.Tests.{lt-ltb, ne_eqb}
-use Rattle.tables.specs.Groups.{parent_in}
+-- Each rule's test.
+use Rattle.std.proofs.Common.{arith, ◌∙◌, ap, sym}
+use Rattle.std.proofs.lemmas.List.{get_or_read}
+use lib.ListN.{get_or}
+use borrow.Author.Tests.{lt-ltb, le-ltb, ne_eqb}
+use Rattle.tables.specs.Entry.{no_group}
 use Rattle.rules.specs.RuleTests.{may_break}
 use Rattle.rules.proofs.tests.may_break.Goals as goal
 
-pub returns-then-rule-eq1 : goal.returns-then-rule-eq1
+pub returns-in-1 : goal.returns-in-1
 unfolding may_break
-returns-then-rule-eq1 c = rw (c.if-rule-eq1.true, c.requires.1.1.1.1)
+returns-in-1 c = rw (c.in-1.is, c.requires.4)
 
-pub returns-then-p-eq0 : goal.returns-then-p-eq0
+pub returns-then-p-gt0 : goal.returns-then-p-gt0
 unfolding may_break
-returns-then-p-eq0 c = rw (c.if-rule-eq2.true, sym c.requires.1.1.1.1 ∙ c.if-p-eq0.true)
+returns-then-p-gt0 c =
+    let t = c.args.groups.now in
+    let e = sym c.index-groups-index.is ∙ get_or_read t c.index.result _ (omega (arith, c.index.ensures)) c.index-groups-index.is no_group ∙ ap (λ i. get_or t i no_group) c.index.ensures in
+    rw (c.in-2.is, ← c.requires.4, lt-ltb 0 c.args.p.0 c.if-p-gt0.true, c.is_same.ensures, e)
 
-pub returns-then-rule-eq2 : goal.returns-then-rule-eq2
+pub returns-else-p-gt0 : goal.returns-else-p-gt0
 unfolding may_break
-returns-then-rule-eq2 c =
-    let l : 0 < parent_in c.args.groups.now c.args.g.0 = omega arith in
-    rw (
-      c.if-rule-eq2.true,
-      c.is_same.ensures,
-      c.mode_of.ensures,
-      c.requires.1.1.1.1,
-      lt-ltb 0 (parent_in c.args.groups.now c.args.g.0) l,
-    )
+returns-else-p-gt0 c = rw (c.in-2.is, ← c.requires.4, le-ltb 0 c.args.p.0 c.if-p-gt0.false)
 
-pub returns-then-rule-eq3 : goal.returns-then-rule-eq3
+pub returns-in-3 : goal.returns-in-3
 unfolding may_break
-returns-then-rule-eq3 c = rw (c.if-rule-eq3.true, c.is_cover.ensures, c.mode_of-then-rule-eq3.ensures)
+returns-in-3 c =
+    let t = c.args.groups.now in
+    let e = sym c.index-groups-index-in-3.is ∙ get_or_read t c.index-in-3.result _ (omega (arith, c.index-in-3.ensures)) c.index-groups-index-in-3.is no_group ∙ ap (λ i. get_or t i no_group) c.index-in-3.ensures in
+    rw (c.in-3.is, c.is_cover.ensures, e)
 
 pub returns-then-is_disjoint : goal.returns-then-is_disjoint
 unfolding may_break
 returns-then-is_disjoint c =
+    let q = c.args in
+    let t = c.args.groups.now in
+    let e = sym c.index-groups-index-in_default.is ∙ get_or_read t c.index-in_default.result _ (omega (arith, c.index-in_default.ensures)) c.index-groups-index-in_default.is no_group ∙ ap (λ i. get_or t i no_group) c.index-in_default.ensures in
     rw (
-      ne_eqb _ _ c.if-rule-eq1.false,
-      ne_eqb _ _ c.if-rule-eq2.false,
-      ne_eqb _ _ c.if-rule-eq3.false,
-      ← c.mode_of-2.ensures,
+      ne_eqb q.rule 1 (λ e. omega arith),
+      ne_eqb q.rule 2 (λ e. omega arith),
+      ne_eqb q.rule 3 (λ e. omega arith),
+      c.several.ensures,
+      ← e,
       ← c.is_disjoint.ensures,
       c.if-is_disjoint.true,
-      c.several_sons.ensures,
     )
 
-pub returns : goal.returns
+pub returns-else-is_disjoint : goal.returns-else-is_disjoint
 unfolding may_break
-returns c =
+returns-else-is_disjoint c =
+    let q = c.args in
+    let t = c.args.groups.now in
+    let e = sym c.index-groups-index-in_default.is ∙ get_or_read t c.index-in_default.result _ (omega (arith, c.index-in_default.ensures)) c.index-groups-index-in_default.is no_group ∙ ap (λ i. get_or t i no_group) c.index-in_default.ensures in
     rw (
-      ne_eqb _ _ c.if-rule-eq1.false,
-      ne_eqb _ _ c.if-rule-eq2.false,
-      ne_eqb _ _ c.if-rule-eq3.false,
-      ← c.mode_of-2.ensures,
+      ne_eqb q.rule 1 (λ e. omega arith),
+      ne_eqb q.rule 2 (λ e. omega arith),
+      ne_eqb q.rule 3 (λ e. omega arith),
+      ← e,
       ← c.is_disjoint.ensures,
       c.if-is_disjoint.false,
     )

@@ -1,16 +1,17 @@
 -- `own_in` meets its contract.
 use native.Mathlib.Omega.{arith}
 use mathlib.Core.Path.{◌∙◌}
-use Rattle.spans.proofs.HeldLaws.{own_in_endless, own_in_zero, own_in_finite}
+use Rattle.spans.proofs.HeldLaws.{none_of, own_in_endless, own_in_zero, own_in_finite}
 use Rattle.spans.proofs.pair.own_in.Goals as goal
 
-pub returns-then-hi-eq-NO_END : goal.returns-then-hi-eq-NO_END
-returns-then-hi-eq-NO_END c = own_in_endless _ _ _ (omega arith) c.less_one.ensures c.if-hi-eq-NO_END.true
+pub returns-in-0 : goal.returns-in-0
+returns-in-0 c = none_of {l = 1} {m = 0} (omega arith) ∙ own_in_zero c.args.lo _ c.in-0.is
 
-pub returns-then-hi-eq0 : goal.returns-then-hi-eq0
-returns-then-hi-eq0 c = c.nothing.ensures ∙ own_in_zero _ _ c.if-hi-eq0.true
+pub returns-in-65535 : goal.returns-in-65535
+returns-in-65535 c =
+    own_in_endless c.args.lo _ _ (omega arith) (c.from-least.ensures ∙ c.saturating_sub.ensures) c.in-65535.is
 
-pub returns : goal.returns
-returns c =
-    own_in_finite _ _ _ _ (omega arith) (omega arith) c.less_one-2.ensures c.less_one-3.ensures
-    c.if-hi-eq-NO_END.false c.if-hi-eq0.false
+pub returns-in_default : goal.returns-in_default
+returns-in_default c =
+    own_in_finite c.args.lo c.args.hi _ _ (omega arith) (omega arith) (c.from-least.ensures ∙ c.saturating_sub.ensures) (omega arith)
+    (omega arith) (omega arith)

@@ -1,172 +1,88 @@
--- `columns::fill::fill_columns` meets its contract. Invariant: the reader has reached row `row`, and the rows before it are
--- put. Each row stands at its offset, so that the walk ends behind the last one only.
-use borrow.Author.Rules.{rules}
+-- `tiles::fill::fill_columns` meets its contract. Invariant: the reader has read as many rows as are counted, and these are
+-- put. Each row stands at its offset, so that the reader finds it there.
+use Prim.Native.Nat.{◌≤◌}
+use mathlib.Core.Path.{◌≡◌, ◌∙◌}
 use native.Mathlib.Omega.{arith}
-use Prim.Native.Nat.{ℕ, ◌≤◌}
-use mathlib.Core.Path.{◌≡◌, refl, ◌∙◌}
-use lib.ListN.{length-replicate}
+use Rattle.std.specs.Prelude.{Ok, Some}
 use Rattle.wire.specs.Limits.{row_limit}
-use Rattle.wire.specs.Capacity.{group_capacity}
 use Rattle.wire.specs.Edition.{edition_of}
-use Rattle.rows.proofs.RowLaws.{held_within, last_start, Stands, row_stands, not_ended, not_refused}
-use Rattle.tiles.proofs.FillLaws.{zeros}
-use Rattle.tiles.proofs.FillLaws.{members_within, with_row_most, filled_columns, rows_put_none, tiles_within, room_wanted}
-use Rattle.tiles.proofs.FillLaws.{rows_put_more}
-use Rattle.tiles.proofs.fill.fill_columns.Goals.{In-Row}
+use Rattle.wire.specs.MemberKey.{key_member}
+use Rattle.rows.specs.RowsRead.{row_gives, front_at}
+use Rattle.rows.proofs.RowLaws.{held_within, last_start, Stands, row_stands, row_known}
+use Rattle.tiles.proofs.FillLaws.{members_within, with_row_most, filled_columns, rows_put_none, tiles_within, room_wanted, rows_put_more}
+use Rattle.tiles.proofs.fill.fill_columns.Goals.{In-Ok-Some, in_default-via-in-Ok+in_default, in_default-via-in_default}
 use Rattle.tiles.proofs.fill.fill_columns.Goals as goal
 
--- and hands it up
-found : (c : In-Row)
-    → Stands (edition_of c.args.edition)
-    c.args.register.now c.loop-row.row
-    c.in-Row.r
-found c =
-    let l = c.loop-row in
-    row_stands _ c.requires.1.1.0 c.loop-row-test.true l.invariant.1.0 l.invariant.1.1.0 _ (rw c.in-Row.is at c.row_of.ensures)
+-- the reader finds the row at its offset
+found : (c : In-Ok-Some) → row_gives (Ok (Some c.in-Ok-Some.found))
+    ≡ front_at (edition_of c.args.edition) c.args.register.now c.loop.reader.at (key_member c.loop.reader.last)
+found c = let l = c.loop.invariant in rw (c.in-Ok-Some.is, c.in-Ok-Some.field-0-is, l.bytes, l.edition) at c.next.ensures.row
 
-pub loop-row-init : goal.loop-row-init
-loop-row-init c = (
-  search rules,
-  (
-    omega arith,
-    (
-      last_start _ _,
-      (
-        refl,
-        (
-          length-replicate {A = ℕ} _ 0,
-          (
-            length-replicate {A = ℕ} _ 0,
-            (
-              length-replicate {A = ℕ} _ 0,
-              rows_put_none _ _ _ c.group_words-words.ensures.1 _ _ c.requires.1.1.1.1
-                  (record { each = λ w l. zeros group_capacity w }),
-            ),
-          ),
-        ),
-      ),
-    ),
-  ),
-)
+stands : (c : In-Ok-Some) → Stands (edition_of c.args.edition) c.args.register.now c.loop.counter c.in-Ok-Some.found
+stands c =
+    let l = c.loop.invariant in
+    row_stands _ c.requires.1.1.0 c.loop-test.true l.reached l.last _ (found c)
+
+few : (c : In-Ok-Some) → c.loop.members ≤ c.loop.counter
+few c = members_within _ _ c.loop.counter c.loop.invariant.put.filled.number
+
+pub unreachable-requires : goal.unreachable-requires
+unreachable-requires c =
+    let l = c.loop.invariant in
+    let known = row_known _ c.requires.1.1.0 c.loop-test.true l.reached l.last _ (rw (l.bytes, l.edition) at c.next.ensures.row) in
+    elim c.in_default.branch [ in_default-via-in-Ok+in_default w ↦ cc (known.1) | in_default-via-in_default w ↦ cc (known.1) ]
+
+pub loop-init : goal.loop-init
+loop-init c =
+    let r = c.new-reader.ensures in
+    record {
+      within = omega arith;
+      bytes = r.0;
+      edition = r.1;
+      reached = omega (arith, r.2);
+      last = rw r.3 (last_start _ _);
+      put = rows_put_none _ _ _ c.group_words-words.ensures.1 _ _ c.requires.1.1.1 c.new-tile.ensures;
+    }
 
 pub with_row-members-requires : goal.with_row-members-requires
-with_row-members-requires c =
-    let l = c.loop-row in
-    omega (
-      arith,
-      members_within _ _ l.row l.invariant.1.1.1.1.1.1.1.filled.number,
-      c.loop-row-test.true,
-      c.requires.1.0,
-    )
+with_row-members-requires c = omega (arith, few (goal.at.with_row-members-requires c).In-Ok-Some, c.loop-test.true, c.requires.1.0)
 
 pub make_room-tiles-requires : goal.make_room-tiles-requires
 make_room-tiles-requires c =
-    let l = c.loop-row in
-    let p = l.invariant.1.1.1.1.1.1.1 in
-    let wanted = room_wanted (found (goal.at.make_room-tiles-requires c).In-Row) p c.with_row-members.ensures in
+    let here = (goal.at.make_room-tiles-requires c).In-Ok-Some in
+    let p = c.loop.invariant.put in
+    let wanted = room_wanted (stands here) p c.with_row-members.ensures in
     let most : c.with_row-members.result ≤ row_limit =
-    omega (
-      arith,
-      with_row_most c.in-Row.r.joined l.members,
-      c.with_row-members.ensures,
-      members_within _ _ l.row p.filled.number,
-      c.loop-row-test.true,
-      c.requires.1.0,
-    ) in (
-      search rules,
-      (
-        most,
-        (
-          wanted.0,
-          (
-            wanted.1,
-            record {
-              first = search (rules, p.within_groups);
-              groups = p.within_groups;
-              word = omega (arith, wanted.0, most);
-              columns_long = rw l.invariant.1.1.1.0 c.requires.1.1.1.0;
-              transposed_long = search rules;
-              spare_long = search rules;
-            },
-          ),
-        ),
-      ),
-    )
-
-pub overflow_sub-members : goal.overflow_sub-members
-overflow_sub-members c = omega (arith, c.make_room-tiles.ensures.begun)
-
-pub overflow_sub-members-in-Row : goal.overflow_sub-members-in-Row
-overflow_sub-members-in-Row c = omega (arith, c.make_room-tiles.ensures.begun)
+    omega (arith, with_row_most c.in-Ok-Some.found.joined c.loop.members, c.with_row-members.ensures, few here, c.loop-test.true, c.requires.1.0) in
+    (p.within_groups, (most, (wanted.0, wanted.1)))
 
 pub put_row-requires : goal.put_row-requires
 put_row-requires c = (
-  held_within _ _ _ _ _ (rw c.in-Row.is at c.row_of.ensures),
-  (omega (arith, c.make_room-tiles.ensures.begun, c.make_room-tiles.ensures.within), search rules),
+  held_within _ _ _ _ _ (found (goal.at.put_row-requires c).In-Ok-Some),
+  omega (arith, c.make_room-tiles.ensures.begun, c.make_room-tiles.ensures.within),
 )
 
-pub returns-in-End : goal.returns-in-End
-returns-in-End c =
-    let l = c.loop-row in
-    absurd (not_ended _ c.requires.1.1.0 c.loop-row-test.true l.invariant.1.0 l.invariant.1.1.0 (rw c.in-End.is at c.row_of.ensures))
+pub loop-preserved : goal.loop-preserved
+loop-preserved c =
+    let l = c.loop.invariant in
+    let s = stands (goal.at.loop-preserved c).In-Ok-Some in
+    let moved = rw (c.in-Ok-Some.is, c.in-Ok-Some.field-0-is) at c.next.ensures.moved in
+    record {
+      within = omega arith;
+      bytes = c.next.ensures.over.0 ∙ l.bytes;
+      edition = c.next.ensures.over.1 ∙ l.edition;
+      reached = moved.0 ∙ s.next;
+      last = rw moved.1 s.last;
+      put = rows_put_more s l.put c.with_row-members.ensures c.make_room-tiles.ensures c.put_row.ensures;
+    }
 
-pub returns-in-Refused : goal.returns-in-Refused
-returns-in-Refused c =
-    let l = c.loop-row in
-    absurd (not_refused _ c.requires.1.1.0 c.loop-row-test.true l.invariant.1.0 l.invariant.1.1.0 _
-    (rw c.in-Refused.is at c.row_of.ensures))
-
-pub overflow_step-row : goal.overflow_step-row
-overflow_step-row c =
-    let taken = c.loop-row-test.true in
-    let most = c.requires.1.0 in
-    search (rules, taken, most)
-
-pub loop-row-preserved : goal.loop-row-preserved
-loop-row-preserved c =
-    let l = c.loop-row in
-    let s = found (goal.at.loop-row-preserved c).In-Row in (
-      search rules,
-      (
-        s.next,
-        (
-          s.last,
-          (
-            c.make_room-tiles.auto.columns ∙ l.invariant.1.1.1.0,
-            (
-              search rules,
-              (
-                search rules,
-                (
-                  search rules,
-                  rows_put_more s l.invariant.1.1.1.1.1.1.1 c.with_row-members.ensures c.make_room-tiles.ensures
-                      c.put_row.ensures,
-                ),
-              ),
-            ),
-          ),
-        ),
-      ),
-    )
-
-pub put_tile-requires : goal.put_tile-requires
-put_tile-requires c =
-    let l = c.loop-row in
-    let p = l.invariant.1.1.1.1.1.1.1 in (
-      search rules,
-      record {
-        first = search (rules, p.within_groups);
-        groups = p.within_groups;
-        word = tiles_within p (omega (arith, members_within _ _ l.row p.filled.number, l.invariant.0, c.requires.1.0));
-        columns_long = search rules;
-        transposed_long = search rules;
-        spare_long = search rules;
-      },
-    )
+pub put-requires : goal.put-requires
+put-requires c =
+    let p = c.loop.invariant.put in
+    (p.within_groups, tiles_within p (omega (arith, members_within _ _ c.loop.counter p.filled.number, c.loop.invariant.within, c.requires.1.0)))
 
 pub returns : goal.returns
 returns c =
-    let l = c.loop-row in
-    let full : l.row ≡ c.args.rows = omega arith in
-    let p = rw full at l.invariant.1.1.1.1.1.1.1 in
-    filled_columns _ c.group_words-words.ensures.0 p.within_groups p.filled c.put_tile.ensures.0
+    let full : c.loop.counter ≡ c.args.rows = omega arith in
+    let p = rw full at c.loop.invariant.put in
+    filled_columns _ c.group_words-words.ensures.0 p.within_groups p.filled c.put.ensures.0

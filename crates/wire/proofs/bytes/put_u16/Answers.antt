@@ -1,8 +1,8 @@
--- `put_u16` meets its contract: two stores are a run of two bytes.
-use native.Mathlib.Numerals.{add-one}
-use Rattle.wire.specs.Bytes.{le16}
+-- The bytes stored are those of the field.
+use Rattle.std.proofs.Common.{◌∙◌, ap}
+use Rattle.std.proofs.lemmas.List.Edits.{sets}
+use Rattle.wire.proofs.LittleEndian.{le16_bytes}
 use Rattle.wire.proofs.bytes.put_u16.Goals as goal
 
 pub returns : goal.returns
-unfolding le16
-returns c = simp add-one
+returns c = let a = c.args in c.put_bytes.ensures ∙ ap (sets a.out.now a.at) (c.to_le_bytes.ensures ∙ le16_bytes a.x)

@@ -1,8 +1,8 @@
--- `u16_at` meets its contract: the field at a place is what `pair` makes of its two bytes.
+-- The library's number of these bytes is the field.
+use native.Mathlib.Omega.{arith}
 use Rattle.wire.specs.Bytes.{u16_at}
-use borrow.Author.Rules.{rules}
 use Rattle.wire.proofs.bytes.u16_at.Goals as goal
 
 pub returns : goal.returns
 unfolding u16_at
-returns c = search rules
+returns c = omega (arith, c.from_le_bytes.ensures)

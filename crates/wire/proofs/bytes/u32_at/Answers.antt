@@ -1,7 +1,8 @@
--- `u32_at` meets its contract: four bytes are two fields of two.
+-- The library's number of these bytes is the field.
 use native.Mathlib.Omega.{arith}
-use Rattle.wire.proofs.Fields.{u32_halves}
+use Rattle.wire.specs.Bytes.{u32_at}
 use Rattle.wire.proofs.bytes.u32_at.Goals as goal
 
 pub returns : goal.returns
-returns c = let a = c.args in omega (arith, u32_halves a.s.now a.at)
+unfolding u32_at
+returns c = omega (arith, c.from_le_bytes.ensures)

@@ -1,12 +1,8 @@
--- `group_limit` meets its contract, in the second edition and in the first.
-use Rattle.wire.specs.Edition.{edition_number, group_limit}
-use Rattle.wire.proofs.EditionFacts.{second_of, first_of}
+-- `group_limit` is set by the edition.
+use mathlib.Core.Path.{refl}
+use Rattle.wire.specs.Edition.{group_limit}
 use Rattle.wire.proofs.edition.group_limit.Goals as goal
 
-pub returns-then-edition-eq-EDITION_2 : goal.returns-then-edition-eq-EDITION_2
-unfolding edition_number group_limit
-returns-then-edition-eq-EDITION_2 c = rw (second_of c.if-edition-eq-EDITION_2.true)
-
 pub returns : goal.returns
-unfolding edition_number group_limit
-returns c = rw (first_of c.if-edition-eq-EDITION_2.false)
+unfolding group_limit
+returns c = c.set_by.ensures group_limit refl refl

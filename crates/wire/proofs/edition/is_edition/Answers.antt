@@ -8,6 +8,6 @@ pub returns-then-edition-eq-EDITION_2 : goal.returns-then-edition-eq-EDITION_2
 unfolding edition_number
 returns-then-edition-eq-EDITION_2 c = rw (second_of c.if-edition-eq-EDITION_2.true, eq-eqb _ _ c.if-edition-eq-EDITION_2.true)
 
-pub returns : goal.returns
+pub returns-else-edition-eq-EDITION_2 : goal.returns-else-edition-eq-EDITION_2
 unfolding edition_number
-returns c = rw (first_of c.if-edition-eq-EDITION_2.false)
+returns-else-edition-eq-EDITION_2 c = rw (first_of c.if-edition-eq-EDITION_2.false)
