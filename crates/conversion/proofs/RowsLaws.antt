@@ -82,7 +82,8 @@ pub words_row_in : (e f : Edition) (b : List ℕ) → Bytes b → let x = (row_o
 unfolding row_in
 words_row_in e f b k =
     let x = (row_of f b).bits in
-    let bits : flat_map le64 (take (row_words e) (word x 0 ∷ word x 1 ∷ word x 2 ∷ word x 3 ∷ [])) ≡ tabulate (λ i. get_or x i 0) (membership_bytes e) =
+    let words = word x 0 ∷ word x 1 ∷ word x 2 ∷ word x 3 ∷ [] in
+    let bits : flat_map le64 (take (row_words e) words) ≡ tabulate (λ i. get_or x i 0) (membership_bytes e) =
     rw (first_words e x, words_bytes e) (le64s_tabulated x (bytes_row f b k) (row_words e)) in
     rw bits (unfold row_of in refl)
 

@@ -59,8 +59,8 @@ unfolding le16
 edition_over n b l h k p q = sets_over (le16 n) b l 4 (omega arith) k (rw p (sym (sets_front b l k))) q
 
 -- the bytes of a sheet with the number n of edition e in its head are the sheet in that edition
-pub sheet_in_law : (e : Edition) (b : List ℕ) → Bytes b → (d : Records) → read_sheet b ≡ read d → (n : ℕ) → n ≡ edition_number e → {c : Call}
-    → OnceBytes (sets b 4 (le16 n)) c → OnceBytes (encode_sheet (in_edition e d)) c
+pub sheet_in_law : (e : Edition) (b : List ℕ) → Bytes b → (d : Records) → read_sheet b ≡ read d → (n : ℕ) → n ≡ edition_number e
+    → {c : Call} → OnceBytes (sets b 4 (le16 n)) c → OnceBytes (encode_sheet (in_edition e d)) c
 sheet_in_law e b k d r n q {c} v =
     subst (λ x. OnceBytes x c) (sym (in_edition_written e b k d r ∙ ap (λ (m : ℕ). sets b 4 (le16 m)) (sym q))) v
 
@@ -76,7 +76,8 @@ pub bytes_fit : (e f : Edition) (g : ℕ) (b : List ℕ) (n : ℕ) {m : ℕ} →
     → m * n < 4294967296
 bytes_fit e f g b n p q = rw p (rows_fit e n (rows_most f g b n q))
 
-pub bytes_said : (e f : Edition) (b : List ℕ) (n : ℕ) {m : ℕ} → m ≡ row_bytes e → length (encode_register e (rows_in e (rows_before f b n))) ≡ m * n
+pub bytes_said : (e f : Edition) (b : List ℕ) (n : ℕ) {m : ℕ} → m ≡ row_bytes e
+    → length (encode_register e (rows_in e (rows_before f b n))) ≡ m * n
 bytes_said e f b n p = rw p (rows_length e f b n)
 
 -- The way to edition e of a sheet that was read, by the answer u on it.

@@ -210,10 +210,6 @@ module _ {s : Sheet} {last prev : List (Option GroupNo)} (w : Chained s last pre
       let d = no_number (sym (last_is s last prev w g k) ∙ e) in
       let c = (count_by s g (son_below s g (suc s.size)) _ refl refl).0 d in rw (h, c)
 
-pub shut_apart : (s : Sheet) (g : ℕ) → s.same g ≡ false → shut s g ≡ s.cover g
-unfolding shut
-shut_apart s g h = rw h
-
 -- the bounds of a table's groups are small
 small_in : (t : List TableGroup) (n : ℕ) → Small (sheet_in t n) no_end
 small_in t n =
@@ -293,5 +289,6 @@ module _ {s : Sheet} {z : ℕ → Bool → Span} {last prev : List (Option Group
 
 -- the sons give the group
 pub finished : {s : Sheet} {may : ℕ → Bool → Bool} {z : ℕ → Bool → Span} {g : ℕ} → Measured s may z → Group s g
-    → (p o r : Bool → Span) → AlikeBoth p (later s z g s.size) → AlikeBoth o (own s may g) → AlikeBoth r (λ c. meet (p c) (o c)) → AlikeBoth r (z g)
+    → (p o r : Bool → Span) → AlikeBoth p (later s z g s.size) → AlikeBoth o (own s may g) → AlikeBoth r (λ c. meet (p c) (o c))
+    → AlikeBoth r (z g)
 finished m k p o r h i e c = e c ∙ (rw (h c, i c)) ∙ sym (m.at _ k c)

@@ -75,7 +75,8 @@ over_more {sheet} {out} {b} n l x y w =
     }
 
 over_all : (sheet out : List ℕ) → Bytes sheet → (n : ℕ) → group_bytes * suc n ≤ length sheet
-    → ((g : ℕ) → 1 ≤ g → g < 1 + n → (range_lo out g ≤ bound_limit) × (range_hi out g ≤ no_end)) → Over sheet n out (written_over out sheet n)
+    → ((g : ℕ) → 1 ≤ g → g < 1 + n → (range_lo out g ≤ bound_limit) × (range_hi out g ≤ no_end))
+    → Over sheet n out (written_over out sheet n)
 unfolding written_over
 over_all sheet out k zero l h = record {
   sized = refl;

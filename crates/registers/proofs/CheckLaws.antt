@@ -1,19 +1,18 @@
 -- The columns of a register that was read show the sets that its rows list; what a reading gives is what the check answers, and
 -- the ones of the columns are the counts.
 use Prim.Native.Nat.{ℕ, ◌≤◌, ◌<◌, ◌*◌}
-use mathlib.Core.Path.{◌≡◌, ◌∙◌, refl}
+use mathlib.Core.Path.{◌≡◌, ◌∙◌}
 use mathlib.Core.List.{List}
 use native.Mathlib.Omega.{arith}
 use borrow.Author.Tests.{le-ltb, lt-ltb}
 use lib.ListN.{length}
-use Rattle.std.proofs.Common.{Result, Err, Option}
+use Rattle.std.proofs.Common.{Result, Option}
 use Rattle.wire.specs.declared.refusals.Fault.{Fault}
-use Rattle.wire.specs.Refusals.{refusal_number}
 use Rattle.registers.specs.declared.check.Broken.{Broken}
 use Rattle.laws.proofs.SumLaws.{bit_eq}
 use Rattle.wire.specs.Limits.{row_limit}
 use Rattle.wire.specs.Edition.{Edition}
-use Rattle.wire.specs.Record.{Reading, refused, read}
+use Rattle.wire.specs.Record.{read}
 use Rattle.wire.specs.RegisterFormat.{Row, read_register}
 use Rattle.meaning.specs.Sheet.{Sheet}
 use Rattle.meaning.specs.Tree.{Tree}
@@ -30,17 +29,6 @@ use Rattle.tiles.proofs.FillLaws.{members_within}
 use Rattle.registers.specs.Tallies.{Counted}
 use Rattle.registers.specs.Checked.{Checked, Tallied, AnswerTo}
 use Rattle.registers.proofs.Agree.{Agree, answered_agree, count_agree}
-
--- a refused register
-pub checked_refused : (s : Sheet) (d : Reading (List Row)) (f : Fault) → refused (refusal_number f.refusal) f.place ≡ d → Checked s d (Err f)
-checked_refused s d f e =
-    record {
-      refusal = λ m j g. let z = e ∙ g in cc;
-      answer = λ rows g. absurd (let z = e ∙ g in cc);
-    }
-
-pub tallied_refused : (s : Sheet) (d : Reading (List Row)) (n k : ℕ) (t : List ℕ) → refused n k ≡ d → Tallied s d t t
-tallied_refused s d n k t e = record { counts = λ rows f. absurd (let z = e ∙ f in cc); kept = λ m j f. refl }
 
 -- no digit is set from member n on
 pub others_none : {size : ℕ} {rs : List Row} {t : List ℕ} {n : ℕ} → ColumnsFilled size rs n t → (g i : ℕ) → 1 ≤ g → g ≤ size

@@ -24,7 +24,7 @@ use Rattle.sons.specs.SonSteps.{several_sons}
 use Rattle.rules.specs.Joins.{Joined, JoinedFor}
 use Rattle.rules.specs.RuleTests.{member_breaks, SomeMember, may_break, count_breaks}
 use Rattle.rules.proofs.JoinLaws.{two_sons}
-use Rattle.rules.proofs.RuleLaws.{rule_first, rule_last, may, by_member, member_of, may_is, may_asked, by_count, count_of}
+use Rattle.rules.proofs.RuleLaws.{rule_last, may, by_member, member_of, may_is, may_asked, by_count, count_of}
 use Rattle.registers.specs.Tallies.{Gathered}
 use Rattle.registers.specs.Checked.{AnswerTo, broken_names}
 use Rattle.registers.proofs.Unbroken.{unbroken_fits, fits_answered, broken_answered}
@@ -75,12 +75,6 @@ members_more {from = from} d b e = record { clear = λ i l. compare_le from i (�
 members_clash : {j k : ℕ} {c some two : List ℕ} {g o p to : ℕ} → j ≡ k → o ≡ p → ClearMembers k c some two g p to
     → (i : ℕ) → i < to → member_breaks j c some two g o i ≡ true → ⊥
 members_clash d e f i l x = true_not_false _ (rw (d, e) at x) (f.clear i l)
-
-pub rules_none : {X : Type 0} (s : Sheet) (A : Sets X) (g : ℕ) → ClearRules s A g 1
-rules_none s A g = record { clear = λ q l b. omega (arith, rule_first q) }
-
-pub groups_none : {X : Type 0} (s : Sheet) (A : Sets X) → ClearGroups s A 1
-groups_none s A = record { clear = λ h k l q b. omega (arith, k.first) }
 
 pub groups_more : {X : Type 0} (s : Sheet) (A : Sets X) (g k : ℕ) → ClearGroups s A g → 7 ≤ k → ClearRules s A g k
     → ClearGroups s A (g + 1)

@@ -22,7 +22,7 @@ abbrev pub broken_names : Option Broken → GroupRule
 broken_names None = record { group = 0; rule = 0 }
 broken_names (Some b) = record { group = b.group.0; rule = rule_number (rule_meant b.rule) }
 
--- and its number, or a refusal with its row
+-- the check's answer: these values, or a refusal's number with its row
 abbrev pub check_gives : Result (Option Broken) Fault → Reading GroupRule
 check_gives = reading_of broken_names
 

@@ -57,7 +57,8 @@ once_some_fit p w = record { impossible = λ i. absurd (i p); possible = λ q. w
 pub stopped : {l : List ℕ} (f e : Fault) → f ≡ e → Refused (refusal_number e.refusal) e.place (call l (returned (Err f)) l)
 stopped f e q = rw q (record { returned = refl; unchanged = refl })
 
-pub turned : {l : List ℕ} (r : Result ℕ Fault) (e : Fault) → IsErrAnd r (λ y. y ≡ e) → Refused (refusal_number e.refusal) e.place (call l (returned r) l)
+pub turned : {l : List ℕ} (r : Result ℕ Fault) (e : Fault) → IsErrAnd r (λ y. y ≡ e)
+    → Refused (refusal_number e.refusal) e.place (call l (returned r) l)
 turned r e h = let p = err_from_is_err_and r h in rw p.1 (stopped p.0 e p.2)
 
 pub too_short : {l : List ℕ} (r : Result ℕ Fault) (e : Fault) → IsErrAnd r (λ y. y ≡ e) → e ≡ record { refusal = ReplyShort; place = 0 }

@@ -39,7 +39,8 @@ no_range = record { least = 0; most = 0 }
 -- every group's record of kind 17, and of kind 19; the groups are numbered from 0 here
 abbrev pub RangesPut : List ℕ → ℕ → List Span → List ℕ → List ℕ → Type 0
 RangesPut out n ranges firsts counts =
-    (g : ℕ) → g < n → RangeAt out (range_bytes * g) (get_or ranges g no_range).least (get_or ranges g no_range).most (get_or firsts g 0) (get_or counts g 0)
+    (g : ℕ) → g < n → RangeAt out (range_bytes * g) (get_or ranges g no_range).least (get_or ranges g no_range).most
+    (get_or firsts g 0) (get_or counts g 0)
 
 abbrev pub SetsPut : List ℕ → ℕ → List ℕ → List ℕ → List ℕ → Type 0
 SetsPut out n firsts counts marks =

@@ -1,3 +1,4 @@
 pub mod WordLaws
 pub mod JoinLaws
 pub mod RuleLaws
+pub mod EntryLaws

@@ -11,7 +11,8 @@ use Rattle.tables.specs.Entry.{no_group}
 use Rattle.tables.specs.Modes.{disjoint_mode, cover_mode, same_mode}
 use Rattle.tables.specs.SheetIn.{sheet_in}
 use Rattle.tables.proofs.SheetInLaws.{size_in, disjoint_in, cover_in, same_in}
-use Rattle.measuring.proofs.DoneLaws.{last_son, shut_more, shut_one, shut_none, shut_apart}
+use Rattle.sizes.proofs.RuleStepsLaws.{shut_cover}
+use Rattle.measuring.proofs.DoneLaws.{last_son, shut_more, shut_one, shut_none}
 use Rattle.measuring.proofs.measure.is_shut.Goals.{in_default-via-in-Some+else-is_same, in_default-via-in_default}
 use Rattle.measuring.proofs.measure.is_shut.Goals as goal
 
@@ -71,10 +72,10 @@ returns-in_default c =
     let e = c.get.ensures in
     c.is_cover.ensures ∙ sym
     ((elim c.in_default.branch [
-      | in_default-via-in-Some+else-is_same w ↦ shut_apart s _ (same g _ k _ e ∙ sym w.is_same.ensures ∙ w.if-is_same.false)
+      | in_default-via-in-Some+else-is_same w ↦ shut_cover s _ (same g _ k _ e ∙ sym w.is_same.ensures ∙ w.if-is_same.false)
       | in_default-via-in_default w ↦
           split (s.same c.args.g.0)
           (λ h. shut_none r.chained k h (sym c.last.ensures ∙ w.in_default.is))
-          (λ h. shut_apart s _ h)
+          (λ h. shut_cover s _ h)
     ])
     ∙ cover g _ k _ e)

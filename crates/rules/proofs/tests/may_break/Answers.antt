@@ -1,10 +1,8 @@
 -- Each rule's test.
-use Rattle.std.proofs.Common.{arith, ◌∙◌, ap, sym}
-use Rattle.std.proofs.lemmas.List.{get_or_read}
-use lib.ListN.{get_or}
+use Rattle.std.proofs.Common.{arith, ◌∙◌, sym}
 use borrow.Author.Tests.{lt-ltb, le-ltb, ne_eqb}
-use Rattle.tables.specs.Entry.{no_group}
 use Rattle.rules.specs.RuleTests.{may_break}
+use Rattle.rules.proofs.EntryLaws.{entry_read}
 use Rattle.rules.proofs.tests.may_break.Goals as goal
 
 pub returns-in-1 : goal.returns-in-1
@@ -14,8 +12,8 @@ returns-in-1 c = rw (c.in-1.is, c.requires.4)
 pub returns-then-p-gt0 : goal.returns-then-p-gt0
 unfolding may_break
 returns-then-p-gt0 c =
-    let t = c.args.groups.now in
-    let e = sym c.index-groups-index.is ∙ get_or_read t c.index.result _ (omega (arith, c.index.ensures)) c.index-groups-index.is no_group ∙ ap (λ i. get_or t i no_group) c.index.ensures in
+    let read = c.index-groups-index.is in
+    let e = sym read ∙ entry_read c.args.groups.now c.args.p.0 _ _ (omega arith) (omega arith) c.index.ensures read in
     rw (c.in-2.is, ← c.requires.4, lt-ltb 0 c.args.p.0 c.if-p-gt0.true, c.is_same.ensures, e)
 
 pub returns-else-p-gt0 : goal.returns-else-p-gt0
@@ -25,16 +23,16 @@ returns-else-p-gt0 c = rw (c.in-2.is, ← c.requires.4, le-ltb 0 c.args.p.0 c.if
 pub returns-in-3 : goal.returns-in-3
 unfolding may_break
 returns-in-3 c =
-    let t = c.args.groups.now in
-    let e = sym c.index-groups-index-in-3.is ∙ get_or_read t c.index-in-3.result _ (omega (arith, c.index-in-3.ensures)) c.index-groups-index-in-3.is no_group ∙ ap (λ i. get_or t i no_group) c.index-in-3.ensures in
+    let read = c.index-groups-index-in-3.is in
+    let e = sym read ∙ entry_read c.args.groups.now c.args.g.0 _ _ c.requires.0 c.requires.1 c.index-in-3.ensures read in
     rw (c.in-3.is, c.is_cover.ensures, e)
 
 pub returns-then-is_disjoint : goal.returns-then-is_disjoint
 unfolding may_break
 returns-then-is_disjoint c =
     let q = c.args in
-    let t = c.args.groups.now in
-    let e = sym c.index-groups-index-in_default.is ∙ get_or_read t c.index-in_default.result _ (omega (arith, c.index-in_default.ensures)) c.index-groups-index-in_default.is no_group ∙ ap (λ i. get_or t i no_group) c.index-in_default.ensures in
+    let read = c.index-groups-index-in_default.is in
+    let e = sym read ∙ entry_read c.args.groups.now c.args.g.0 _ _ c.requires.0 c.requires.1 c.index-in_default.ensures read in
     rw (
       ne_eqb q.rule 1 (λ e. omega arith),
       ne_eqb q.rule 2 (λ e. omega arith),
@@ -49,8 +47,8 @@ pub returns-else-is_disjoint : goal.returns-else-is_disjoint
 unfolding may_break
 returns-else-is_disjoint c =
     let q = c.args in
-    let t = c.args.groups.now in
-    let e = sym c.index-groups-index-in_default.is ∙ get_or_read t c.index-in_default.result _ (omega (arith, c.index-in_default.ensures)) c.index-groups-index-in_default.is no_group ∙ ap (λ i. get_or t i no_group) c.index-in_default.ensures in
+    let read = c.index-groups-index-in_default.is in
+    let e = sym read ∙ entry_read c.args.groups.now c.args.g.0 _ _ c.requires.0 c.requires.1 c.index-in_default.ensures read in
     rw (
       ne_eqb q.rule 1 (λ e. omega arith),
       ne_eqb q.rule 2 (λ e. omega arith),
