@@ -9,13 +9,14 @@ ghost use Rattle.claims.specs.Decided.{Decided};
 ghost use Rattle.claims.specs.Named.{meanings, AskableLists, claim_meant, Askable};
 
 use crate::decision::{Decision, verdict_on};
-use crate::names::{groups_meant, meant_by};
+use crate::names::groups_meant;
 use claim_records::claim::{Claim, Lists};
 use questions::count::judge_count;
 use questions::lists::{ask_lists, is_place};
 use runs::starts::start_runs;
 use tables::groups::{GroupNo, Groups};
 use tables::limits::{GROUP_CAPACITY, LIST};
+use tables::names::meant_by;
 
 // most groups in one list of a claim
 const LIST_TABLE: usize = LIST as usize;
