@@ -9,6 +9,7 @@ use lib.ListN.{drop, length, get_or, take, length-take, length-drop}
 use lib.Seq.{ext_get_or, get_or-take, get_or-drop}
 use lib.Dec.{eqb}
 use Rattle.records.specs.declared.record.Record.{Record}
+use Rattle.records.specs.contracts.record.Record.{the_type}
 use Rattle.wire.specs.declared.refusals.Refusal.{Refusal}
 use Rattle.claim_records.specs.declared.claim.Claim.{Claim}
 use Rattle.records.specs.declared.record.Head.{Head}
