@@ -79,7 +79,10 @@ fn judge(
             marks,
         ),
         Claim::Lists(lists) => {
-            let groups = Groups { table: groups, size };
+            let groups = Groups {
+                table: groups,
+                size,
+            };
             judge_names(sheet, lists, names, &groups, sizes, marks)
         }
     }
@@ -106,7 +109,15 @@ pub fn decide(
 {
     if judge(sheet, claim, names, groups, size, sizes, marks) {
         let mut ends = [0; GROUP_CAPACITY];
-        start_runs(&Groups { table: groups, size }, sizes, firsts, &mut ends);
+        start_runs(
+            &Groups {
+                table: groups,
+                size,
+            },
+            sizes,
+            firsts,
+            &mut ends,
+        );
         Decision::Shown(verdict_on(claim, true))
     } else {
         Decision::Alone(verdict_on(claim, false))

@@ -1,9 +1,7 @@
 -- Laws of counts asked for between two ends: the sheet with narrowed bounds, and what sets that fit it show of the claim.
 use Prim.Native.Nat.{ℕ, suc, ◌≤◌, ◌+◌, ◌<◌, min, ◌-◌, max}
-use mathlib.Core.Path.{refl, ◌≡◌, sym, ap, subst, ◌∙◌}
-use Rattle.std.proofs.Props.{props}
+use mathlib.Core.Path.{refl, ◌≡◌, sym, ap, ◌∙◌}
 use Rattle.std.proofs.lemmas.List.{get_or_default}
-use Rattle.tables.specs.declared.table.Groups.{Groups}
 use mathlib.Core.Bool.{Bool, cond, true≢false, false, true, not}
 use lib.Dec.{eqb}
 use mathlib.Core.List.{List, []}

@@ -46,13 +46,27 @@ fn sets_between(
         hi: own.hi.min(most),
         mode: own.mode,
     };
-    let found = any_sets(&Groups { table: groups, size }, sizes, marks);
+    let found = any_sets(
+        &Groups {
+            table: groups,
+            size,
+        },
+        sizes,
+        marks,
+    );
     groups[i] = own;
     found
 }
 
 // whether some sets that fit have fewer than lo members in a group
-fn under(groups: &mut [Group], size: u16, g: GroupNo, lo: u16, sizes: &mut [u32], marks: &mut [u8]) -> bool
+fn under(
+    groups: &mut [Group],
+    size: u16,
+    g: GroupNo,
+    lo: u16,
+    sizes: &mut [u32],
+    marks: &mut [u8],
+) -> bool
     requires tabled { Tabled groups.old size }
     requires asked { Asking size sizes.old marks.old × (1 ≤ g.0) × (g.0 ≤ size) }
     ensures sized { Sized (sheet_in groups.old size) (CountUnder g.0 lo) sizes.new marks.new result }
@@ -62,7 +76,14 @@ fn under(groups: &mut [Group], size: u16, g: GroupNo, lo: u16, sizes: &mut [u32]
 }
 
 // whether some sets that fit have more members in a group than hi, `NO_END` for no upper end
-fn over(groups: &mut [Group], size: u16, g: GroupNo, hi: u16, sizes: &mut [u32], marks: &mut [u8]) -> bool
+fn over(
+    groups: &mut [Group],
+    size: u16,
+    g: GroupNo,
+    hi: u16,
+    sizes: &mut [u32],
+    marks: &mut [u8],
+) -> bool
     requires tabled { Tabled groups.old size }
     requires asked { Asking size sizes.old marks.old × (1 ≤ g.0) × (g.0 ≤ size) }
     ensures sized { Sized (sheet_in groups.old size) (CountOver g.0 (end_of no_end hi)) sizes.new marks.new result }
@@ -114,7 +135,15 @@ pub fn judge_count(
     ensures groups_unchanged { groups.new ≡ groups.old }
 {
     match meant {
-        None => judge_empty(&Groups { table: groups, size }, lo, sizes, marks),
+        None => judge_empty(
+            &Groups {
+                table: groups,
+                size,
+            },
+            lo,
+            sizes,
+            marks,
+        ),
         Some(g) => judge_group(groups, size, g, lo, hi, sizes, marks),
     }
 }
