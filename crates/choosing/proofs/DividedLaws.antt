@@ -141,7 +141,7 @@ shared_alike {i = i} {j = j} e f w = record {
 }
 
 -- what the code reads of a son's parent, in the mathematics' terms
-pub kind_table : (g : Groups) (p h : ℕ) (x : TableGroup) (q : Kind) → Son (sheet_in g.table g.size) p h → x ≡ get_or g.table (p - 1) no_group
-    → q ≡ mode_kind x.mode.0 → q ≡ join_kind (sheet_in g.table g.size) p
+pub kind_table : (g : Groups) (p h : ℕ) (x : TableGroup) (q : Kind) → Son (sheet_in g.table.now g.size) p h → x ≡ get_or g.table.now (p - 1) no_group
+    → q ≡ mode_kind x.mode.0 → q ≡ join_kind (sheet_in g.table.now g.size) p
 kind_table g p h x q i d e =
-    e ∙ ap (λ y. mode_kind y.mode.0) d ∙ sym (kind_in_law g.table g.size p (son_parent g.tabled.tree i))
+    e ∙ ap (λ y. mode_kind y.mode.0) d ∙ sym (kind_in_law g.table.now g.size p (son_parent g.tabled.tree i))

@@ -1,18 +1,29 @@
 -- Laws of the states and numbers that are picked for one son and the later ones.
 use Prim.Native.Nat.{ℕ, ◌≤◌, ◌-◌, max, ◌+◌, min}
-use mathlib.Core.Path.{◌≡◌, sym, ◌∙◌}
-use mathlib.Core.Bool.{Bool, true, false, true≢false}
+use mathlib.Core.Path.{◌≡◌, refl, sym, ◌∙◌}
+use mathlib.Core.Bool.{Bool, true, false, true≢false, cond}
 use lib.Dec.{leb}
 use borrow.Author.Tests.{leb-true, le-leb}
-use mathlib.Core.Logic.{◌↔◌}
+use mathlib.Core.Logic.{◌↔◌, ◌⊎◌, ⊎_elim}
 use native.Mathlib.Omega.{arith}
 use Rattle.laws.proofs.Cases.{compare_eq, compare_le}
 use Rattle.wire.specs.Limits.{no_greatest}
 use Rattle.meaning.specs.Sheet.{AtMost, Top, fin, inf}
 use Rattle.sizes.specs.Span.{In, Kind, lap, add, eq, Makes, join, plus, son_of}
 use Rattle.sizes.proofs.SpanLaws.{Proper, in_meet, meet_join, rest_of, join_in}
-use Rattle.spans.specs.Held.{top_of, span_of}
+use Rattle.spans.specs.declared.kind.Kind.{Kind as KindRead}
+use Rattle.spans.specs.declared.kind.Kind.TheVariants.{Lap, Add, Eq}
+use Rattle.spans.specs.Held.{top_of, span_of, kind_held}
 use Rattle.spans.proofs.HeldLaws.{top_end, top_fin, none_of, some_of, join_none_left, join_none_right, cap_top, less_top}
+use Rattle.choosing.specs.Parts.{rest_state, son_state}
+
+-- the first states that can be joined, where the sons may share members or share none
+pub first_states : (k : KindRead) → (k ≡ Lap) ⊎ (k ≡ Add) → (f g : Bool)
+    → (rest_state (kind_held k) true f g ≡ cond f true (cond g false true)) × (son_state (kind_held k) true f g ≡ cond f false true)
+unfolding rest_state son_state
+first_states Lap w f g = (refl, refl)
+first_states Add w f g = (refl, refl)
+first_states Eq w f g = absurd (⊎_elim (λ e. cc) (λ e. cc) w)
 
 -- upper ends as numbers, for a number that is not above the one for no end
 pub at_top : (r u : ℕ) → r ≤ no_greatest → (r ≤ u) ↔ AtMost r (top_of u)

@@ -1,3 +1,4 @@
 pub mod Parted
+pub mod Parts
 pub mod Divided
 pub mod Chosen

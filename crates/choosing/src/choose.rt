@@ -14,7 +14,7 @@ use tables::groups::{GroupNo, Groups};
 // `c`: whether the member is in the root.
 pub fn choose(groups: &Groups, flags: &[May], c: bool, sizes: &mut [u32], marks: &mut [u8]) -> bool
     requires { Asking groups.now.size sizes.old marks.old × (groups.now.size ≤ length flags.now) }
-    ensures { Chose (sheet_in groups.now.table groups.now.size) (may_in flags.now) c sizes.new marks.new result }
+    ensures { Chose (sheet_in groups.now.table.now groups.now.size) (may_in flags.now) c sizes.new marks.new result }
 {
     let mut measured = Measured::new();
     measure_sheet(groups, flags, &mut measured);

@@ -36,11 +36,11 @@ fn divide_son(
     left: &mut [Part],
     g: GroupNo,
 )
-    requires folded { Folded (sheet_in groups.now.table groups.now.size) measured.now.spans measured.now.after }
+    requires folded { Folded (sheet_in groups.now.table.now groups.now.size) measured.now.spans measured.now.after }
     requires son { (2 ≤ g.0) × (g.0 ≤ groups.now.size) × RoomFor groups.now.size sizes.old marks.old left.old }
-    requires divided { DividedTo (sheet_in groups.now.table groups.now.size) (pair_in measured.now.spans) sizes.old marks.old left.old
+    requires divided { DividedTo (sheet_in groups.now.table.now groups.now.size) (pair_in measured.now.spans) sizes.old marks.old left.old
         (g.0 - 1) }
-    ensures given { DividedTo (sheet_in groups.now.table groups.now.size) (pair_in measured.now.spans)
+    ensures given { DividedTo (sheet_in groups.now.table.now groups.now.size) (pair_in measured.now.spans)
         sizes.new marks.new left.new g.0 }
     ensures root_unchanged { (number_in sizes.new 1 ≡ number_in sizes.old 1)
         × (marked_in marks.new 1 ≡ marked_in marks.old 1) }
@@ -67,9 +67,9 @@ pub fn divide(
     sizes: &mut [u32],
     marks: &mut [u8],
 )
-    requires folded { Folded (sheet_in groups.now.table groups.now.size) measured.now.spans measured.now.after }
+    requires folded { Folded (sheet_in groups.now.table.now groups.now.size) measured.now.spans measured.now.after }
     requires room { (groups.now.size ≤ length sizes.old) × (groups.now.size ≤ length marks.old) × In r (pair_in measured.now.spans 1 c) }
-    ensures { Dividend (sheet_in groups.now.table groups.now.size) (pair_in measured.now.spans) r c sizes.new marks.new }
+    ensures { Dividend (sheet_in groups.now.table.now groups.now.size) (pair_in measured.now.spans) r c sizes.new marks.new }
 {
     let mut left = [Part::ZERO; GROUP_CAPACITY];
     give(

@@ -1,9 +1,10 @@
 // How a number and a state of a group's sons are divided between one son and the later ones.
-ghost use Rattle.std.specs.Prelude.{◌≡◌, true, ◌↔◌};
+ghost use Rattle.std.specs.Prelude.{◌≡◌, Bool, true, false, ◌↔◌};
 ghost use Rattle.laws.specs.Sum.{bit};
-ghost use Rattle.sizes.specs.Span.{In, join, Makes};
+ghost use Rattle.sizes.specs.Span.{In, join, Makes, son_of};
 ghost use Rattle.spans.specs.Held.{span_held, kind_held, pair_of};
 ghost use Rattle.choosing.specs.Parted.{Divisible, Shared};
+ghost use Rattle.choosing.specs.Parts.{rest_state, son_state, rest_by};
 
 use spans::kind::Kind;
 use spans::pair::Pair;
@@ -51,8 +52,12 @@ fn join_has(kind: Kind, a: Span, b: Span, r: u32) -> bool
 // way round, both in.
 fn states(kind: Kind, rest: Pair, son: Pair, r: u32, c: bool) -> (bool, bool)
     requires { Divisible (kind_held kind) (pair_of rest) (pair_of son) r c }
-    ensures { (Makes (kind_held kind) (bit result.0) (bit result.1) (bit c))
+    ensures joined { (Makes (kind_held kind) (bit result.0) (bit result.1) (bit c))
         × In r (join (kind_held kind) (pair_of rest result.0) (pair_of son result.1)) }
+    ensures first { (first second : Bool)
+        → (first ≡ true) ↔ In r (join (kind_held kind) (pair_of rest true) (pair_of son false))
+        → (second ≡ true) ↔ In r (join (kind_held kind) (pair_of rest false) (pair_of son true))
+        → (result.0 ≡ rest_state (kind_held kind) c first second) × (result.1 ≡ son_state (kind_held kind) c first second) }
 {
     if !c {
         return (false, false);
@@ -67,7 +72,9 @@ fn states(kind: Kind, rest: Pair, son: Pair, r: u32, c: bool) -> (bool, bool)
 // the numbers of the later sons and of the one son
 fn numbers(kind: Kind, rest: Span, son: Span, r: u32) -> (u32, u32)
     requires { In r (join (kind_held kind) (span_held rest) (span_held son)) }
-    ensures { (Makes (kind_held kind) result.0 result.1 r) × In result.0 (span_held rest) × In result.1 (span_held son) }
+    ensures divided { (Makes (kind_held kind) result.0 result.1 r) × In result.0 (span_held rest) × In result.1 (span_held son) }
+    ensures taken { (result.1 ≡ son_of (kind_held kind) (span_held rest) (span_held son) r)
+        × (result.0 ≡ rest_by (kind_held kind) rest.most r result.1) }
 {
     match kind {
         Kind::Lap => (rest.most.min(r), son.most.min(r)),

@@ -6,7 +6,7 @@
 ghost use Rattle.std.specs.Prelude.{◌≡◌};
 ghost use Rattle.wire.specs.Record.{read};
 ghost use Rattle.wire.specs.SheetFormat.{Records, read_sheet};
-ghost use Rattle.tables.specs.SheetIn.{sheet_in};
+ghost use Rattle.tables.specs.SheetIn.{sheet_in, Tabled};
 ghost use Rattle.claim_records.specs.ClaimHeld.{claim_record};
 ghost use Rattle.records.specs.Answers.{head_record};
 ghost use Rattle.replies.specs.Reply.{call};
@@ -22,7 +22,7 @@ use measuring::fitting::some_fit;
 use reading::sheet_tables::Tables;
 use records::record::Head;
 use replies::{give_alone, give_shown};
-use tables::groups::{GroupNo, Groups};
+use tables::groups::{Group, GroupNo, Groups};
 use tables::limits::GROUP_CAPACITY;
 use wire::refusals::{Fault, Refusal};
 
@@ -31,14 +31,16 @@ fn give_verdict(
     sheet: &[u8],
     claim: Claim,
     names: &[Option<GroupNo>],
-    groups: &mut Groups,
+    groups: &mut [Group],
+    size: u16,
     reply: &mut [u8],
 ) -> Result<u32, Fault>
-    requires { Askable sheet.now claim names.now groups.old.size }
-    ensures { VerdictFor (sheet_in groups.old.table groups.old.size) (claim_meant names.now (claim_record sheet.now claim))
+    requires tabled { Tabled groups.old size }
+    requires askable { Askable sheet.now claim names.now size }
+    ensures verdict { VerdictFor (sheet_in groups.old size) (claim_meant names.now (claim_record sheet.now claim))
         (call reply.old (returned result) reply.new) }
+    ensures groups_unchanged { groups.new ≡ groups.old }
 {
-    let size = groups.size as usize;
     let mut firsts = [0u32; GROUP_CAPACITY];
     let mut sizes = [0u32; GROUP_CAPACITY];
     let mut marks = [0u8; GROUP_CAPACITY];
@@ -47,10 +49,12 @@ fn give_verdict(
         claim,
         names,
         groups,
+        size,
         &mut firsts,
         &mut sizes,
         &mut marks,
     );
+    let size = size as usize;
     match decision {
         Decision::Alone(verdict) => give_alone(reply, verdict),
         Decision::Shown(verdict) => give_shown(reply, verdict, &firsts, &sizes, &marks[..size]),
@@ -61,15 +65,16 @@ fn give_verdict(
 pub fn give_claim(
     sheet: &[u8],
     head: Head,
-    tables: &Tables,
+    tables: &mut Tables,
     claim: u32,
     reply: &mut [u8],
 ) -> Result<u32, Fault>
-    requires { Asked (head_record head) sheet.now tables.now }
-    ensures { (d : Records) → read_sheet sheet.now ≡ read d → ClaimVerdict claim d (call reply.old (returned result) reply.new) }
+    requires { Asked (head_record head) sheet.now tables.old }
+    ensures verdict { (d : Records) → read_sheet sheet.now ≡ read d → ClaimVerdict claim d (call reply.old (returned result) reply.new) }
+    ensures tables_unchanged { tables.new ≡ tables.old }
 {
-    let mut groups = Groups {
-        table: tables.groups,
+    let groups = Groups {
+        table: &tables.groups,
         size: head.groups,
     };
     if !some_fit(&groups) {
@@ -79,5 +84,12 @@ pub fn give_claim(
         return Err(Refusal::NoSuchClaim.at(0));
     }
     let asked = tables.claims[claim as usize - 1];
-    give_verdict(sheet, asked, &tables.names, &mut groups, reply)
+    give_verdict(
+        sheet,
+        asked,
+        &tables.names,
+        &mut tables.groups,
+        head.groups,
+        reply,
+    )
 }

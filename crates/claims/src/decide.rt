@@ -1,7 +1,7 @@
 // The verdict on one claim, and the sets that are shown with it.
 ghost use Rattle.std.specs.Prelude.{◌≡◌, ◌≤◌, length};
 ghost use Rattle.meaning.specs.Place.{lists_ask};
-ghost use Rattle.tables.specs.SheetIn.{sheet_in};
+ghost use Rattle.tables.specs.SheetIn.{sheet_in, Tabled};
 ghost use Rattle.claim_records.specs.ClaimHeld.{list_as, left_names, right_names, claim_record};
 ghost use Rattle.choosing.specs.Chosen.{Asking};
 ghost use Rattle.questions.specs.Judged.{Judged};
@@ -9,13 +9,14 @@ ghost use Rattle.claims.specs.Decided.{Decided};
 ghost use Rattle.claims.specs.Named.{meanings, AskableLists, claim_meant, Askable};
 
 use crate::decision::{Decision, verdict_on};
-use crate::names::{groups_meant, meant_by};
+use crate::names::groups_meant;
 use claim_records::claim::{Claim, Lists};
 use questions::count::judge_count;
 use questions::lists::{ask_lists, is_place};
 use runs::starts::start_runs;
-use tables::groups::{GroupNo, Groups};
+use tables::groups::{Group, GroupNo, Groups};
 use tables::limits::{GROUP_CAPACITY, LIST};
+use tables::names::meant_by;
 
 // most groups in one list of a claim
 const LIST_TABLE: usize = LIST as usize;
@@ -30,7 +31,7 @@ fn judge_names(
     marks: &mut [u8],
 ) -> bool
     requires { Asking groups.now.size sizes.old marks.old × AskableLists sheet.now lists names.now groups.now.size }
-    ensures { Judged (sheet_in groups.now.table groups.now.size)
+    ensures { Judged (sheet_in groups.now.table.now groups.now.size)
         (lists_ask (list_as lists.kind) (meanings names.now (left_names sheet.now lists)) (meanings names.now
         (right_names sheet.now lists)))
         sizes.new marks.new result }
@@ -56,25 +57,34 @@ fn judge(
     sheet: &[u8],
     claim: Claim,
     names: &[Option<GroupNo>],
-    groups: &mut Groups,
+    groups: &mut [Group],
+    size: u16,
     sizes: &mut [u32],
     marks: &mut [u8],
 ) -> bool
-    requires { Asking groups.old.size sizes.old marks.old × Askable sheet.now claim names.now groups.old.size }
-    ensures judged { Judged (sheet_in groups.old.table groups.old.size) (claim_meant names.now (claim_record sheet.now claim))
+    requires tabled { Tabled groups.old size }
+    requires asking { Asking size sizes.old marks.old × Askable sheet.now claim names.now size }
+    ensures judged { Judged (sheet_in groups.old size) (claim_meant names.now (claim_record sheet.now claim))
         sizes.new marks.new result }
     ensures groups_unchanged { groups.new ≡ groups.old }
 {
     match claim {
         Claim::Count(count) => judge_count(
             groups,
+            size,
             meant_by(names, count.name),
             count.lo,
             count.hi,
             sizes,
             marks,
         ),
-        Claim::Lists(lists) => judge_names(sheet, lists, names, groups, sizes, marks),
+        Claim::Lists(lists) => {
+            let groups = Groups {
+                table: groups,
+                size,
+            };
+            judge_names(sheet, lists, names, &groups, sizes, marks)
+        }
     }
 }
 
@@ -84,20 +94,30 @@ pub fn decide(
     sheet: &[u8],
     claim: Claim,
     names: &[Option<GroupNo>],
-    groups: &mut Groups,
+    groups: &mut [Group],
+    size: u16,
     firsts: &mut [u32],
     sizes: &mut [u32],
     marks: &mut [u8],
 ) -> Decision
-    requires { Asking groups.old.size sizes.old marks.old × Askable sheet.now claim names.now groups.old.size
-        × (groups.old.size ≤ length firsts.old) }
-    ensures decided { Decided (sheet_in groups.old.table groups.old.size) (claim_meant names.now (claim_record sheet.now claim))
+    requires tabled { Tabled groups.old size }
+    requires asking { Asking size sizes.old marks.old × Askable sheet.now claim names.now size
+        × (size ≤ length firsts.old) }
+    ensures decided { Decided (sheet_in groups.old size) (claim_meant names.now (claim_record sheet.now claim))
         firsts.new sizes.new marks.new result }
     ensures groups_unchanged { groups.new ≡ groups.old }
 {
-    if judge(sheet, claim, names, groups, sizes, marks) {
+    if judge(sheet, claim, names, groups, size, sizes, marks) {
         let mut ends = [0; GROUP_CAPACITY];
-        start_runs(groups, sizes, firsts, &mut ends);
+        start_runs(
+            &Groups {
+                table: groups,
+                size,
+            },
+            sizes,
+            firsts,
+            &mut ends,
+        );
         Decision::Shown(verdict_on(claim, true))
     } else {
         Decision::Alone(verdict_on(claim, false))

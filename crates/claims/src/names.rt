@@ -1,20 +1,12 @@
 // From names to groups. The numbers of a claim's names stand in the sheet's bytes; the table of names has what each means.
-ghost use Rattle.std.specs.Prelude.{◌≡◌, ◌-◌, ◌≤◌, length, take, get_or, None};
+ghost use Rattle.std.specs.Prelude.{◌≡◌, ◌≤◌, length, take};
 ghost use Rattle.wire.specs.SheetFormat.{u16s};
 ghost use Rattle.questions.specs.Groups.{groups_among, numbers_of};
 ghost use Rattle.claims.specs.Named.{meanings, NamesAt};
 
 use tables::groups::GroupNo;
-use tables::names::NameNo;
+use tables::names::{NameNo, meant_by};
 use wire::bytes::u16_at;
-
-// what a name means, by the table of names
-pub fn meant_by(names: &[Option<GroupNo>], name: NameNo) -> Option<GroupNo>
-    requires { (1 ≤ name.0) × (name.0 ≤ length names.now) }
-    ensures { result ≡ get_or names.now (name.0 - 1) None }
-{
-    names[name.0 as usize - 1]
-}
 
 // The groups that the n names at an offset of the sheet mean, in the first entries of a list. How many they are.
 pub fn groups_meant(

@@ -1,13 +1,13 @@
--- The replies of the conversions, put together: the bytes of a sheet with another edition stored over them, those of rows, and the way of a
--- sheet to an edition, turned back or gone.
-use Prim.Native.Nat.{ℕ, ◌*◌, ◌≤◌, ◌<◌}
+-- The replies of the conversions, put together: the bytes of a sheet, stored one by one, with another edition stored over them, those of rows,
+-- and the way of a sheet to an edition, turned back or gone.
+use Prim.Native.Nat.{ℕ, suc, ◌+◌, ◌*◌, ◌≤◌, ◌<◌}
 use mathlib.Core.Path.{◌≡◌, refl, sym, ap, subst, ◌∙◌}
-use mathlib.Core.List.{List, ◌++◌}
+use mathlib.Core.List.{List, [], ◌∷◌}
 use native.Mathlib.Omega.{arith}
-use native.Mathlib.Nat.{mul-le-mul_left}
-use lib.ListN.{length, drop}
-use lib.Seq.{sets}
-use Rattle.laws.proofs.SetsLaws.{sets_over, sets_front}
+use native.Mathlib.Nat.{zero-add, mul-le-mul_left}
+use lib.ListN.{length, take, get_or, set}
+use lib.Seq.{sets, take-suc, length-take-le}
+use Rattle.laws.proofs.SetsLaws.{sets_then, sets_over}
 use Rattle.std.specs.Prelude.{Result, Ok, Err}
 use Rattle.std.specs.Result.{IsErrAnd}
 use Rattle.std.proofs.lemmas.Result.{err_from_is_err_and}
@@ -37,6 +37,13 @@ use Rattle.replies.specs.Reply.{Call, Refused, OnceRead, OnceSheet, OnceBytes}
 use Rattle.replies.proofs.ReplyLaws.{once_turned, once_passed}
 use Rattle.conversion_reply.specs.Way.{Goes, TurnedBack, unreadable, not_there, Way}
 
+-- one byte more
+pub bytes_more : (b l : List ℕ) (i : ℕ) → i < length b → {l₁ : List ℕ} → l₁ ≡ sets l 0 (take i b)
+    → set l₁ i (get_or b i 0) ≡ sets l 0 (take (suc i) b)
+bytes_more b l i k {l₁} p =
+    let size : 0 + length (take i b) ≡ i = zero-add _ ∙ length-take-le i b (omega arith) in
+    rw (take-suc b i 0 k) (sets_then (take i b) (get_or b i 0 ∷ []) l 0 p (rw size))
+
 -- a readable sheet has a head, and no more bytes than edition 2 allows
 sheet_most : (e : Edition) (n : ℕ) → n ≤ sheet_limit e → n ≤ sheet_limit edition2
 unfolding group_limit label_limit
@@ -52,11 +59,11 @@ pub sheet_fits : (n : ℕ) → n ≤ sheet_limit edition2 → n < 4294967296
 unfolding group_limit label_limit
 sheet_fits n h = omega arith
 
--- the bytes of a sheet copied to the front of a buffer, and an edition stored over them
-pub edition_over : (n : ℕ) (b l : List ℕ) {c m : List ℕ} → head_bytes ≤ length b → length b ≤ length l
-    → c ≡ b → m ≡ sets (c ++ drop (length b) l) 4 (le16 n) → m ≡ sets l 0 (sets b 4 (le16 n))
+-- an edition stored over the bytes of a sheet
+pub edition_over : (n : ℕ) (b l : List ℕ) {l₁ l₂ : List ℕ} → head_bytes ≤ length b → length b ≤ length l
+    → l₁ ≡ sets l 0 b → l₂ ≡ sets l₁ 4 (le16 n) → l₂ ≡ sets l 0 (sets b 4 (le16 n))
 unfolding le16
-edition_over n b l h k p q = sets_over (le16 n) b l 4 (omega arith) k (rw p (sym (sets_front b l k))) q
+edition_over n b l h = sets_over (le16 n) b l 4 (omega arith)
 
 -- the bytes of a sheet with the number n of edition e in its head are the sheet in that edition
 pub sheet_in_law : (e : Edition) (b : List ℕ) → Bytes b → (d : Records) → read_sheet b ≡ read d → (n : ℕ) → n ≡ edition_number e

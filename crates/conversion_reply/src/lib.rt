@@ -40,6 +40,17 @@ fn load_towards(sheet: &[u8], edition: u16) -> Result<Head, Fault>
     Ok(head)
 }
 
+// Bytes from the front of the buffer on, one by one: to have them copied the library would need a function from outside.
+fn put_bytes(out: &mut [u8], bytes: &[u8])
+    requires { length bytes.now ≤ length out.old }
+    ensures { out.new ≡ sets out.old 0 bytes.now }
+{
+    let end = bytes.len();
+    for i in 0..end {
+        out[i] = bytes[i];
+    }
+}
+
 // the bytes of a sheet with this edition in the head, into a buffer with room for them
 fn give_edition(sheet: &[u8], edition: u16, reply: &mut [u8]) -> Result<u32, Fault>
     requires { (head_bytes ≤ length sheet.now) × (length sheet.now ≤ sheet_limit edition2) }
@@ -47,7 +58,7 @@ fn give_edition(sheet: &[u8], edition: u16, reply: &mut [u8]) -> Result<u32, Fau
 {
     let bytes = sheet.len();
     room(reply, bytes)?; // the sheet
-    reply[..bytes].copy_from_slice(sheet);
+    put_bytes(reply, sheet);
     put_u16(reply, HEAD_EDITION, edition);
     Ok(bytes as u32) // the sheet
 }

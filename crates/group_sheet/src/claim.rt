@@ -20,5 +20,5 @@ fn verdict(sheet: &[u8], claim: u32, reply: &mut [u8]) -> Result<u32, Fault>
 {
     let mut tables = Tables::new();
     let head = load_sheet(sheet, &mut tables)?;
-    give_claim(sheet, head, &tables, claim, reply)
+    give_claim(sheet, head, &mut tables, claim, reply)
 }

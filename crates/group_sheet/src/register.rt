@@ -23,7 +23,7 @@ fn check(sheet: &[u8], register: &[u8], reply: &mut [u8]) -> Result<u32, Fault>
     let mut table = [Group::NONE; GROUP_CAPACITY];
     let head = load_tree(sheet, &mut table)?;
     let groups = Groups {
-        table,
+        table: &table,
         size: head.groups,
     };
     give_check(&groups, head.edition, register, reply)

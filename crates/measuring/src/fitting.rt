@@ -18,14 +18,14 @@ use tables::limits::GROUP_CAPACITY;
 
 // Measures all groups, and says whether some sets fit.
 pub fn measure(groups: &Groups, measured: &mut Measured) -> bool
-    ensures { PossibleTold groups.now.table groups.now.size measured.new.spans measured.new.after result }
+    ensures { PossibleTold groups.now.table.now groups.now.size measured.new.spans measured.new.after result }
 {
     measure_sheet(groups, &[May::FREE; GROUP_CAPACITY], measured);
     is_possible(measured)
 }
 
 pub fn some_fit(groups: &Groups) -> bool
-    ensures { (result ≡ true) ↔ Possible (sheet_in groups.now.table groups.now.size) }
+    ensures { (result ≡ true) ↔ Possible (sheet_in groups.now.table.now groups.now.size) }
 {
     measure(groups, &mut Measured::new())
 }

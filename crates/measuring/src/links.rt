@@ -27,7 +27,7 @@ impl Links {
 
     // Links the sons of all groups. They are linked where they lie, since a table that is handed out is copied.
     pub fn link_sons(&mut self, groups: &Groups)
-        ensures { let s = sheet_in groups.now.table groups.now.size in Chained s self.new.last self.new.prev s.size }
+        ensures { let s = sheet_in groups.now.table.now groups.now.size in Chained s self.new.last self.new.prev s.size }
     {
         self.last[0] = None;
         self.prev[0] = None;

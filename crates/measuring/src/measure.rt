@@ -19,17 +19,17 @@ use tables::groups::{GroupNo, Groups};
 // What measuring reads: the groups, where one member may be in each, and the chains of their sons.
 #[derive(Clone, Copy)]
 struct Reading<'a> {
-    groups: &'a Groups,
+    groups: &'a Groups<'a>,
     flags: &'a [May],
     links: &'a Links,
     ghost flagged: { groups.now.size ≤ length flags.now },
-    ghost chained: { let s = sheet_in groups.now.table groups.now.size in Chained s links.now.last links.now.prev s.size },
+    ghost chained: { let s = sheet_in groups.now.table.now groups.now.size in Chained s links.now.last links.now.prev s.size },
 }
 
 // whether the sons alone must make up a group
 fn is_shut(reading: &Reading, g: GroupNo) -> bool
-    requires { Group (sheet_in reading.now.groups.now.table reading.now.groups.now.size) g.0 }
-    ensures { result ≡ fold.shut (sheet_in reading.now.groups.now.table reading.now.groups.now.size) g.0 }
+    requires { Group (sheet_in reading.now.groups.now.table.now reading.now.groups.now.size) g.0 }
+    ensures { result ≡ fold.shut (sheet_in reading.now.groups.now.table.now reading.now.groups.now.size) g.0 }
 {
     let mode = reading.groups.get(g).mode;
     match reading.links.last(g) {
@@ -41,8 +41,8 @@ fn is_shut(reading: &Reading, g: GroupNo) -> bool
 
 // a group's own bounds, where its flag allows them
 fn own_of(reading: &Reading, g: GroupNo) -> Pair
-    requires { Group (sheet_in reading.now.groups.now.table reading.now.groups.now.size) g.0 }
-    ensures { let s = sheet_in reading.now.groups.now.table reading.now.groups.now.size in
+    requires { Group (sheet_in reading.now.groups.now.table.now reading.now.groups.now.size) g.0 }
+    ensures { let s = sheet_in reading.now.groups.now.table.now reading.now.groups.now.size in
         AlikeBoth (pair_of result) (fold.own s (may_in reading.now.flags.now) g.0) }
 {
     let group = reading.groups.get(g);
@@ -52,11 +52,11 @@ fn own_of(reading: &Reading, g: GroupNo) -> Pair
 // Measures group g and all groups below it.
 #[cycle(measure_group_measure_sons)]
 fn measure_group(reading: &Reading, measured: &mut Measured, g: GroupNo)
-    requires { Group (sheet_in reading.now.groups.now.table reading.now.groups.now.size) g.0 }
-    ensures done { let s = sheet_in reading.now.groups.now.table reading.now.groups.now.size in
+    requires { Group (sheet_in reading.now.groups.now.table.now reading.now.groups.now.size) g.0 }
+    ensures done { let s = sheet_in reading.now.groups.now.table.now reading.now.groups.now.size in
         Done s (fold.spans_of s (may_in reading.now.flags.now)) g.0 0
         measured.old.spans measured.old.after measured.new.spans measured.new.after }
-    ensures spanned { let s = sheet_in reading.now.groups.now.table reading.now.groups.now.size in
+    ensures spanned { let s = sheet_in reading.now.groups.now.table.now reading.now.groups.now.size in
         Spanned (fold.spans_of s (may_in reading.now.flags.now)) measured.new.spans g.0 }
 {
     let below = measure_sons(reading, measured, g);
@@ -67,11 +67,11 @@ fn measure_group(reading: &Reading, measured: &mut Measured, g: GroupNo)
 // intervals of the sons after it are kept.
 #[cycle(measure_group_measure_sons)]
 fn measure_sons(reading: &Reading, measured: &mut Measured, g: GroupNo) -> Pair
-    requires { Group (sheet_in reading.now.groups.now.table reading.now.groups.now.size) g.0 }
-    ensures done { let s = sheet_in reading.now.groups.now.table reading.now.groups.now.size in
+    requires { Group (sheet_in reading.now.groups.now.table.now reading.now.groups.now.size) g.0 }
+    ensures done { let s = sheet_in reading.now.groups.now.table.now reading.now.groups.now.size in
         Done s (fold.spans_of s (may_in reading.now.flags.now)) g.0 0
         measured.old.spans measured.old.after measured.new.spans measured.new.after }
-    ensures joined { let s = sheet_in reading.now.groups.now.table reading.now.groups.now.size in
+    ensures joined { let s = sheet_in reading.now.groups.now.table.now reading.now.groups.now.size in
         AlikeBoth (pair_of result) (fold.later s (fold.spans_of s (may_in reading.now.flags.now)) g.0 s.size) }
 {
     let kind = Kind::of(reading.groups.get(g).mode);
@@ -89,7 +89,7 @@ fn measure_sons(reading: &Reading, measured: &mut Measured, g: GroupNo) -> Pair
 // Measures all groups of a sheet.
 pub fn measure_sheet(groups: &Groups, flags: &[May], measured: &mut Measured)
     requires { groups.now.size ≤ length flags.now }
-    ensures { AllDone (sheet_in groups.now.table groups.now.size) (spans_in groups.now.table groups.now.size flags.now)
+    ensures { AllDone (sheet_in groups.now.table.now groups.now.size) (spans_in groups.now.table.now groups.now.size flags.now)
         measured.new.spans measured.new.after }
 {
     let mut links = Links::new();

@@ -1,9 +1,7 @@
 -- Laws of counts asked for between two ends: the sheet with narrowed bounds, and what sets that fit it show of the claim.
 use Prim.Native.Nat.{ℕ, suc, ◌≤◌, ◌+◌, ◌<◌, min, ◌-◌, max}
-use mathlib.Core.Path.{refl, ◌≡◌, sym, ap, subst, ◌∙◌}
-use Rattle.std.proofs.Props.{props}
+use mathlib.Core.Path.{refl, ◌≡◌, sym, ap, ◌∙◌}
 use Rattle.std.proofs.lemmas.List.{get_or_default}
-use Rattle.tables.specs.declared.table.Groups.{Groups}
 use mathlib.Core.Bool.{Bool, cond, true≢false, false, true, not}
 use lib.Dec.{eqb}
 use mathlib.Core.List.{List, []}
@@ -302,16 +300,8 @@ module _ (t : List TableGroup) (n g i : ℕ) (a : 1 ≤ g) (b : g ≤ n) (k : i 
 pub put_back : (t : List TableGroup) (i : ℕ) (d x : TableGroup) → set (set t i x) i (get_or t i d) ≡ t
 put_back t i d x = set-set t i x _ ∙ set-get_or t i d
 
--- the groups with an equal table
-tabled_once : (t : List TableGroup) (n : ℕ) → IsProp (Tabled t n)
-tabled_once t n = hlevel props
-
-pub same_groups : {t v : List TableGroup} {n : ℕ} → t ≡ v → (a : Tabled t n) (b : Tabled v n)
-    → ◌≡◌ {A = Groups} (record { table = t; size = n; tabled = a }) (record { table = v; size = n; tabled = b })
-same_groups {t} {n = n} e =
-    let P : List TableGroup → Type 0 = λ v. (a : Tabled t n) (b : Tabled v n)
-    → ◌≡◌ {A = Groups} (record { table = t; size = n; tabled = a }) (record { table = v; size = n; tabled = b }) in
-    subst P e (λ a b. ap (λ k. record { table = t; size = n; tabled = k }) (tabled_once t n a b))
+pub put_own : (t : List TableGroup) (i : ℕ) (d x : TableGroup) → d ≡ get_or t i d → set (set t i x) i d ≡ t
+put_own t i d x e = ap (set (set t i x) i) e ∙ put_back t i d x
 
 -- fewer than lo: at most lo - 1, where lo is not 0
 pub sized_under : {s : Sheet} {sizes marks : List ℕ} {x : Bool} (g lo k : ℕ) → k + 1 ≡ lo → k < no_end

@@ -23,7 +23,7 @@ fn ask_inside(
 ) -> bool
     requires asking { Asking groups.now.size sizes.old marks.old }
     requires listed { AllGroups groups.now.size (numbers_of left.now) × AllGroups groups.now.size (numbers_of right.now) }
-    ensures { Tried (sheet_in groups.now.table groups.now.size) inside (numbers_of left.now) (numbers_of right.now)
+    ensures { Tried (sheet_in groups.now.table.now groups.now.size) inside (numbers_of left.now) (numbers_of right.now)
         sizes.new marks.new result }
 {
     for &g in left {
@@ -44,7 +44,7 @@ fn ask_apart(
 ) -> bool
     requires asking { Asking groups.now.size sizes.old marks.old }
     requires listed { AllGroups groups.now.size (numbers_of left.now) × AllGroups groups.now.size (numbers_of right.now) }
-    ensures { Tried (sheet_in groups.now.table groups.now.size) apart (numbers_of left.now) (numbers_of right.now)
+    ensures { Tried (sheet_in groups.now.table.now groups.now.size) apart (numbers_of left.now) (numbers_of right.now)
         sizes.new marks.new result }
 {
     for &g in left {
@@ -68,7 +68,7 @@ pub fn ask_lists(
 ) -> bool
     requires asking { Asking groups.now.size sizes.old marks.old }
     requires listed { AllGroups groups.now.size (numbers_of left.now) × AllGroups groups.now.size (numbers_of right.now) }
-    ensures { Tried (sheet_in groups.now.table groups.now.size) (list_as kind) (numbers_of left.now) (numbers_of right.now)
+    ensures { Tried (sheet_in groups.now.table.now groups.now.size) (list_as kind) (numbers_of left.now) (numbers_of right.now)
         sizes.new marks.new result }
 {
     match kind {

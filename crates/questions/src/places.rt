@@ -20,7 +20,7 @@ pub fn ask_place(
 ) -> bool
     requires asking { Asking groups.now.size sizes.old marks.old }
     requires listed { AllGroups groups.now.size (numbers_of ins.now) × AllGroups groups.now.size (numbers_of outs.now) }
-    ensures { PlaceJudged (sheet_in groups.now.table groups.now.size) (numbers_of ins.now) (numbers_of outs.now)
+    ensures { PlaceJudged (sheet_in groups.now.table.now groups.now.size) (numbers_of ins.now) (numbers_of outs.now)
         sizes.new marks.new result }
 {
     let mut flags = [May::FREE; GROUP_CAPACITY];

@@ -21,8 +21,8 @@ use wire::refusals::{Fault, Refusal};
 
 // The ranges and the arrangement of a possible sheet, into a buffer with room for them.
 fn put(groups: &Groups, measured: &Measured, reply: &mut [u8])
-    requires { RangesReady groups.now.table groups.now.size measured.now.spans measured.now.after reply.old }
-    ensures { RangesWritten groups.now.table groups.now.size reply.old reply.new }
+    requires { RangesReady groups.now.table.now groups.now.size measured.now.spans measured.now.after reply.old }
+    ensures { RangesWritten groups.now.table.now groups.now.size reply.old reply.new }
 {
     let mut ranges = [Span::NOTHING; GROUP_CAPACITY];
     let mut rest = [Span::NOTHING; GROUP_CAPACITY];
@@ -36,7 +36,7 @@ fn put(groups: &Groups, measured: &Measured, reply: &mut [u8])
 
 // The reply under a sheet with these groups.
 pub fn give_ranges(groups: &Groups, reply: &mut [u8]) -> Result<u32, Fault>
-    ensures { Ranges (sheet_in groups.now.table groups.now.size) (call reply.old (returned result) reply.new) }
+    ensures { Ranges (sheet_in groups.now.table.now groups.now.size) (call reply.old (returned result) reply.new) }
 {
     let mut measured = Measured::new();
     if !measure(groups, &mut measured) {

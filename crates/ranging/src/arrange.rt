@@ -37,11 +37,11 @@ fn size_under(mode: Mode, own: Span, whole: u32, rest: u32) -> u32
 
 // the sizes of all groups
 fn size_groups(groups: &Groups, measured: &Measured, sizes: &mut [u32], left: &mut [u32])
-    requires arrangeable { Arrangeable groups.now.table groups.now.size measured.now.spans measured.now.after }
+    requires arrangeable { Arrangeable groups.now.table.now groups.now.size measured.now.spans measured.now.after }
     requires room { (groups.now.size ≤ length sizes.old) × (groups.now.size ≤ length left.old) }
     ensures { (first f : ℕ → ℕ)
-        → Arranged (sheet_in groups.now.table groups.now.size) (least_in measured.now.spans) (greatest_in measured.now.spans) first f
-        → (g : ℕ) → Group (sheet_in groups.now.table groups.now.size) g → number_in sizes.new g ≡ f g }
+        → Arranged (sheet_in groups.now.table.now groups.now.size) (least_in measured.now.spans) (greatest_in measured.now.spans) first f
+        → (g : ℕ) → Group (sheet_in groups.now.table.now groups.now.size) g → number_in sizes.new g ≡ f g }
 {
     let root = measured.spans[0].out;
     sizes[0] = root.least;
@@ -70,10 +70,10 @@ pub fn arrange(
     firsts: &mut [u32],
     ends: &mut [u32],
 )
-    requires arrangeable { Arrangeable groups.now.table groups.now.size measured.now.spans measured.now.after }
+    requires arrangeable { Arrangeable groups.now.table.now groups.now.size measured.now.spans measured.now.after }
     requires room { (groups.now.size ≤ length sizes.old) × (groups.now.size ≤ length firsts.old)
         × (groups.now.size ≤ length ends.old) }
-    ensures { Arranged (sheet_in groups.now.table groups.now.size) (least_in measured.now.spans)
+    ensures { Arranged (sheet_in groups.now.table.now groups.now.size) (least_in measured.now.spans)
         (greatest_in measured.now.spans) (number_in firsts.new) (number_in sizes.new) }
 {
     size_groups(groups, measured, sizes, ends);

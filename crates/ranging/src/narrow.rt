@@ -17,8 +17,8 @@ use tables::groups::{GroupNo, Groups};
 pub fn narrow(groups: &Groups, measured: &Measured, ranges: &mut [Span], rest: &mut [Span])
     requires { (groups.now.size ≤ length ranges.old) × (groups.now.size ≤ length rest.old) }
     ensures { (z : ℕ → Bool → sizes.Span)
-        → Measures (sheet_in groups.now.table groups.now.size) z measured.now.spans measured.now.after
-        → Ranged (sheet_in groups.now.table groups.now.size) z (span_in ranges.new) }
+        → Measures (sheet_in groups.now.table.now groups.now.size) z measured.now.spans measured.now.after
+        → Ranged (sheet_in groups.now.table.now groups.now.size) z (span_in ranges.new) }
 {
     let root = measured.spans[0].out;
     ranges[0] = root;

@@ -4,10 +4,12 @@ use mathlib.Core.Path.{◌≡◌, ◌∙◌, refl, ap, sym}
 use mathlib.Core.List.{List, []}
 use native.Mathlib.Omega.{arith}
 use borrow.Author.Tests.{ne_eqb, eqb-true}
+use denote.Enum.Declared.{tag_of}
 use lib.ListN.{drop, length, get_or, take, length-take, length-drop}
 use lib.Seq.{ext_get_or, get_or-take, get_or-drop}
 use lib.Dec.{eqb}
 use Rattle.records.specs.declared.record.Record.{Record}
+use Rattle.records.specs.contracts.record.Record.{the_type}
 use Rattle.wire.specs.declared.refusals.Refusal.{Refusal}
 use Rattle.claim_records.specs.declared.claim.Claim.{Claim}
 use Rattle.records.specs.declared.record.Head.{Head}
@@ -78,9 +80,20 @@ sort (group g) = 1
 sort (name n) = 2
 sort (claim c) = 3
 
+tag_sort : (s : List ℕ) (at : ℕ) (x : Record) → tag_of the_type x ≡ sort (record_as s at x).1
+unfolding record_as
+tag_sort s at (record_of.Head h) = refl
+tag_sort s at (record_of.Group g) = refl
+tag_sort s at (record_of.Name n) = refl
+tag_sort s at (record_of.Claim c) = refl
+
 sort_of : {tests : List ℕ → List Test} {value : List ℕ → Value} {s : List ℕ} {at : ℕ} {x : Record} → Handed tests value s at x →
     sort (record_as s at x).1 ≡ sort (value (drop at s))
 sort_of w = ap (λ p. sort p.1) w.carries
+
+pub tag_of_handed : {tests : List ℕ → List Test} {value : List ℕ → Value} {s : List ℕ} {at : ℕ} {x : Record} → Handed tests value s at x →
+    tag_of the_type x ≡ sort (value (drop at s))
+tag_of_handed {s = s} {at = at} {x = x} w = tag_sort s at x ∙ sort_of w
 
 module _ (s : List ℕ) (at : ℕ) where
   some_head : (x : Record) → sort (record_as s at x).1 ≡ 0 → ((h : Head) → x ≡ record_of.Head h → ⊥) → ⊥

@@ -22,7 +22,7 @@ pub fn give_check(
     register: &[u8],
     reply: &mut [u8],
 ) -> Result<u32, Fault>
-    ensures { Register register.now (edition_of edition) (sheet_in groups.now.table groups.now.size)
+    ensures { Register register.now (edition_of edition) (sheet_in groups.now.table.now groups.now.size)
         (call reply.old (returned result) reply.new) }
 {
     let mut counts = [0u32; GROUP_NUMBERS];

@@ -1,11 +1,12 @@
 // The check of a register: the lowest broken group with its first broken rule, once all rows are read.
-ghost use Rattle.std.specs.Prelude.{◌*◌, ◌≤◌, ◌+◌, ◌<◌, length, Ok};
+ghost use Rattle.std.specs.Prelude.{◌≡◌, ◌*◌, ◌≤◌, ◌+◌, ◌<◌, length, Ok};
 ghost use Rattle.wire.specs.Edition.{edition_of};
 ghost use Rattle.wire.specs.RegisterFormat.{read_register};
 ghost use Rattle.tables.specs.Groups.{mode_in, group_numbers};
 ghost use Rattle.tables.specs.SheetIn.{sheet_in};
 ghost use Rattle.columns.specs.Columns.{column_sets};
-ghost use Rattle.sons.specs.SonLists.{kept_sons};
+ghost use Rattle.rows.specs.RowsRead.{rows_give};
+ghost use Rattle.sons.specs.SonLists.{kept_sons, SonsListed};
 ghost use Rattle.sons.specs.SonSteps.{several_sons};
 ghost use Rattle.rules.specs.Asked.{Joinable};
 ghost use Rattle.rules.specs.Joins.{JoinedFor};
@@ -41,7 +42,7 @@ fn join_asked(
     joined: &mut SonColumns,
 )
     requires { (1 ≤ g.0) × (g.0 ≤ groups.now.size) × Joinable words sons.now g.0 }
-    ensures { JoinedFor (mode_in groups.now.table g.0) (several_sons sons.now g.0)
+    ensures { JoinedFor (mode_in groups.now.table.now g.0) (several_sons sons.now g.0)
         (kept_sons sons.now g.0) columns.now.words words joined.new.some joined.new.two }
 {
     if asks_sons(groups.get(g).mode, sons.several(g)) {
@@ -57,8 +58,8 @@ fn scan(
     sons: &Sons,
     counts: &[u32],
 ) -> Option<Broken>
-    requires { Gathered groups.now.table groups.now.size columns.now.words members sons.now counts.now }
-    ensures { AnswerTo (sheet_in groups.now.table groups.now.size) (column_sets columns.now.words members) (Ok result) }
+    requires { Gathered groups.now.table.now groups.now.size columns.now.words members sons.now counts.now }
+    ensures { AnswerTo (sheet_in groups.now.table.now groups.now.size) (column_sets columns.now.words members) (Ok result) }
 {
     let blocks = blocks_for(members);
     let words = BLOCK_WORDS * blocks;
@@ -89,6 +90,30 @@ fn scan(
     broken
 }
 
+// The rows of a register that was read. The columns are a function's first local: made behind a test, so large a table is cleared twice.
+fn check_rows(
+    groups: &Groups,
+    edition: u16,
+    register: &[u8],
+    rows: usize,
+    sons: &Sons,
+    counts: &mut [u32],
+) -> Option<Broken>
+    requires read { rows_give (edition_of edition) register.now (Ok rows) ≡ read_register (edition_of edition) groups.now.size register.now }
+    requires listed { SonsListed (sheet_in groups.now.table.now groups.now.size) sons.now }
+    requires room { group_numbers ≤ length counts.old }
+    ensures checked { Checked (sheet_in groups.now.table.now groups.now.size)
+        (read_register (edition_of edition) groups.now.size register.now) (Ok result) }
+    ensures tallied { Tallied (sheet_in groups.now.table.now groups.now.size)
+        (read_register (edition_of edition) groups.now.size register.now) counts.old counts.new }
+{
+    let mut columns = Columns::new();
+    let members = fill_columns(register, edition, groups.size, rows, &mut columns);
+    let words = BLOCK_WORDS * blocks_for(members);
+    count_groups(&columns, groups.size, words, counts);
+    scan(groups, &columns, members, sons, counts)
+}
+
 // The sons are gathered before the first row is read, and all rows are read before any rule is looked at. Of a register that is
 // read the count of each group is left in the table.
 pub fn check_register(
@@ -98,16 +123,13 @@ pub fn check_register(
     counts: &mut [u32],
 ) -> Result<Option<Broken>, Fault>
     requires { group_numbers ≤ length counts.old }
-    ensures checked { Checked (sheet_in groups.now.table groups.now.size)
+    ensures checked { Checked (sheet_in groups.now.table.now groups.now.size)
         (read_register (edition_of edition) groups.now.size register.now) result }
-    ensures tallied { Tallied (sheet_in groups.now.table groups.now.size)
+    ensures tallied { Tallied (sheet_in groups.now.table.now groups.now.size)
         (read_register (edition_of edition) groups.now.size register.now) counts.old counts.new }
 {
-    let sons = Sons::gather(groups);
+    let mut sons = Sons::NONE;
+    sons.gather(groups);
     let rows = read_rows(register, edition, groups.size)?;
-    let mut columns = Columns::new();
-    let members = fill_columns(register, edition, groups.size, rows, &mut columns);
-    let words = BLOCK_WORDS * blocks_for(members);
-    count_groups(&columns, groups.size, words, counts);
-    Ok(scan(groups, &columns, members, &sons, counts))
+    Ok(check_rows(groups, edition, register, rows, &sons, counts))
 }

@@ -29,11 +29,11 @@ fn start_under(mode: Mode, first: u32, ended: u32, size: u32, own: u32) -> u32
 
 // group g, other than the root, gets its start
 fn start_son(groups: &Groups, sizes: &[u32], firsts: &mut [u32], ends: &mut [u32], g: GroupNo)
-    requires startable { Startable groups.now.table groups.now.size sizes.now firsts.old ends.old }
+    requires startable { Startable groups.now.table.now groups.now.size sizes.now firsts.old ends.old }
     requires le_g { (2 ≤ g.0) × (g.0 ≤ groups.now.size) }
-    requires started { Started (sheet_in groups.now.table groups.now.size) (number_in sizes.now) (number_in firsts.old)
+    requires started { Started (sheet_in groups.now.table.now groups.now.size) (number_in sizes.now) (number_in firsts.old)
         (number_in ends.old) (g.0 - 1) }
-    ensures { Started (sheet_in groups.now.table groups.now.size) (number_in sizes.now) (number_in firsts.new)
+    ensures { Started (sheet_in groups.now.table.now groups.now.size) (number_in sizes.now) (number_in firsts.new)
         (number_in ends.new) g.0 }
 {
     let parent = groups.parent(g);
@@ -53,8 +53,8 @@ fn start_son(groups: &Groups, sizes: &[u32], firsts: &mut [u32], ends: &mut [u32
 
 // The first member of each group in `firsts`; `ends` is written over.
 pub fn start_runs(groups: &Groups, sizes: &[u32], firsts: &mut [u32], ends: &mut [u32])
-    requires { Startable groups.now.table groups.now.size sizes.now firsts.old ends.old }
-    ensures { Told (sheet_in groups.now.table groups.now.size) (number_in sizes.now) (number_in firsts.new) }
+    requires { Startable groups.now.table.now groups.now.size sizes.now firsts.old ends.old }
+    ensures { Told (sheet_in groups.now.table.now groups.now.size) (number_in sizes.now) (number_in firsts.new) }
 {
     firsts[0] = 1;
     ends[0] = 1;

@@ -1,5 +1,5 @@
-// What a name means: a group, or the empty set.
-ghost use Rattle.std.specs.Prelude.{◌≡◌};
+// What a name means: a group, or the empty set. The table of names is reached by a name's number.
+ghost use Rattle.std.specs.Prelude.{◌≡◌, ◌-◌, ◌≤◌, length, get_or, None};
 ghost use Rattle.tables.specs.Names.{Means, meant_number};
 
 use crate::groups::GroupNo;
@@ -26,4 +26,12 @@ pub fn number_meant(group: Option<GroupNo>) -> u16
         None => 0,
         Some(g) => g.0,
     }
+}
+
+// what a name means, by the table of names
+pub fn meant_by(names: &[Option<GroupNo>], name: NameNo) -> Option<GroupNo>
+    requires { (1 ≤ name.0) × (name.0 ≤ length names.now) }
+    ensures { result ≡ get_or names.now (name.0 - 1) None }
+{
+    names[name.0 as usize - 1]
 }

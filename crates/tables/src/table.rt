@@ -5,20 +5,19 @@ ghost use Rattle.tables.specs.Entry.{no_group};
 ghost use Rattle.tables.specs.SheetIn.{sheet_in, Tabled};
 
 use crate::groups::{Group, GroupNo};
-use crate::limits::GROUP_CAPACITY;
 
-// The groups of a readable sheet: a tree with group 1 as its root, in the first entries of a table.
+// The groups of a readable sheet: a tree with group 1 as its root, in the first entries of a table that is lent.
 #[derive(Clone, Copy)]
-pub struct Groups {
-    pub table: [Group; GROUP_CAPACITY],
+pub struct Groups<'a> {
+    pub table: &'a [Group],
     pub size: u16,
-    ghost tabled: { Tabled table size },
+    ghost tabled: { Tabled table.now size },
 }
 
-impl Groups {
+impl<'a> Groups<'a> {
     pub fn get(&self, g: GroupNo) -> Group
         requires { (1 ≤ g.0) × (g.0 ≤ self.now.size) }
-        ensures { result ≡ get_or self.now.table (g.0 - 1) no_group }
+        ensures { result ≡ get_or self.now.table.now (g.0 - 1) no_group }
     {
         self.table[g.index()]
     }
@@ -26,7 +25,7 @@ impl Groups {
     // the parent of a group other than the root
     pub fn parent(&self, g: GroupNo) -> GroupNo
         requires { (2 ≤ g.0) × (g.0 ≤ self.now.size) }
-        ensures { Son (sheet_in self.now.table self.now.size) result.0 g.0 × (1 ≤ result.0) × (result.0 < g.0) }
+        ensures { Son (sheet_in self.now.table.now self.now.size) result.0 g.0 × (1 ≤ result.0) × (result.0 < g.0) }
     {
         match self.get(g).parent {
             Some(parent) => parent,

@@ -19,15 +19,20 @@ invariant_of-groups c =
     let w = c.requires in
     record { tabled = tabled _ _ _ _ w.reads refl w.held.room }
 
-pub returns-then-not-some_fit : goal.returns-then-not-some_fit
+pub give_verdict-requires-clause-tabled : goal.give_verdict-requires-clause-tabled
+give_verdict-requires-clause-tabled c =
+    let w = c.requires in
+    tabled _ _ _ _ w.reads refl w.held.room
+
+pub returns-then-not-some_fit-clause-verdict : goal.returns-then-not-some_fit-clause-verdict
 unfolding sheet_in
-returns-then-not-some_fit c =
+returns-then-not-some_fit-clause-verdict c =
     as_read (λ d. ClaimVerdict _ d _) c.requires.reads
     (once_none_fit (λ p. false≢true (sym c.if-not-some_fit.true ∙ c.some_fit.ensures.1 p)) (search rules))
 
-pub returns-then-claim-eq0 : goal.returns-then-claim-eq0
+pub returns-then-claim-eq0-clause-verdict : goal.returns-then-claim-eq0-clause-verdict
 unfolding sheet_in
-returns-then-claim-eq0 c =
+returns-then-claim-eq0-clause-verdict c =
     as_read (λ d. ClaimVerdict _ d _) c.requires.reads
     (once_some_fit (c.some_fit.ensures.0 c.if-not-some_fit.false)
     (record {
@@ -38,15 +43,15 @@ returns-then-claim-eq0 c =
       ]);
     }))
 
-pub give_verdict-requires : goal.give_verdict-requires
-give_verdict-requires c =
+pub give_verdict-requires-clause-askable : goal.give_verdict-requires-clause-askable
+give_verdict-requires-clause-askable c =
     let a = c.args in
     let w = c.requires in
     claim_askable a.head a.sheet.now a.tables.now w.reads w.held (omega (arith, w.held.limits.few_names)) (a.claim - 1) (omega arith)
 
-pub returns : goal.returns
+pub returns-clause-verdict : goal.returns-clause-verdict
 unfolding sheet_in
-returns c =
+returns-clause-verdict c =
     let a = c.args in
     let w = c.requires in
     as_read (λ d. ClaimVerdict _ d _) w.reads
@@ -56,5 +61,5 @@ returns c =
       numbered = λ i j.
           verdict_as _ _
           (claim_told a.head a.sheet.now a.tables.now w.reads w.held (omega (arith, w.held.limits.few_names)) (a.claim - 1) (omega arith) a.claim refl)
-          c.give_verdict.ensures;
+          c.give_verdict.ensures.verdict;
     }))

@@ -19,14 +19,17 @@ use Rattle.claim_reply.proofs.give_verdict.Goals as goal
 
 pub decide-decision-requires : goal.decide-decision-requires
 decide-decision-requires c =
-    let room = c.args.groups.now.tabled.small in (
-      record { sizes_long = simp length-replicate room; marks_long = simp length-replicate room },
-      c.requires,
-      simp length-replicate room,
-    )
+    let room = c.requires.tabled.small in record {
+      tabled = c.requires.tabled;
+      asking = (
+        record { sizes_long = simp length-replicate room; marks_long = simp length-replicate room },
+        c.requires.askable,
+        simp length-replicate room,
+      );
+    }
 
-pub returns-in-Alone : goal.returns-in-Alone
-returns-in-Alone c =
+pub returns-in-Alone-clause-verdict : goal.returns-in-Alone-clause-verdict
+returns-in-Alone-clause-verdict c =
     let told = c.in-Alone.is in
     let a = c.args in
     let w = c.decide-decision.ensures.decided in
@@ -36,18 +39,18 @@ returns-in-Alone c =
       alone = λ h. room_said refl (λ out. subst (λ k. VerdictIn k out) v) c.give_alone.ensures;
     })
 
-pub returns-in-Shown : goal.returns-in-Shown
-returns-in-Shown c =
+pub returns-in-Shown-clause-verdict : goal.returns-in-Shown-clause-verdict
+returns-in-Shown-clause-verdict c =
     let told = c.in-Shown.is in
     let a = c.args in
-    let n = a.groups.now.size in
-    let T = a.groups.now.tabled in
-    let size = size_in a.groups.now.table n in
+    let n = a.size in
+    let T = c.requires.tabled in
+    let size = size_in a.groups.now n in
     let d = c.decide-decision in
     let w = d.ensures.decided in
     let v = rw told at w.verdict in
     let y = w.shown (ap decision_shows told) in
-    let known = asked_speaks a.sheet.now a.claim c.requires in
+    let known = asked_speaks a.sheet.now a.claim c.requires.askable in
     let e : length (take n d.new.marks) ≡ n = length-take-le n d.new.marks (omega (arith, T.small)) in
     answering_verdict (claim_meant a.names.now (claim_record a.sheet.now a.claim)) (record {
       shown = λ h. room_said (ap (λ m. verdict_bytes + shown_bytes * m) (e ∙ sym size))

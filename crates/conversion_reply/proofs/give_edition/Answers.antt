@@ -23,4 +23,4 @@ returns c =
     let l = c.in_ok-room.ensures in
     let size = length-sets sheet 4 (le16 a.edition) in
     once_stored (sets sheet 4 (le16 a.edition)) (rw size l)
-    (edition_over a.edition sheet a.reply.now c.requires.0 l c.copy_from_slice.ensures.after c.put_u16.ensures) (ap (packed 0) (sym size))
+    (edition_over a.edition sheet a.reply.now c.requires.0 l c.put_bytes.ensures c.put_u16.ensures) (ap (packed 0) (sym size))

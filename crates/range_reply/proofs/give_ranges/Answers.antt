@@ -17,12 +17,12 @@ pub returns-in_err-room : goal.returns-in_err-room
 returns-in_err-room c =
     let t = c.args.groups.now in
     once_some_fit (c.measure.ensures.told.0 c.if-not-measure.false)
-    (once_short (omega (arith, size_in t.table t.size, c.in_err-room.ensures.0)) (too_short _ _ c.from_residual.ensures.1 c.in_err-room.ensures.1))
+    (once_short (omega (arith, size_in t.table.now t.size, c.in_err-room.ensures.0)) (too_short _ _ c.from_residual.ensures.1 c.in_err-room.ensures.1))
 
 pub returns : goal.returns
 returns c =
     let a = c.args.groups.now in
     let put = c.put.ensures in
     once_some_fit (c.measure.ensures.told.0 c.if-not-measure.false)
-    (room_said (ap (λ m. range_bytes * m) (sym (size_in a.table a.size))) (λ out p. p)
+    (room_said (ap (λ m. range_bytes * m) (sym (size_in a.table.now a.size))) (λ out p. p)
     (once_written _ c.in_ok-room.ensures put.wrote put.ranges))

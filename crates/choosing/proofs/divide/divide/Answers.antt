@@ -53,19 +53,19 @@ loop-n-preserved c =
 pub returns : goal.returns
 returns c =
     let g = c.args.groups.now in
-    let s = sheet_in g.table g.size in
+    let s = sheet_in g.table.now g.size in
     let i = c.loop-n.invariant in
-    let e : c.loop-n.n - 1 ≡ s.size = omega (arith, size_in g.table g.size, g.tabled.some) in
+    let e : c.loop-n.n - 1 ≡ s.size = omega (arith, size_in g.table.now g.size, g.tabled.some) in
     divided_all g.tabled.tree
     (subst (DividedTo s (pair_in c.args.measured.now.spans) c.loop-n.sizes c.loop-n.marks c.loop-n.left) e i.divided) i.root i.state
 
 pub returns-2 : goal.returns-2
 returns-2 c =
     let g = c.args.groups.now in
-    let s = sheet_in g.table g.size in
+    let s = sheet_in g.table.now g.size in
     let i = c.loop-n.invariant in
     let d = c.divide_son in
-    let e : c.loop-n.n ≡ s.size = omega (arith, size_in g.table g.size) in
+    let e : c.loop-n.n ≡ s.size = omega (arith, size_in g.table.now g.size) in
     divided_all g.tabled.tree
     (subst (DividedTo s (pair_in c.args.measured.now.spans) d.new.sizes d.new.marks d.new.left) e d.ensures.given)
     (d.ensures.root_unchanged.0 ∙ i.root) (d.ensures.root_unchanged.1 ∙ i.state)

@@ -4,7 +4,7 @@ use Rattle.claims.proofs.decide.decide.Goals as goal
 
 pub returns-then-judge-clause-decided : goal.returns-then-judge-clause-decided
 returns-then-judge-clause-decided c =
-    let k = c.args.groups.now.tabled in
+    let k = c.requires.tabled in
     let j = c.judge.ensures in
     let d = j.judged.found c.if-judge.true in
     let t = rw j.groups_unchanged at c.start_runs.ensures in

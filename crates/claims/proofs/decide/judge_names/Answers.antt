@@ -28,7 +28,7 @@ pub returns : goal.returns
 returns c =
     let a = c.args in
     let w = c.requires.1 in
-    let size = size_in a.groups.now.table a.groups.now.size in
+    let size = size_in a.groups.now.table.now a.groups.now.size in
     let n = meant_length a.sheet.now a.lists.at a.lists.m a.names.now in
     let m = c.groups_meant-m.ensures.value in
     let whole : is_place (list_as a.lists.kind) ≡ true

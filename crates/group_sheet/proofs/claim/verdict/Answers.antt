@@ -15,4 +15,4 @@ give_claim-requires c =
 pub returns : goal.returns
 returns c =
     let e = loaded_sheet c.load_sheet.ensures _ c.in_ok-head.was in
-    record { turned = λ n k f. absurd (read_not_refused e f); passed = c.give_claim.ensures }
+    record { turned = λ n k f. absurd (read_not_refused e f); passed = c.give_claim.ensures.verdict }

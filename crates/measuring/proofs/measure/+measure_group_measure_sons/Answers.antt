@@ -19,26 +19,26 @@ use Rattle.measuring.proofs.measure.+measure_group_measure_sons.Goals as goal
 pub measure_group-bounds-measured-index : goal.measure_group-bounds-measured-index
 measure_group-bounds-measured-index t c =
     let g = c.args.reading.now.groups.now in
-    omega (arith, size_in g.table g.size, g.tabled.small)
+    omega (arith, size_in g.table.now g.size, g.tabled.small)
 
 pub measure_group-returns : goal.measure_group-returns
 measure_group-returns t c =
     let r = c.args.reading.now in
     let g = r.groups.now in
     let d = c.measure_sons-below.ensures in
-    let n : c.args.g.0 ≤ length c.measure_sons-below.new.measured.spans = omega (arith, size_in g.table g.size, g.tabled.small) in
-    let z = finished (spans_measured (sheet_in g.table g.size) (may_in r.flags.now) g.tabled.tree) c.requires
+    let n : c.args.g.0 ≤ length c.measure_sons-below.new.measured.spans = omega (arith, size_in g.table.now g.size, g.tabled.small) in
+    let z = finished (spans_measured (sheet_in g.table.now g.size) (may_in r.flags.now) g.tabled.tree) c.requires
     (pair_of c.measure_sons-below.result) (pair_of c.own_of.result) (pair_of c.meet.result) d.joined c.own_of.ensures c.meet.ensures in
     let p = put_alike z (pair_put c.measure_sons-below.new.measured.spans c.args.g.0 c.meet.result c.requires.first n) in
     rw c.index.ensures (record { done = done_put d.done p; spanned = p.put })
 
 pub measure_sons-get-requires : goal.measure_sons-get-requires
-measure_sons-get-requires t c = let g = c.args.reading.now.groups.now in omega (arith, size_in g.table g.size)
+measure_sons-get-requires t c = let g = c.args.reading.now.groups.now in omega (arith, size_in g.table.now g.size)
 
 pub measure_sons-last-next-requires : goal.measure_sons-last-next-requires
 measure_sons-last-next-requires t c =
     let g = c.args.reading.now.groups.now in
-    omega (arith, size_in g.table g.size, g.tabled.small)
+    omega (arith, size_in g.table.now g.size, g.tabled.small)
 
 pub measure_sons-loop-next-init : goal.measure_sons-loop-next-init
 measure_sons-loop-next-init t c =
@@ -50,7 +50,7 @@ pub measure_sons-measure_group-requires : goal.measure_sons-measure_group-requir
 measure_sons-measure_group-requires t c =
     let g = c.args.reading.now.groups.now in
     let k = c.loop-next.invariant.son c.in-Some.is in
-    (omega (arith, size_in g.table g.size, g.tabled.tree.before _ k.group, k.under), k.group)
+    (omega (arith, size_in g.table.now g.size, g.tabled.tree.before _ k.group, k.under), k.group)
 
 pub measure_sons-index-requires : goal.measure_sons-index-requires
 measure_sons-index-requires t c = (c.loop-next.invariant.son c.in-Some.is).group.first
@@ -59,7 +59,7 @@ pub measure_sons-bounds-measured-index : goal.measure_sons-bounds-measured-index
 measure_sons-bounds-measured-index t c =
     let g = c.args.reading.now.groups.now in
     let k = c.loop-next.invariant.son c.in-Some.is in
-    omega (arith, size_in g.table g.size, g.tabled.small, k.group.last)
+    omega (arith, size_in g.table.now g.size, g.tabled.small, k.group.last)
 
 pub measure_sons-index-requires-in-Some : goal.measure_sons-index-requires-in-Some
 measure_sons-index-requires-in-Some t c = (c.loop-next.invariant.son c.in-Some.is).group.first
@@ -68,13 +68,13 @@ pub measure_sons-bounds-measured-index-in-Some : goal.measure_sons-bounds-measur
 measure_sons-bounds-measured-index-in-Some t c =
     let g = c.args.reading.now.groups.now in
     let k = c.loop-next.invariant.son c.in-Some.is in
-    omega (arith, size_in g.table g.size, g.tabled.small, k.group.last)
+    omega (arith, size_in g.table.now g.size, g.tabled.small, k.group.last)
 
 pub measure_sons-join-sum-requires : goal.measure_sons-join-sum-requires
 measure_sons-join-sum-requires t c =
     let r = c.args.reading.now in
     let g = r.groups.now in
-    let s = sheet_in g.table g.size in
+    let s = sheet_in g.table.now g.size in
     let i = c.loop-next.invariant in
     let k = i.son c.in-Some.is in
     let m = spans_measured s (may_in r.flags.now) g.tabled.tree in (
@@ -86,7 +86,7 @@ pub measure_sons-before-next-requires : goal.measure_sons-before-next-requires
 measure_sons-before-next-requires t c =
     let g = c.args.reading.now.groups.now in
     let k = c.loop-next.invariant.son c.in-Some.is in
-    omega (arith, size_in g.table g.size, g.tabled.small, k.group.first, k.group.last)
+    omega (arith, size_in g.table.now g.size, g.tabled.small, k.group.first, k.group.last)
 
 pub measure_sons-loop-next-smaller : goal.measure_sons-loop-next-smaller
 measure_sons-loop-next-smaller t c =
@@ -100,8 +100,8 @@ measure_sons-loop-next-preserved t c =
     let m = c.measure_group.ensures in
     let e = c.in-Some.is in
     let k = c.loop-next.invariant.son e in
-    let n : c.in-Some.son.0 ≤ length c.measure_group.new.measured.after = omega (arith, size_in g.table g.size, g.tabled.small, k.group.last) in
-    let kind = c.of-kind.ensures ∙ ap (λ x. mode_kind x.mode.0) c.get.ensures ∙ sym (kind_in_law g.table g.size c.args.g.0 c.requires) in
+    let n : c.in-Some.son.0 ≤ length c.measure_group.new.measured.after = omega (arith, size_in g.table.now g.size, g.tabled.small, k.group.last) in
+    let kind = c.of-kind.ensures ∙ ap (λ x. mode_kind x.mode.0) c.get.ensures ∙ sym (kind_in_law g.table.now g.size c.args.g.0 c.requires) in
     rw (c.before-next.ensures, c.index.ensures)
     (at_next r.chained c.requires (pair_of c.join-sum.result) (pair_of (get_or c.measure_group.new.measured.spans (c.in-Some.son.0 - 1) no_pair))
     c.loop-next.invariant e m.done m.spanned

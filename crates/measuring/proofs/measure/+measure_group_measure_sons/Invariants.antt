@@ -18,7 +18,7 @@ decreases-measure_sons l = 2 * (l.reading.now.groups.now.size - l.g.0) + 1
 
 abbrev pub invariant-measure_sons-loop-next : goal.invariant-measure_sons-loop-next
 invariant-measure_sons-loop-next l =
-    let s = sheet_in l.reading.groups.now.table l.reading.groups.now.size in
+    let s = sheet_in l.reading.groups.now.table.now l.reading.groups.now.size in
     AtSon s (spans_of s (may_in l.reading.flags.now)) l.fn.g.0 l.next (pair_of l.sum)
     l.initial.measured.spans l.initial.measured.after l.measured.spans l.measured.after
 

@@ -17,28 +17,28 @@ use Rattle.measuring.proofs.measure.is_shut.Goals.{in_default-via-in-Some+else-i
 use Rattle.measuring.proofs.measure.is_shut.Goals as goal
 
 pub get-requires : goal.get-requires
-get-requires c = let g = c.args.reading.now.groups.now in omega (arith, size_in g.table g.size)
+get-requires c = let g = c.args.reading.now.groups.now in omega (arith, size_in g.table.now g.size)
 
 pub last-requires : goal.last-requires
-last-requires c = let g = c.args.reading.now.groups.now in omega (arith, size_in g.table g.size, g.tabled.small)
+last-requires c = let g = c.args.reading.now.groups.now in omega (arith, size_in g.table.now g.size, g.tabled.small)
 
 pub before-requires : goal.before-requires
 before-requires c =
     let r = c.args.reading.now in
     let g = r.groups.now in
     let k = last_son r.chained c.requires (sym c.last.ensures ∙ c.in-Some.is) in
-    omega (arith, size_in g.table g.size, g.tabled.small, k.group.first, k.group.last)
+    omega (arith, size_in g.table.now g.size, g.tabled.small, k.group.first, k.group.last)
 
 -- the modes of the group
-module _ (g : Groups) (n : ℕ) (k : Group (sheet_in g.table g.size) n) (x : TableGroup) (e : x ≡ get_or g.table (n - 1) no_group) where
-  same : (sheet_in g.table g.size).same n ≡ same_mode x.mode.0
-  same = same_in g.table g.size n k ∙ sym (ap (λ y. same_mode y.mode.0) e)
+module _ (g : Groups) (n : ℕ) (k : Group (sheet_in g.table.now g.size) n) (x : TableGroup) (e : x ≡ get_or g.table.now (n - 1) no_group) where
+  same : (sheet_in g.table.now g.size).same n ≡ same_mode x.mode.0
+  same = same_in g.table.now g.size n k ∙ sym (ap (λ y. same_mode y.mode.0) e)
 
-  disjoint : (sheet_in g.table g.size).disjoint n ≡ disjoint_mode x.mode.0
-  disjoint = disjoint_in g.table g.size n k ∙ sym (ap (λ y. disjoint_mode y.mode.0) e)
+  disjoint : (sheet_in g.table.now g.size).disjoint n ≡ disjoint_mode x.mode.0
+  disjoint = disjoint_in g.table.now g.size n k ∙ sym (ap (λ y. disjoint_mode y.mode.0) e)
 
-  cover : (sheet_in g.table g.size).cover n ≡ cover_mode x.mode.0
-  cover = cover_in g.table g.size n k ∙ sym (ap (λ y. cover_mode y.mode.0) e)
+  cover : (sheet_in g.table.now g.size).cover n ≡ cover_mode x.mode.0
+  cover = cover_in g.table.now g.size n k ∙ sym (ap (λ y. cover_mode y.mode.0) e)
 
 pub returns-then-is_some : goal.returns-then-is_some
 returns-then-is_some c =
@@ -67,7 +67,7 @@ pub returns-in_default : goal.returns-in_default
 returns-in_default c =
     let r = c.args.reading.now in
     let g = r.groups.now in
-    let s = sheet_in g.table g.size in
+    let s = sheet_in g.table.now g.size in
     let k = c.requires in
     let e = c.get.ensures in
     c.is_cover.ensures ∙ sym

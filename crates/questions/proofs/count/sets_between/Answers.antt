@@ -1,24 +1,24 @@
 -- `sets_between` meets its contract.
-use Rattle.std.proofs.Common.{refl, arith}
-use Rattle.questions.proofs.CountsLaws.{tabled_changed, sized_changed, put_back, same_groups}
+use Prim.Native.Nat.{max, min}
+use Rattle.std.proofs.Common.{ap, ◌∙◌, arith}
+use Rattle.questions.proofs.CountsLaws.{tabled_changed, sized_changed, put_own}
 use Rattle.questions.proofs.count.sets_between.Goals as goal
 
-pub invariant_of-groups-2 : goal.invariant_of-groups-2
-invariant_of-groups-2 c = record {
-  tabled = tabled_changed c.args.groups.now.table c.args.groups.now.size c.args.g.0 c.index-i.result c.requires.1 c.requires.2
-      c.index-i.ensures c.args.groups.now.tabled c.index-groups-i.result _ refl refl;
-}
-
-pub invariant_of-groups-3 : goal.invariant_of-groups-3
-invariant_of-groups-3 c = record {
-  tabled = rw put_back c.args.groups.now.tabled;
-}
+pub invariant_of-any_sets : goal.invariant_of-any_sets
+invariant_of-any_sets c =
+    let own = c.index-groups-i.is in
+    record {
+      tabled = tabled_changed c.args.groups.now c.args.size c.args.g.0 c.index-i.result c.requires.asked.1 c.requires.asked.2
+          c.index-i.ensures c.requires.tabled c.index-groups-i.result _ (ap (λ y. y.parent) own) (ap (λ y. y.mode) own);
+    }
 
 pub returns-clause-sized : goal.returns-clause-sized
 returns-clause-sized c =
-    sized_changed c.args.groups.now.table c.args.groups.now.size c.args.g.0 c.index-i.result c.requires.1 c.requires.2
-    c.index-i.ensures c.args.groups.now.tabled c.index-groups-i.result _ refl refl c.args.least c.args.most c.max.ensures
-    c.min.ensures (omega arith) c.any_sets-found.ensures
+    let own = c.index-groups-i.is in
+    sized_changed c.args.groups.now c.args.size c.args.g.0 c.index-i.result c.requires.asked.1 c.requires.asked.2
+    c.index-i.ensures c.requires.tabled c.index-groups-i.result _ (ap (λ y. y.parent) own) (ap (λ y. y.mode) own) c.args.least c.args.most
+    (c.max.ensures ∙ ap (λ y. max y.lo c.args.least) own) (c.min.ensures ∙ ap (λ y. min y.hi c.args.most) own) (omega arith)
+    c.any_sets-found.ensures
 
 pub returns-clause-groups_unchanged : goal.returns-clause-groups_unchanged
-returns-clause-groups_unchanged c = same_groups (put_back c.args.groups.now.table c.index-i.result _ _) _ _
+returns-clause-groups_unchanged c = put_own c.args.groups.now c.index-i.result c.index-groups-i.result _ c.index-groups-i.is

@@ -8,8 +8,8 @@ use Rattle.questions.proofs.lists.ask_apart.Given as goal
 
 abbrev pub invariant-loop-g : goal.invariant-loop-g
 invariant-loop-g l =
-    WayHad (sheet_in l.groups.table l.groups.size) apart (take l.g-index (numbers_of l.left)) (numbers_of l.right) → ⊥
+    WayHad (sheet_in l.groups.table.now l.groups.size) apart (take l.g-index (numbers_of l.left)) (numbers_of l.right) → ⊥
 
 abbrev pub invariant-loop-h : goal.invariant-loop-h
 invariant-loop-h l =
-    WayHad (sheet_in l.groups.table l.groups.size) apart (l.g.0 ∷ []) (take l.h-index (numbers_of l.right)) → ⊥
+    WayHad (sheet_in l.groups.table.now l.groups.size) apart (l.g.0 ∷ []) (take l.h-index (numbers_of l.right)) → ⊥

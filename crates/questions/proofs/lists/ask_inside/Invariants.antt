@@ -8,4 +8,4 @@ use Rattle.questions.proofs.lists.ask_inside.Given as goal
 
 abbrev pub invariant-loop-g : goal.invariant-loop-g
 invariant-loop-g l =
-    WayHad (sheet_in l.groups.table l.groups.size) inside (take l.g-index (numbers_of l.left)) (numbers_of l.right) → ⊥
+    WayHad (sheet_in l.groups.table.now l.groups.size) inside (take l.g-index (numbers_of l.left)) (numbers_of l.right) → ⊥

@@ -53,9 +53,9 @@ returns c =
     let t = c.args.groups.now in
     let ins = numbers_of c.args.ins.now in
     let outs = numbers_of c.args.outs.now in
-    let few : (sheet_in t.table t.size).size ≤ group_capacity = few_groups_law t.tabled in
+    let few : (sheet_in t.table.now t.size).size ≤ group_capacity = few_groups_law t.tabled in
     place_judged c.loop-h.flags ins outs _ (ap not c.is_empty.ensures ∙ some_groups c.args.ins.now) t.tabled.tree t.tabled.rooted
-    (rw (← size_in t.table t.size) at c.requires.listed.0)
+    (rw (← size_in t.table.now t.size) at c.requires.listed.0)
     (λ g q. place_flags ins outs
     (rw (all_taken c.args.ins.now c.loop-g.g-index (omega arith)) at c.loop-g.invariant.1)
     (rw (all_taken c.args.outs.now c.loop-h.h-index (omega arith)) at c.loop-h.invariant.1)

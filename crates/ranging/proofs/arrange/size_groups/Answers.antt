@@ -22,8 +22,8 @@ loop-n-init c = (
 
 -- one turn
 sized : (c : After-saturating_sub) → (first f : ℕ → ℕ)
-    → Arranged (sheet_in c.args.groups.now.table c.args.groups.now.size) (least_in c.args.measured.now.spans) (greatest_in c.args.measured.now.spans) first f
-    → SizedTo (sheet_in c.args.groups.now.table c.args.groups.now.size) f (number_in (set c.loop-n.sizes c.index-i.result c.size_under-count.result))
+    → Arranged (sheet_in c.args.groups.now.table.now c.args.groups.now.size) (least_in c.args.measured.now.spans) (greatest_in c.args.measured.now.spans) first f
+    → SizedTo (sheet_in c.args.groups.now.table.now c.args.groups.now.size) f (number_in (set c.loop-n.sizes c.index-i.result c.size_under-count.result))
     (number_in (set (set c.loop-n.left c.index-i.result c.size_under-count.result) c.index-j.result c.saturating_sub.result)) c.loop-n.n
 sized c first f a =
     let i = c.index-i.ensures in
@@ -43,10 +43,10 @@ loop-n-preserved c =
 
 pub returns : goal.returns
 returns c =
-    let long = size_in c.args.groups.now.table c.args.groups.now.size in
+    let long = size_in c.args.groups.now.table.now c.args.groups.now.size in
     λ first f a g q. (c.loop-n.invariant.1 first f a).found g q (omega (arith, q.last))
 
 pub returns-2 : goal.returns-2
 returns-2 c =
-    let long = size_in c.args.groups.now.table c.args.groups.now.size in
+    let long = size_in c.args.groups.now.table.now c.args.groups.now.size in
     λ first f a g q. (sized (goal.at.returns-2 c).After-saturating_sub first f a).found g q (omega (arith, q.last))

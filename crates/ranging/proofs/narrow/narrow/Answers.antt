@@ -28,8 +28,8 @@ loop-n-init c = (
 
 -- one turn
 turned : (c : After-meet) → (z : ℕ → Bool → Span)
-    → Measures (sheet_in c.args.groups.now.table c.args.groups.now.size) z c.args.measured.now.spans c.args.measured.now.after
-    → Narrowed (sheet_in c.args.groups.now.table c.args.groups.now.size) z (span_in (set c.loop-n.ranges c.index-i.result c.meet-range.result))
+    → Measures (sheet_in c.args.groups.now.table.now c.args.groups.now.size) z c.args.measured.now.spans c.args.measured.now.after
+    → Narrowed (sheet_in c.args.groups.now.table.now c.args.groups.now.size) z (span_in (set c.loop-n.ranges c.index-i.result c.meet-range.result))
     (span_in (set (set c.loop-n.rest c.index-i.result c.meet-range.result) c.index-j.result c.meet.result)) c.loop-n.n
 unfolding span_in pair_in
 turned c z m =
@@ -50,11 +50,11 @@ loop-n-preserved c =
 pub returns : goal.returns
 returns c =
     let t = c.args.groups.now in
-    let e : c.loop-n.n - 1 ≡ (sheet_in t.table t.size).size = omega (arith, size_in t.table t.size) in
+    let e : c.loop-n.n - 1 ≡ (sheet_in t.table.now t.size).size = omega (arith, size_in t.table.now t.size) in
     λ z m. narrowed_all t.tabled.tree t.tabled.rooted (rw e at (c.loop-n.invariant.1 z m))
 
 pub returns-2 : goal.returns-2
 returns-2 c =
     let t = c.args.groups.now in
-    let e : c.loop-n.n ≡ (sheet_in t.table t.size).size = omega (arith, size_in t.table t.size) in
+    let e : c.loop-n.n ≡ (sheet_in t.table.now t.size).size = omega (arith, size_in t.table.now t.size) in
     λ z m. narrowed_all t.tabled.tree t.tabled.rooted (rw e at (turned (goal.at.returns-2 c).After-meet z m))

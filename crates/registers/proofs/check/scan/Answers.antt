@@ -13,10 +13,10 @@ use Rattle.registers.proofs.check.scan.Goals.{else-is_of_members+else-count_brea
 use Rattle.registers.proofs.check.scan.Goals as goal
 
 -- the parent's number, which is below the group's
-parent : (c : After-unwrap_or-parent) → c.unwrap_or-parent.result.0 ≡ parent_in c.args.groups.now.table c.scan.g
+parent : (c : After-unwrap_or-parent) → c.unwrap_or-parent.result.0 ≡ parent_in c.args.groups.now.table.now c.scan.g
 parent c = rw (c.unwrap_or-parent.ensures, parent_number c.get.result.parent, c.get.ensures)
 
-below : (c : After-unwrap_or-parent) → parent_in c.args.groups.now.table c.scan.g < c.scan.g
+below : (c : After-unwrap_or-parent) → parent_in c.args.groups.now.table.now c.scan.g < c.scan.g
 below c = parent_below c.args.groups.now.tabled _ _ (omega arith) refl (omega arith)
 
 -- the rule's number
@@ -36,7 +36,7 @@ join_asked-requires c =
       omega arith,
       omega arith,
       record {
-        readable = sons_readable c.requires.sons (omega (arith, size_in t.table t.size, t.tabled.small)) (group_in_law _ _ (omega arith) (omega arith));
+        readable = sons_readable c.requires.sons (omega (arith, size_in t.table.now t.size, t.tabled.small)) (group_in_law _ _ (omega arith) (omega arith));
         most = c.blocks_for-blocks.ensures.most;
       },
     )

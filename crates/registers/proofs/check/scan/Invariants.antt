@@ -14,11 +14,11 @@ invariant-loop-b l = record {
 abbrev pub invariant-loop-rule : goal.invariant-loop-rule
 invariant-loop-rule l = record {
   fits : l.broken ≡ None;
-  rules : ClearRules (sheet_in l.groups.table l.groups.size) (column_sets l.columns.words l.fn.members) l.g (l.rule-index + 1);
+  rules : ClearRules (sheet_in l.groups.table.now l.groups.size) (column_sets l.columns.words l.fn.members) l.g (l.rule-index + 1);
 }
 
 abbrev pub invariant-scan : goal.invariant-scan
 invariant-scan l = record {
   fits : l.broken ≡ None;
-  groups : ClearGroups (sheet_in l.groups.table l.groups.size) (column_sets l.columns.words l.fn.members) l.g;
+  groups : ClearGroups (sheet_in l.groups.table.now l.groups.size) (column_sets l.columns.words l.fn.members) l.g;
 }

@@ -13,7 +13,7 @@ start_under-first-requires c =
     rw (c.index-i.ensures, c.index-j.ensures)
     (start_room c.args.groups.now.tabled w.balanced w.top _ c.args.g.0 c.parent-parent.ensures.0 c.requires.started)
 
-started : (c : After-start_under-first) → StartIs (sheet_in c.args.groups.now.table c.args.groups.now.size)
+started : (c : After-start_under-first) → StartIs (sheet_in c.args.groups.now.table.now c.args.groups.now.size)
     (number_in c.args.sizes.now) (number_in c.args.firsts.now) (number_in c.args.ends.now)
     c.parent-parent.result.0 c.args.g.0 c.start_under-first.result
 started c =
@@ -28,7 +28,7 @@ pub returns : goal.returns
 returns c =
     let w = c.requires.startable in
     let t = c.args.groups.now.tabled in
-    let long = size_in c.args.groups.now.table c.args.groups.now.size in
+    let long = size_in c.args.groups.now.table.now c.args.groups.now.size in
     rw (c.index-i.ensures, c.index-j.ensures)
     (started_by c.args.firsts.now c.args.ends.now _ c.args.g.0 _ t.tree t.rooted w.balanced w.top (omega arith) (omega arith)
     c.parent-parent.ensures.0 c.requires.started (started (goal.at.returns c).After-start_under-first))

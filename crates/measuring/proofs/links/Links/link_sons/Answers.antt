@@ -27,14 +27,14 @@ loop-n-preserved c =
 pub returns : goal.returns
 returns c =
     let g = c.args.groups.now in
-    let s = sheet_in g.table g.size in
-    let e : c.loop-n.n - 1 ≡ s.size = omega (arith, size_in g.table g.size, g.tabled.some) in
+    let s = sheet_in g.table.now g.size in
+    let e : c.loop-n.n - 1 ≡ s.size = omega (arith, size_in g.table.now g.size, g.tabled.some) in
     subst (Chained s c.loop-n.self.last c.loop-n.self.prev) e c.loop-n.invariant.chained
 
 pub returns-2 : goal.returns-2
 returns-2 c =
     let g = c.args.groups.now in
-    let s = sheet_in g.table g.size in
-    let e : c.loop-n.n ≡ s.size = omega (arith, size_in g.table g.size) in
+    let s = sheet_in g.table.now g.size in
+    let e : c.loop-n.n ≡ s.size = omega (arith, size_in g.table.now g.size) in
     subst (Chained s c.link.new.self.last c.link.new.self.prev) e
     (links_step _ _ _ _ _ c.loop-n.n _ c.parent.ensures.0 g.tabled.tree c.loop-n.invariant.chained c.link.ensures)

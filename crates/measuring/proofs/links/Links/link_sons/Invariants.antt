@@ -7,5 +7,5 @@ use Rattle.measuring.proofs.links.Links.link_sons.Given as goal
 abbrev pub invariant-loop-n : goal.invariant-loop-n
 invariant-loop-n l = record {
   most : l.n ≤ max l.groups.size 2;
-  chained : Chained (sheet_in l.groups.table l.groups.size) l.self.last l.self.prev (l.n - 1);
+  chained : Chained (sheet_in l.groups.table.now l.groups.size) l.self.last l.self.prev (l.n - 1);
 }

@@ -6,34 +6,34 @@ use Rattle.rows.proofs.RowLaws.{rows_most, rows_readable}
 use Rattle.columns.specs.Columns.{column_sets}
 use Rattle.registers.specs.Tallies.{Counted}
 use Rattle.registers.proofs.CheckLaws.{others_none, columns_counted, members_most, checked_columns, tallied_columns}
-use Rattle.registers.proofs.check.check_register.Goals.{After-count_groups}
-use Rattle.registers.proofs.check.check_register.Goals as goal
+use Rattle.registers.proofs.check.check_rows.Goals.{After-count_groups}
+use Rattle.registers.proofs.check.check_rows.Goals as goal
 
 -- the counts are those of the columns
 counted : (c : After-count_groups)
-    → Counted (sheet_in c.args.groups.now.table c.args.groups.now.size) (column_sets c.fill_columns-members.new.columns.words c.fill_columns-members.result)
+    → Counted (sheet_in c.args.groups.now.table.now c.args.groups.now.size) (column_sets c.fill_columns-members.new.columns.words c.fill_columns-members.result)
     c.count_groups.new.counts
 counted c =
     let t = c.args.groups.now in
-    let z = size_in t.table t.size in
+    let z = size_in t.table.now t.size in
     columns_counted _ (omega (arith, z, t.tabled.small)) c.fill_columns-members.ensures c.blocks_for-words.ensures (rw z c.count_groups.ensures)
 
 pub fill_columns-members-requires : goal.fill_columns-members-requires
 fill_columns-members-requires c =
-    let r = c.in_ok-rows.ensures in
+    let r = c.requires.read in
     (c.args.groups.now.tabled.small, (rows_most _ _ _ _ r, (rows_readable _ _ _ _ r, c.new-columns.ensures)))
 
 pub blocks_for-words-requires : goal.blocks_for-words-requires
-blocks_for-words-requires c = members_most _ _ _ _ c.in_ok-rows.ensures c.fill_columns-members.ensures
+blocks_for-words-requires c = members_most _ _ _ _ c.requires.read c.fill_columns-members.ensures
 
 pub scan-requires : goal.scan-requires
 scan-requires c =
     let t = c.args.groups.now in
-    let z = size_in t.table t.size in
+    let z = size_in t.table.now t.size in
     record {
-      members = members_most _ _ _ _ c.in_ok-rows.ensures c.fill_columns-members.ensures;
+      members = members_most _ _ _ _ c.requires.read c.fill_columns-members.ensures;
       others = λ h i y. others_none c.fill_columns-members.ensures h i y.first (omega (arith, y.last, z, t.tabled.small));
-      sons = c.gather-sons.ensures;
+      sons = c.requires.listed;
       long = omega arith;
       counts = counted (goal.at.scan-requires c).After-count_groups;
     }
@@ -41,10 +41,10 @@ scan-requires c =
 pub returns-clause-checked : goal.returns-clause-checked
 returns-clause-checked c =
     let t = c.args.groups.now in
-    checked_columns _ (omega (arith, size_in t.table t.size)) _ _ _ _ c.in_ok-rows.ensures c.fill_columns-members.ensures _ t.tabled.tree c.scan.ensures
+    checked_columns _ (omega (arith, size_in t.table.now t.size)) _ _ _ _ c.requires.read c.fill_columns-members.ensures _ t.tabled.tree c.scan.ensures
 
 pub returns-clause-tallied : goal.returns-clause-tallied
 returns-clause-tallied c =
     let t = c.args.groups.now in
-    tallied_columns _ (omega (arith, size_in t.table t.size)) _ _ _ _ c.in_ok-rows.ensures c.fill_columns-members.ensures _ _
+    tallied_columns _ (omega (arith, size_in t.table.now t.size)) _ _ _ _ c.requires.read c.fill_columns-members.ensures _ _
     (counted (goal.at.returns-clause-tallied c).After-count_groups)
