@@ -3,7 +3,7 @@
 // Document 01, "Meaning", "The arrangement" (denials), "Replies", refusals 8, 9 and 14; document 02, card 1.
 #![tactic(auto)]
 
-ghost use Rattle.std.specs.Prelude.{◌≡◌};
+ghost use Rattle.std.specs.Prelude.{◌≡◌, ℕ, List};
 ghost use Rattle.wire.specs.Record.{read};
 ghost use Rattle.wire.specs.SheetFormat.{Records, read_sheet};
 ghost use Rattle.tables.specs.SheetIn.{sheet_in, Tabled};
@@ -19,7 +19,6 @@ use claim_records::claim::Claim;
 use claims::decide::decide;
 use claims::decision::Decision;
 use measuring::fitting::some_fit;
-use reading::sheet_tables::Tables;
 use records::record::Head;
 use replies::{give_alone, give_shown};
 use tables::groups::{Group, GroupNo, Groups};
@@ -65,31 +64,27 @@ fn give_verdict(
 pub fn give_claim(
     sheet: &[u8],
     head: Head,
-    tables: &mut Tables,
+    groups: &mut [Group],
+    names: &[Option<GroupNo>],
+    claims: &[Claim],
     claim: u32,
     reply: &mut [u8],
 ) -> Result<u32, Fault>
-    requires { Asked (head_record head) sheet.now tables.old }
+    requires { (labels : List ℕ) × Asked (head_record head) sheet.now
+        (record { groups = groups.old; names = names.now; labels = labels; claims = claims.now }) }
     ensures verdict { (d : Records) → read_sheet sheet.now ≡ read d → ClaimVerdict claim d (call reply.old (returned result) reply.new) }
-    ensures tables_unchanged { tables.new ≡ tables.old }
+    ensures groups_unchanged { groups.new ≡ groups.old }
 {
-    let groups = Groups {
-        table: &tables.groups,
+    let all = Groups {
+        table: groups,
         size: head.groups,
     };
-    if !some_fit(&groups) {
+    if !some_fit(&all) {
         return Err(Refusal::Impossible.at(0));
     }
     if claim == 0 || (head.claims as u32) < claim {
         return Err(Refusal::NoSuchClaim.at(0));
     }
-    let asked = tables.claims[claim as usize - 1];
-    give_verdict(
-        sheet,
-        asked,
-        &tables.names,
-        &mut tables.groups,
-        head.groups,
-        reply,
-    )
+    let asked = claims[claim as usize - 1];
+    give_verdict(sheet, asked, names, groups, head.groups, reply)
 }

@@ -20,5 +20,13 @@ fn verdict(sheet: &[u8], claim: u32, reply: &mut [u8]) -> Result<u32, Fault>
 {
     let mut tables = Tables::new();
     let head = load_sheet(sheet, &mut tables)?;
-    give_claim(sheet, head, &mut tables, claim, reply)
+    give_claim(
+        sheet,
+        head,
+        &mut tables.groups,
+        &tables.names,
+        &tables.claims,
+        claim,
+        reply,
+    )
 }

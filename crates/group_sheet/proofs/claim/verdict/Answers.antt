@@ -1,4 +1,5 @@
 -- `verdict` meets its contract: the sheet's refusal, or the answer under it.
+use native.Mathlib.Omega.{arith}
 use Rattle.reading.proofs.LoadedLaws.{loaded_sheet, loaded_held, loaded_refused}
 use Rattle.replies.proofs.ReplyLaws.{read_not_refused, once_turned, turned}
 use Rattle.group_sheet.proofs.claim.verdict.Goals as goal
@@ -10,7 +11,7 @@ pub give_claim-requires : goal.give_claim-requires
 give_claim-requires c =
     let load = c.load_sheet.ensures in
     let told = c.in_ok-head.was in
-    record { reads = loaded_sheet load _ told; held = loaded_held load _ told }
+    (c.load_sheet.new.tables.labels, record { reads = loaded_sheet load _ told; held = loaded_held load _ told; room = omega arith })
 
 pub returns : goal.returns
 returns c =
