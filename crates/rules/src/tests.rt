@@ -1,7 +1,6 @@
 // The tests of the six rules: whether a rule can be broken at a group, which members of a word break it, whether some member of a block or
 // a count does.
 ghost use Rattle.std.specs.Prelude.{◌≡◌, ◌+◌, ◌*◌, ◌≤◌, ◌<◌, length, get_or};
-ghost use Rattle.wire.specs.Capacity.{group_capacity};
 ghost use Rattle.tables.specs.Groups.{parent_in};
 ghost use Rattle.columns.specs.Columns.{block_members};
 ghost use Rattle.sons.specs.SonSteps.{several_sons};
@@ -19,7 +18,7 @@ use tables::modes::Mode;
 
 // whether one of the rules 1 to 4 can be broken at a group with the parent p
 pub fn may_break(groups: &[Group], sons: &Sons, g: GroupNo, p: GroupNo, rule: u16) -> bool
-    requires { (1 ≤ g.0) × (g.0 ≤ length groups.now) × (g.0 ≤ group_capacity) × (p.0 < g.0) × (p.0 ≡ parent_in groups.now g.0) }
+    requires { (1 ≤ g.0) × (g.0 ≤ length groups.now) × (p.0 < g.0) × (p.0 ≡ parent_in groups.now g.0) }
     ensures { result ≡ may_break groups.now (several_sons sons.now g.0) g.0 rule }
 {
     match rule {

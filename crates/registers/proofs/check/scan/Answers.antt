@@ -45,7 +45,7 @@ pub may_break-requires : goal.may_break-requires
 may_break-requires c =
     let t = c.args.groups.now.tabled in
     let w = (goal.at.may_break-requires c).After-unwrap_or-parent in
-    (omega arith, omega (arith, t.long), omega (arith, t.small), omega (arith, parent w, below w), parent w)
+    (omega arith, omega (arith, t.long), omega (arith, parent w, below w), parent w)
 
 pub block_breaks-requires : goal.block_breaks-requires
 block_breaks-requires c =

@@ -7,18 +7,18 @@ use Rattle.rules.proofs.tests.may_break.Goals as goal
 
 pub returns-in-1 : goal.returns-in-1
 unfolding may_break
-returns-in-1 c = rw (c.in-1.is, c.requires.4)
+returns-in-1 c = rw (c.in-1.is, c.requires.3)
 
 pub returns-then-p-gt0 : goal.returns-then-p-gt0
 unfolding may_break
 returns-then-p-gt0 c =
     let read = c.index-groups-index.is in
     let e = sym read ∙ entry_read c.args.groups.now c.args.p.0 _ _ (omega arith) (omega arith) c.index.ensures read in
-    rw (c.in-2.is, ← c.requires.4, lt-ltb 0 c.args.p.0 c.if-p-gt0.true, c.is_same.ensures, e)
+    rw (c.in-2.is, ← c.requires.3, lt-ltb 0 c.args.p.0 c.if-p-gt0.true, c.is_same.ensures, e)
 
 pub returns-else-p-gt0 : goal.returns-else-p-gt0
 unfolding may_break
-returns-else-p-gt0 c = rw (c.in-2.is, ← c.requires.4, le-ltb 0 c.args.p.0 c.if-p-gt0.false)
+returns-else-p-gt0 c = rw (c.in-2.is, ← c.requires.3, le-ltb 0 c.args.p.0 c.if-p-gt0.false)
 
 pub returns-in-3 : goal.returns-in-3
 unfolding may_break
