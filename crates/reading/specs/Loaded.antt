@@ -72,6 +72,13 @@ pub record ClaimsGo (names first : ℕ) (s : List ℕ) (from count : ℕ) (r : R
   pub reads : Goes (claim_tests names) claim_of s from count first r (claims_in s claims count)
   pub held : Then (passed_as r) (λ at. AllHeld s names claims count)
 
+-- the tables have room for the largest sheet
+pub record Capacity (groups : List Group) (names : List (Option GroupNo)) (labels : List ℕ) (claims : List Claim) : Type 0 where
+  pub group_room : group_capacity ≤ length groups
+  pub name_room : name_limit ≤ length names
+  pub label_room : name_limit ≤ length labels
+  pub claim_room : claim_limit ≤ length claims
+
 -- the counts of a head are those of a sheet
 pub record HeadLimits (h : HeadRecord) : Type 0 where
   pub some_group : 1 ≤ h.groups

@@ -6,15 +6,14 @@ ghost use Rattle.wire.specs.Limits.{name_limit, claim_limit};
 ghost use Rattle.wire.specs.SheetFormat.{group_of, group_tests, read_groups, read_sheet};
 ghost use Rattle.tables.specs.Groups.{groups_in};
 ghost use Rattle.records.specs.Answers.{head_record};
-ghost use Rattle.reading.specs.Loaded.{Goes, NamesGo, ClaimsGo, HeadLimits, HeadLoads, Numbered, Loads, LoadsTree};
+ghost use Rattle.reading.specs.Loaded.{Goes, NamesGo, ClaimsGo, Capacity, HeadLimits, HeadLoads, Numbered, Loads, LoadsTree};
 
-use crate::sheet_tables::Tables;
 use claim_records::claim::Claim;
 use labels::used::{LABEL_HASHES, label_of, used_label};
 use records::read::{read_claim, read_group, read_head, read_name};
 use records::record::{Answer, Head, Record};
 use tables::groups::{Group, GroupNo};
-use tables::limits::{CLAIM_TABLE, GROUP_CAPACITY, NAME_TABLE};
+use tables::limits::{CLAIM_TABLE, NAME_TABLE};
 use wire::refusals::{Fault, Refusal};
 
 // the answer on the record of this number, as one on the sheet
@@ -25,13 +24,8 @@ fn numbered(answer: Answer, number: u32) -> Result<Record, Fault>
 }
 
 // the offset after the groups
-fn load_groups(
-    s: &[u8],
-    from: usize,
-    count: u16,
-    groups: &mut [Group; GROUP_CAPACITY],
-) -> Result<usize, Fault>
-    requires { (from ≤ length s.now) × (count ≤ group_capacity) }
+fn load_groups(s: &[u8], from: usize, count: u16, groups: &mut [Group]) -> Result<usize, Fault>
+    requires { (from ≤ length s.now) × ((count ≤ group_capacity) × (group_capacity ≤ length groups.old)) }
     ensures { Goes group_tests group_of s.now from count 2 result (groups_in groups.new count) }
 {
     let mut at = from;
@@ -51,10 +45,10 @@ fn load_names(
     s: &[u8],
     from: usize,
     head: Head,
-    names: &mut [Option<GroupNo>; NAME_TABLE],
-    labels: &mut [usize; NAME_TABLE],
+    names: &mut [Option<GroupNo>],
+    labels: &mut [usize],
 ) -> Result<usize, Fault>
-    requires { (from ≤ length s.now) × (head.names ≤ name_limit) }
+    requires { (from ≤ length s.now) × ((head.names ≤ name_limit) × ((name_limit ≤ length names.old) × (name_limit ≤ length labels.old))) }
     ensures { NamesGo (edition_of head.edition) head.groups s.now from head.names result names.new labels.new }
 {
     let mut seen = [false; LABEL_HASHES];
@@ -82,9 +76,10 @@ fn load_claims(
     from: usize,
     head: Head,
     first: u32,
-    claims: &mut [Claim; CLAIM_TABLE],
+    claims: &mut [Claim],
 ) -> Result<usize, Fault>
-    requires { (from ≤ length s.now) × ((head.claims ≤ claim_limit) × (first ≤ 2 + group_capacity + name_limit)) }
+    requires { (from ≤ length s.now) × ((head.claims ≤ claim_limit) × ((first ≤ 2 + group_capacity + name_limit)
+        × (claim_limit ≤ length claims.old))) }
     ensures { ClaimsGo head.names first s.now from head.claims result claims.new }
 {
     let mut at = from;
@@ -103,12 +98,12 @@ fn load_claims(
 fn load_records(
     s: &[u8],
     head: Head,
-    groups: &mut [Group; GROUP_CAPACITY],
-    names: &mut [Option<GroupNo>; NAME_TABLE],
-    labels: &mut [usize; NAME_TABLE],
-    claims: &mut [Claim; CLAIM_TABLE],
+    groups: &mut [Group],
+    names: &mut [Option<GroupNo>],
+    labels: &mut [usize],
+    claims: &mut [Claim],
 ) -> Result<Head, Fault>
-    requires { (12 ≤ length s.now) × HeadLimits (head_record head) }
+    requires { (12 ≤ length s.now) × (HeadLimits (head_record head) × Capacity groups.old names.old labels.old claims.old) }
     ensures { Loads result (read_groups (head_record head) (drop 12 s.now)) s.now
         (record { groups = groups.new; names = names.new; labels = labels.new; claims = claims.new }) }
 {
@@ -132,22 +127,24 @@ fn load_head(sheet: &[u8]) -> Result<Head, Fault>
     Ok(head)
 }
 
-pub fn load_sheet(sheet: &[u8], tables: &mut Tables) -> Result<Head, Fault>
-    ensures { Loads result (read_sheet sheet.now) sheet.now tables.new }
+pub fn load_sheet(
+    sheet: &[u8],
+    groups: &mut [Group],
+    names: &mut [Option<GroupNo>],
+    labels: &mut [usize],
+    claims: &mut [Claim],
+) -> Result<Head, Fault>
+    requires { Capacity groups.old names.old labels.old claims.old }
+    ensures { Loads result (read_sheet sheet.now) sheet.now
+        (record { groups = groups.new; names = names.new; labels = labels.new; claims = claims.new }) }
 {
     let head = load_head(sheet)?;
-    load_records(
-        sheet,
-        head,
-        &mut tables.groups,
-        &mut tables.names,
-        &mut tables.labels,
-        &mut tables.claims,
-    )
+    load_records(sheet, head, groups, names, labels, claims)
 }
 
 // for operations that need the groups only: names and claims are read, and not kept
-pub fn load_tree(sheet: &[u8], groups: &mut [Group; GROUP_CAPACITY]) -> Result<Head, Fault>
+pub fn load_tree(sheet: &[u8], groups: &mut [Group]) -> Result<Head, Fault>
+    requires { group_capacity ≤ length groups.old }
     ensures { LoadsTree result (read_sheet sheet.now) sheet.now groups.new }
 {
     let head = load_head(sheet)?;

@@ -38,8 +38,10 @@ module _ (h : HeadRecord) (s : List ℕ) (gs : List GroupRecord) {p : Result ℕ
 
 pub returns-in_err-at_names : goal.returns-in_err-at_names
 returns-in_err-at_names c =
+    let a = c.args in
+    let t : Tables = record { groups = c.load_groups.new.groups; names = a.names.now; labels = a.labels.now; claims = a.claims.now } in
     let p = err_from_is_err_and c.from_residual.result c.from_residual.ensures.1 in
-    rw (p.1, p.2) (turned_loads _ c.in_err-at_names.was (group_stage (head_record c.args.head) c.args.s.now 12 _ _ c.load_groups.ensures))
+    rw (p.1, p.2) (turned_loads _ {t = t} c.in_err-at_names.was (group_stage (head_record c.args.head) c.args.s.now 12 _ _ c.load_groups.ensures))
 
 pub load_names-requires : goal.load_names-requires
 load_names-requires c = (c.load_groups.ensures.room _ (went_on c.in_ok-at_names.was), omega arith)
@@ -94,7 +96,7 @@ returns c =
           ∙ to_end h s _ _ _ _ _ c.in_ok-end.was c.load_claims.ensures
           (to_claims h s _ _ _ _ c.in_ok-at_claims.was c.load_names.ensures (to_names h s _ c.in_ok-at_names.was c.load_groups.ensures));
       held = λ k e. let z : h ≡ k = cc in rw (← z) (record {
-        limits = c.requires.1;
+        limits = c.requires.1.0;
         room = omega arith;
         named = names_grouped s c.load_names.new.names c.load_names.new.labels h.names
             (c.load_names.ensures.grouped _ (went_on c.in_ok-at_claims.was));

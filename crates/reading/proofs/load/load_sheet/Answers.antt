@@ -9,7 +9,7 @@ returns-in_err-head c =
     rw (p.1, p.2) (head_turned c.in_err-head.ensures)
 
 pub load_records-requires : goal.load_records-requires
-load_records-requires c = head_read c.in_ok-head.ensures
+load_records-requires c = let h = head_read c.in_ok-head.ensures in (h.0, (h.1, c.requires))
 
 pub returns : goal.returns
 returns c = head_loads c.in_ok-head.ensures c.load_records.ensures

@@ -1,5 +1,5 @@
 -- The head, and then the records after it.
-use Rattle.std.proofs.Common.{[]}
+use Rattle.std.proofs.Common.{[], arith}
 use Rattle.std.proofs.lemmas.Result.{err_from_is_err_and}
 use Rattle.reading.proofs.Stages.{head_turned, head_read, head_loads}
 use Rattle.reading.proofs.load.load_tree.Goals as goal
@@ -10,7 +10,9 @@ returns-in_err-head c =
     rw (p.1, p.2) (record { names = []; labels = []; claims = []; loads = head_turned c.in_err-head.ensures })
 
 pub load_records-requires : goal.load_records-requires
-load_records-requires c = head_read c.in_ok-head.ensures
+load_records-requires c =
+    let h = head_read c.in_ok-head.ensures in
+    (h.0, (h.1, record { group_room = c.requires; name_room = omega arith; label_room = omega arith; claim_room = omega arith }))
 
 pub returns : goal.returns
 returns c = record {
