@@ -35,7 +35,13 @@ fn load_towards(sheet: &[u8], edition: u16) -> Result<Head, Fault>
     ensures { Way (edition_of edition) sheet.now result }
 {
     let mut tables = Tables::new();
-    let head = load_sheet(sheet, &mut tables)?;
+    let head = load_sheet(
+        sheet,
+        &mut tables.groups,
+        &mut tables.names,
+        &mut tables.labels,
+        &mut tables.claims,
+    )?;
     may_go(sheet, head, &tables.labels, edition)?;
     Ok(head)
 }

@@ -19,7 +19,13 @@ fn verdict(sheet: &[u8], claim: u32, reply: &mut [u8]) -> Result<u32, Fault>
     ensures { ClaimCall sheet.now claim (call reply.old (returned result) reply.new) }
 {
     let mut tables = Tables::new();
-    let head = load_sheet(sheet, &mut tables)?;
+    let head = load_sheet(
+        sheet,
+        &mut tables.groups,
+        &mut tables.names,
+        &mut tables.labels,
+        &mut tables.claims,
+    )?;
     give_claim(
         sheet,
         head,
