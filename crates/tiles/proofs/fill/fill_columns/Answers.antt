@@ -56,8 +56,26 @@ make_room-tiles-requires c =
     let p = c.loop.invariant.put in
     let wanted = room_wanted (stands here) p c.with_row-members.ensures in
     let most : c.with_row-members.result ≤ row_limit =
-    omega (arith, with_row_most c.in-Ok-Some.found.joined c.loop.members, c.with_row-members.ensures, few here, c.loop-test.true, c.requires.1.0) in
-    (search rules, (most, (wanted.0, (wanted.1, record { first = search (rules, p.within_groups); groups = p.within_groups; word = omega (arith, wanted.0, most); columns_long = search rules; transposed_long = search rules; spare_long = search rules }))))
+    omega (arith, with_row_most c.in-Ok-Some.found.joined c.loop.members, c.with_row-members.ensures, few here, c.loop-test.true, c.requires.1.0) in (
+      search rules,
+      (
+        most,
+        (
+          wanted.0,
+          (
+            wanted.1,
+            record {
+              first = search (rules, p.within_groups);
+              groups = p.within_groups;
+              word = omega (arith, wanted.0, most);
+              columns_long = search rules;
+              transposed_long = search rules;
+              spare_long = search rules;
+            },
+          ),
+        ),
+      ),
+    )
 
 pub put_row-requires : goal.put_row-requires
 put_row-requires c = (
