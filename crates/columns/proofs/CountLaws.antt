@@ -39,7 +39,7 @@ count_most t g zero = omega arith
 count_most t g (suc n) = omega (arith, count_most t g n, column_le t g n)
 
 -- so the ones of the first words of a column are the column's
-pub ones_column : (t : List ℕ) (g words : ℕ) → ((i : ℕ) → get_or t i 0 < 2 ^ 64) → column_word g words ≤ length t
+pub ones_column : (t : List ℕ) (g words : ℕ) → ((w : ℕ) → w < words → get_or t (column_word g w) 0 < 2 ^ 64) → column_word g words ≤ length t
     → sum_by ones (take words (drop (column_stride * g) t)) ≡ sum (column_digit t g) (word_bits * words)
 unfolding sum
 ones_column t g zero h l = refl
@@ -49,7 +49,7 @@ ones_column t g (suc w) h l =
     let more = sum_by_more ones column w 0 within in
     let same : column_stride * g + w ≡ column_word g w = omega arith in
     let one : get_or column w 0 ≡ get_or t (column_word g w) 0 = rw (get_or-drop (column_stride * g) t w 0, same) refl in
-    rw (← add-one w) (more ∙ (rw one (omega (arith, ones_column t g w h (omega arith), count_word t g w (h (column_word g w))))))
+    rw (← add-one w) (more ∙ (rw one (omega (arith, ones_column t g w (λ v o. h v (omega arith)) (omega arith), count_word t g w (h w (omega arith))))))
 
 -- columns that have no digit from member n on list n members
 pub column_count : (t : List ℕ) (g n m : ℕ) → n ≤ m → ((i : ℕ) → n ≤ i → i < m → column_digit t g i ≡ 0)
