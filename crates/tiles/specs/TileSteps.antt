@@ -1,14 +1,15 @@
 -- The steps to the columns: the words of a row go into a tile, which has 64 members, and a tile into one word of each column.
 -- Digits are by group and member.
-use Rattle.std.specs.Prelude.{ℕ, ◌+◌, ◌-◌, ◌*◌, ◌/◌, ◌%◌, ◌<◌, max, ◌≤◌, ◌≡◌, cond, List, get_or, eqb, leb, ltb}
+use Rattle.std.specs.Prelude.{ℕ, ◌+◌, ◌-◌, ◌*◌, ◌/◌, ◌%◌, ◌<◌, max, ◌≤◌, ◌≡◌, cond, List, length, get_or, eqb, leb, ltb}
 use Rattle.std.specs.Int.Bits.{bit_and}
 use Rattle.laws.specs.Sum.{bit}
 use Rattle.laws.specs.Digit.{digit}
 use Rattle.laws.specs.Lowest.{Lowest}
 use Rattle.wire.specs.Limits.{row_limit}
+use Rattle.wire.specs.Capacity.{group_capacity}
 use Rattle.wire.specs.Edition.{Edition}
 use Rattle.rows.specs.RowsRead.{word_bits, bit_at, row_words}
-use Rattle.columns.specs.Columns.{column_digit}
+use Rattle.columns.specs.Columns.{column_words, columns_length, column_digit}
 use Rattle.columns.specs.ColumnSteps.{Put, MembersPut, of_word}
 
 -- a tile has word k of its member i at 64 * k + i; the word's digits are the member's bits in 64 groups
@@ -59,6 +60,16 @@ first_groups t k g j = cond (ltb (g - 1) (word_bits * k)) (tile_digit t g j) 0
 
 abbrev pub TilePut : List ℕ → ℕ → ℕ → List ℕ → List ℕ → Type 0
 TilePut t k = MembersPut (first_groups t k)
+
+-- what it asks to put the first `words` words of a tile's members as word w of the columns: all are within the tables, and there are two
+-- tables to transpose in
+pub record TileRoom (words w : ℕ) (tile columns transposed spare : List ℕ) : Type 0 where
+  pub first : word_bits * words ≤ length tile
+  pub groups : word_bits * words ≤ group_capacity
+  pub word : w < column_words
+  pub columns_long : columns_length ≤ length columns
+  pub transposed_long : word_bits ≤ length transposed
+  pub spare_long : word_bits ≤ length spare
 
 -- the digits of columns, and of a tile that is to be their word w
 abbrev pub all_digits : List ℕ → List ℕ → ℕ → ℕ → ℕ → ℕ

@@ -1,16 +1,15 @@
 // The columns of a register that was read: its rows go into a tile, and each full tile into the columns. Rows that go on with one
 // member set its bits in the groups of each.
-ghost use Rattle.std.specs.Prelude.{◌≡◌, cond, ◌+◌, ◌<◌, ◌*◌, ◌≤◌};
+ghost use Rattle.std.specs.Prelude.{◌≡◌, cond, ◌+◌, ◌<◌, ◌*◌, ◌≤◌, length};
 ghost use Rattle.wire.specs.Capacity.{group_capacity};
 ghost use Rattle.wire.specs.Edition.{edition_of};
 ghost use Rattle.wire.specs.Limits.{row_limit};
 ghost use Rattle.rows.specs.RowsRead.{word_bits, rows_before, RowsReadable};
 ghost use Rattle.columns.specs.ColumnSteps.{Empty};
-ghost use Rattle.columns.specs.Columns.{ColumnsFilled};
+ghost use Rattle.columns.specs.Columns.{columns_length, ColumnsFilled};
 
-use crate::limits::TILE_MEMBERS;
-use crate::tile::Tile;
-use columns::table::Columns;
+use crate::limits::{TILE_MEMBERS, TILE_WORDS};
+use crate::tile::{make_room, put_row, put_tile};
 use rows::limits::WORD_BITS;
 use rows::reader::RowReader;
 
@@ -37,13 +36,15 @@ pub fn fill_columns(
     edition: u16,
     size: u16,
     rows: usize,
-    columns: &mut Columns,
+    columns: &mut [u64],
 ) -> usize
     requires { (size ≤ group_capacity) × ((rows ≤ row_limit)
-        × (RowsReadable (edition_of edition) register.now rows × Empty columns.old.words)) }
-    ensures { ColumnsFilled size (rows_before (edition_of edition) register.now rows) result columns.new.words }
+        × (RowsReadable (edition_of edition) register.now rows × ((columns_length ≤ length columns.old) × Empty columns.old))) }
+    ensures { ColumnsFilled size (rows_before (edition_of edition) register.now rows) result columns.new }
 {
-    let mut tile = Tile::new();
+    let mut tile = [0; TILE_WORDS];
+    let mut transposed = [0; TILE_MEMBERS];
+    let mut spare = [0; TILE_MEMBERS];
     let mut reader = RowReader::new(register, edition);
     let words = group_words(size);
     let mut members = 0;
@@ -53,10 +54,25 @@ pub fn fill_columns(
             unreachable!();
         };
         members = with_row(members, found.joined);
-        tiles = tile.make_room(words, members, tiles, columns);
+        tiles = make_room(
+            &mut tile,
+            words,
+            members,
+            tiles,
+            columns,
+            &mut transposed,
+            &mut spare,
+        );
         let i = members - 1 - TILE_MEMBERS * tiles;
-        tile.put_row(register, edition, found.bits, i);
+        put_row(register, edition, found.bits, i, &mut tile);
     }
-    tile.put(words, tiles, columns);
+    put_tile(
+        &mut tile,
+        words,
+        tiles,
+        columns,
+        &mut transposed,
+        &mut spare,
+    );
     members
 }

@@ -3,6 +3,9 @@
 use Prim.Native.Nat.{◌≤◌}
 use mathlib.Core.Path.{◌≡◌, ◌∙◌}
 use native.Mathlib.Omega.{arith}
+use borrow.Author.Rules.{rules}
+use Rattle.wire.specs.Capacity.{group_capacity}
+use Rattle.columns.proofs.ColumnLaws.{zeros_empty}
 use Rattle.std.specs.Prelude.{Ok, Some}
 use Rattle.wire.specs.Limits.{row_limit}
 use Rattle.wire.specs.Edition.{edition_of}
@@ -41,7 +44,7 @@ loop-init c =
       edition = r.1;
       reached = omega (arith, r.2);
       last = rw r.3 (last_start _ _);
-      put = rows_put_none _ _ _ c.group_words-words.ensures.1 _ _ c.requires.1.1.1 c.new-tile.ensures;
+      put = rows_put_none _ _ _ c.group_words-words.ensures.1 _ _ c.requires.1.1.1.1 (record { each = λ w l. (zeros_empty group_capacity).each w });
     }
 
 pub with_row-members-requires : goal.with_row-members-requires
@@ -54,12 +57,12 @@ make_room-tiles-requires c =
     let wanted = room_wanted (stands here) p c.with_row-members.ensures in
     let most : c.with_row-members.result ≤ row_limit =
     omega (arith, with_row_most c.in-Ok-Some.found.joined c.loop.members, c.with_row-members.ensures, few here, c.loop-test.true, c.requires.1.0) in
-    (p.within_groups, (most, (wanted.0, wanted.1)))
+    (search rules, (most, (wanted.0, (wanted.1, record { first = search (rules, p.within_groups); groups = p.within_groups; word = omega (arith, wanted.0, most); columns_long = search rules; transposed_long = search rules; spare_long = search rules }))))
 
 pub put_row-requires : goal.put_row-requires
 put_row-requires c = (
   held_within _ _ _ _ _ (found (goal.at.put_row-requires c).In-Ok-Some),
-  omega (arith, c.make_room-tiles.ensures.begun, c.make_room-tiles.ensures.within),
+  (omega (arith, c.make_room-tiles.ensures.begun, c.make_room-tiles.ensures.within), search rules),
 )
 
 pub loop-preserved : goal.loop-preserved
@@ -76,13 +79,22 @@ loop-preserved c =
       put = rows_put_more s l.put c.with_row-members.ensures c.make_room-tiles.ensures c.put_row.ensures;
     }
 
-pub put-requires : goal.put-requires
-put-requires c =
-    let p = c.loop.invariant.put in
-    (p.within_groups, tiles_within p (omega (arith, members_within _ _ c.loop.counter p.filled.number, c.loop.invariant.within, c.requires.1.0)))
+pub put_tile-requires : goal.put_tile-requires
+put_tile-requires c =
+    let p = c.loop.invariant.put in (
+      search rules,
+      record {
+        first = search (rules, p.within_groups);
+        groups = p.within_groups;
+        word = tiles_within p (omega (arith, members_within _ _ c.loop.counter p.filled.number, c.loop.invariant.within, c.requires.1.0));
+        columns_long = search rules;
+        transposed_long = search rules;
+        spare_long = search rules;
+      },
+    )
 
 pub returns : goal.returns
 returns c =
     let full : c.loop.counter ≡ c.args.rows = omega arith in
     let p = rw full at c.loop.invariant.put in
-    filled_columns _ c.group_words-words.ensures.0 p.within_groups p.filled c.put.ensures.0
+    filled_columns _ c.group_words-words.ensures.0 p.within_groups p.filled c.put_tile.ensures.0

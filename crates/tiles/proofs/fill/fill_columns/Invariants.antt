@@ -17,5 +17,5 @@ invariant-loop l =
       edition : l.reader.edition ≡ l.edition;
       reached : l.reader.at ≡ row_bytes (edition_of l.edition) * l.counter;
       last : key_member l.reader.last ≡ last_member (rows_before (edition_of l.edition) l.register l.counter);
-      put : RowsPut (edition_of l.edition) l.register l.words l.counter l.members l.columns.words l.tile.words l.tiles;
+      put : RowsPut (edition_of l.edition) l.register l.words l.counter l.members l.columns l.tile l.tiles;
     }

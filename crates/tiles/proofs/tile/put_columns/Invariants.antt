@@ -5,4 +5,4 @@ use Rattle.tiles.specs.TileSteps.{ColumnsPut}
 use Rattle.tiles.proofs.tile.put_columns.Given as goal
 
 abbrev pub invariant-loop-j : goal.invariant-loop-j
-invariant-loop-j l = (l.j ≤ word_bits) × ColumnsPut l.transposed l.before l.j l.w l.initial.columns.words l.columns.words
+invariant-loop-j l = (l.j ≤ word_bits) × ColumnsPut l.transposed l.before l.j l.w l.initial.columns l.columns

@@ -1,9 +1,9 @@
--- `tiles::tile::Tile::put_members` meets its contract. Invariant: the first i members are put.
+-- `tiles::tile::put_members` meets its contract. Invariant: the first i members are put.
 use native.Mathlib.Omega.{arith}
 use mathlib.Core.Path.{◌≡◌}
 use Rattle.rows.specs.RowsRead.{word_bits}
 use Rattle.tiles.proofs.TileLaws.{members_none, members_more, members_all}
-use Rattle.tiles.proofs.tile.Tile.put_members.Goals as goal
+use Rattle.tiles.proofs.tile.put_members.Goals as goal
 
 pub loop-i-init : goal.loop-i-init
 loop-i-init c = (omega arith, members_none _ _ _ _)

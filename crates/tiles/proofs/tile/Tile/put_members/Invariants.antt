@@ -1,8 +1,0 @@
--- `tiles::tile::Tile::put_members` meets its contract. Invariant: the first i members are put.
-use Prim.Native.Nat.{◌≤◌}
-use Rattle.rows.specs.RowsRead.{word_bits}
-use Rattle.tiles.proofs.TileLaws.{FirstMembers}
-use Rattle.tiles.proofs.tile.Tile.put_members.Given as goal
-
-abbrev pub invariant-loop-i : goal.invariant-loop-i
-invariant-loop-i l = (l.i ≤ word_bits) × FirstMembers l.self.words l.words l.i l.w l.initial.columns.words l.columns.words
