@@ -7,7 +7,6 @@ use native.Mathlib.Omega.{arith}
 use native.Mathlib.Numerals.{add-one}
 use lib.ListN.{get_or}
 use Rattle.tables.specs.declared.groups.Group.{Group as TableGroup}
-use Rattle.sons.specs.declared.lists.Sons.{Sons}
 use Rattle.laws.proofs.Cases.{compare_le, true_not_false, below_suc}
 use Rattle.meaning.specs.Sheet.{Sheet, Group}
 use Rattle.meaning.specs.SonList.{son_list}
@@ -92,8 +91,8 @@ rules_more : {X : Type 0} (s : Sheet) (A : Sets X) (g k : ℕ) → ClearRules s 
 rules_more s A g k c f =
     record { clear = λ q l b. below_suc (rule_number q) k (rw add-one at l) (λ x. f q x b) (λ x. c.clear q x b) }
 
-module _ {t : List TableGroup} {n : ℕ} {c : List ℕ} {members : ℕ} {kept : Sons} {counts : List ℕ} (T : Tabled t n)
-    (G : Gathered t n c members kept counts) where
+module _ {t : List TableGroup} {n : ℕ} {c : List ℕ} {members : ℕ} {starts : List ℕ} {order : List GroupNo}
+    {counts : List ℕ} (T : Tabled t n) (G : Gathered t n c members starts order counts) where
   -- nothing is broken at any group
   pub scan_fits : (g : ℕ) → n < g → ClearGroups (sheet_in t n) (column_sets c members) g
       → AnswerTo (sheet_in t n) (column_sets c members) (Ok None)
@@ -106,12 +105,12 @@ module _ {t : List TableGroup} {n : ℕ} {c : List ℕ} {members : ℕ} {kept : 
       }
 
   module _ {words : ℕ} {some two : List ℕ} (g k : ℕ) (a : 1 ≤ g) (b : g ≤ n) (f : WordsFor members words)
-      (sons : JoinedFor (mode_in t g) (several_sons kept g) (kept_sons kept g) c words some two)
+      (sons : JoinedFor (mode_in t g) (several_sons starts g) (kept_sons starts order g) c words some two)
       (r : ClearRules (sheet_in t n) (column_sets c members) g k) where
     group : Group (sheet_in t n) g
     group = group_in_law t n a b
 
-    joined : (q : Rule) → 3 ≤ rule_number q → may (sheet_in t n) (several_sons kept g) g q ≡ true
+    joined : (q : Rule) → 3 ≤ rule_number q → may (sheet_in t n) (several_sons starts g) g q ≡ true
         → Joined (son_list (sheet_in t n) g) c words some two
     joined q l m = rw (← G.sons.listed g group) (sons.joined (may_asked T g a b _ q l m))
 
@@ -121,18 +120,18 @@ module _ {t : List TableGroup} {n : ℕ} {c : List ℕ} {members : ℕ} {kept : 
     rules_member l to m d =
         rules_more (sheet_in t n) (column_sets c members) g k r
         (λ q e v.
-        let x = (member_of (sheet_in t n) T.tree c members words some two g f G.others group (several_sons kept g)
+        let x = (member_of (sheet_in t n) T.tree c members words some two g f G.others group (several_sons starts g)
         (two_sons G.sons group) joined q (omega arith) v).1 in
         members_clash e (parent_in_law t n g group) d x.0 (omega arith) x.2)
 
     -- the rule cannot be broken at the group
-    pub rules_not : k < 5 → may_break t (several_sons kept g) g k ≡ false → ClearRules (sheet_in t n) (column_sets c members) g (k + 1)
+    pub rules_not : k < 5 → may_break t (several_sons starts g) g k ≡ false → ClearRules (sheet_in t n) (column_sets c members) g (k + 1)
     rules_not l d =
         rules_more (sheet_in t n) (column_sets c members) g k r
         (λ q e v.
-        let x = (member_of (sheet_in t n) T.tree c members words some two g f G.others group (several_sons kept g)
+        let x = (member_of (sheet_in t n) T.tree c members words some two g f G.others group (several_sons starts g)
         (two_sons G.sons group) joined q (omega arith) v).0 in
-        true_not_false _ x (sym (may_is T g a b (several_sons kept g) q (omega arith)) ∙ (rw e d)))
+        true_not_false _ x (sym (may_is T g a b (several_sons starts g) q (omega arith)) ∙ (rw e d)))
 
     -- the count does not break the rule
     pub rules_count : 5 ≤ k → count_breaks t (get_or counts g 0) g k ≡ false
@@ -159,16 +158,16 @@ module _ {t : List TableGroup} {n : ℕ} {c : List ℕ} {members : ℕ} {kept : 
           }
 
       -- some member breaks it
-      pub scan_member : k < 5 → (from to : ℕ) → to ≤ word_bits * words → may_break t (several_sons kept g) g k ≡ true
+      pub scan_member : k < 5 → (from to : ℕ) → to ≤ word_bits * words → may_break t (several_sons starts g) g k ≡ true
           → (x : Bool) → SomeMember (member_breaks k c some two g (parent_in t g)) from to x → x ≡ true
           → AnswerTo (sheet_in t n) (column_sets c members) (Ok (Some p))
       scan_member l from to m y x z h =
           let q = rule_meant p.rule in
           let j = z.some h in
           scan_broken
-          (by_member (sheet_in t n) T.tree c members words some two g f G.others group (several_sons kept g) (two_sons G.sons group) joined
+          (by_member (sheet_in t n) T.tree c members words some two g f G.others group (several_sons starts g) (two_sons G.sons group) joined
           q j.0 (omega arith) (omega arith)
-          (sym (may_is T g a b (several_sons kept g) q (omega arith)) ∙ (rw (← i) y))
+          (sym (may_is T g a b (several_sons starts g) q (omega arith)) ∙ (rw (← i) y))
           (rw (← i, parent_in_law t n g group) j.3))
 
       -- the count breaks it

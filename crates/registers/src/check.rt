@@ -14,13 +14,14 @@ ghost use Rattle.registers.specs.Checked.{AnswerTo, Checked, Tallied};
 ghost use Rattle.registers.specs.Tallies.{Gathered};
 
 use columns::counts::count_groups;
-use columns::limits::BLOCK_WORDS;
+use columns::limits::{BLOCK_WORDS, COLUMN_WORDS, COLUMNS};
 use columns::table::{Columns, blocks_for};
 use rows::read::read_rows;
-use rules::joins::SonColumns;
+use rules::joins::{SonColumns, join_sons};
 use rules::rule::Rule;
 use rules::tests::{asks_sons, block_breaks, count_breaks, may_break};
-use sons::lists::Sons;
+use sons::gather::gather_sons;
+use sons::lists::{SON_STARTS, SONS, Sons};
 use tables::groups::{GroupNo, Groups};
 use tiles::fill::fill_columns;
 use wire::refusals::Fault;
@@ -39,14 +40,15 @@ fn join_asked(
     words: usize,
     sons: &Sons,
     g: GroupNo,
-    joined: &mut SonColumns,
+    some: &mut [u64],
+    two: &mut [u64],
 )
-    requires { (1 ≤ g.0) × (g.0 ≤ groups.now.size) × Joinable words sons.now g.0 }
-    ensures { JoinedFor (mode_in groups.now.table.now g.0) (several_sons sons.now g.0)
-        (kept_sons sons.now g.0) columns.now.words words joined.new.some joined.new.two }
+    requires { (1 ≤ g.0) × (g.0 ≤ groups.now.size) × Joinable words sons.now.starts.now sons.now.order.now g.0 some.old two.old }
+    ensures { JoinedFor (mode_in groups.now.table.now g.0) (several_sons sons.now.starts.now g.0)
+        (kept_sons sons.now.starts.now sons.now.order.now g.0) columns.now.words.now words some.new two.new }
 {
     if asks_sons(groups.get(g).mode, sons.several(g)) {
-        joined.join_sons(columns, words, sons, g);
+        join_sons(columns, words, sons, g, some, two);
     }
 }
 
@@ -58,18 +60,23 @@ fn scan(
     sons: &Sons,
     counts: &[u32],
 ) -> Option<Broken>
-    requires { Gathered groups.now.table.now groups.now.size columns.now.words members sons.now counts.now }
-    ensures { AnswerTo (sheet_in groups.now.table.now groups.now.size) (column_sets columns.now.words members) (Ok result) }
+    requires { Gathered groups.now.table.now groups.now.size columns.now.words.now members sons.now.starts.now sons.now.order.now counts.now }
+    ensures { AnswerTo (sheet_in groups.now.table.now groups.now.size) (column_sets columns.now.words.now members) (Ok result) }
 {
+    let mut some = [0; COLUMN_WORDS];
+    let mut two = [0; COLUMN_WORDS];
     let blocks = blocks_for(members);
     let words = BLOCK_WORDS * blocks;
-    let mut joined = SonColumns::NONE;
     let mut broken = None;
     'scan: for g in 1..=groups.size {
         let group = GroupNo(g);
         // column 0, which is nobody's, stands in for a parent where there is none
         let parent = groups.get(group).parent.unwrap_or(GroupNo(0));
-        join_asked(groups, columns, words, sons, group, &mut joined);
+        join_asked(groups, columns, words, sons, group, &mut some, &mut two);
+        let joined = SonColumns {
+            some: &some,
+            two: &two,
+        };
         for rule in Rule::ALL {
             let number = rule.number();
             if rule.is_of_members() {
@@ -100,17 +107,18 @@ fn check_rows(
     counts: &mut [u32],
 ) -> Option<Broken>
     requires read { rows_give (edition_of edition) register.now (Ok rows) ≡ read_register (edition_of edition) groups.now.size register.now }
-    requires listed { SonsListed (sheet_in groups.now.table.now groups.now.size) sons.now }
+    requires listed { SonsListed (sheet_in groups.now.table.now groups.now.size) sons.now.starts.now sons.now.order.now }
     requires room { group_numbers ≤ length counts.old }
     ensures checked { Checked (sheet_in groups.now.table.now groups.now.size)
         (read_register (edition_of edition) groups.now.size register.now) (Ok result) }
     ensures tallied { Tallied (sheet_in groups.now.table.now groups.now.size)
         (read_register (edition_of edition) groups.now.size register.now) counts.old counts.new }
 {
-    let mut columns = Columns::new();
-    let members = fill_columns(register, edition, groups.size, rows, &mut columns);
-    let words = BLOCK_WORDS * blocks_for(members);
-    count_groups(&columns, groups.size, words, counts);
+    let mut words = [0; COLUMNS];
+    let members = fill_columns(register, edition, groups.size, rows, &mut words);
+    let columns = Columns { words: &words };
+    let used = BLOCK_WORDS * blocks_for(members);
+    count_groups(&columns, groups.size, used, counts);
     scan(groups, &columns, members, sons, counts)
 }
 
@@ -128,8 +136,13 @@ pub fn check_register(
     ensures tallied { Tallied (sheet_in groups.now.table.now groups.now.size)
         (read_register (edition_of edition) groups.now.size register.now) counts.old counts.new }
 {
-    let mut sons = Sons::NONE;
-    sons.gather(groups);
+    let mut starts = [0; SON_STARTS];
+    let mut order = [GroupNo(0); SONS];
+    gather_sons(groups, &mut starts, &mut order);
+    let sons = Sons {
+        starts: &starts,
+        order: &order,
+    };
     let rows = read_rows(register, edition, groups.size)?;
     Ok(check_rows(groups, edition, register, rows, &sons, counts))
 }

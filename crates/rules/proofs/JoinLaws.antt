@@ -12,7 +12,7 @@ use borrow.Author.Tests.{lt-ltb}
 use lib.ListN.{get_or, length, drop, drop_of_length-le}
 use lib.Seq.{append_snoc, slice, drop-cons, length-slice}
 use Rattle.std.proofs.lemmas.List.{length-map}
-use Rattle.sons.specs.declared.lists.Sons.{Sons}
+use Rattle.tables.specs.declared.groups.GroupNo.{GroupNo}
 use lib.Bits.{bit_and}
 use Rattle.laws.proofs.Cases.{compare_le, compare_eq, not_true_false, true_not_false}
 use Rattle.laws.proofs.Digits.{digit_of_zero, digit_and, digit_or}
@@ -118,8 +118,9 @@ joined_all {l} k w o =
     rw f at w.joined
 
 -- the list of each group of the sheet can be read off
-pub sons_readable : {s : Sheet} {w : Sons} {g : ℕ} → SonsListed s w → s.size ≤ group_capacity → Group s g → SonsReadable w g
-sons_readable {s} {w} {g} l z k =
+pub sons_readable : {s : Sheet} {starts : List ℕ} {order : List GroupNo} {g : ℕ} → SonsListed s starts order → s.size ≤ group_capacity
+    → Group s g → SonsReadable starts order g
+sons_readable {s} {g = g} l z k =
     record {
       long = omega (arith, l.long, k.last);
       within = l.within g k;
@@ -211,10 +212,10 @@ several [] h j m n o = absurd (Memᴰ.not-nil m)
 several (x ∷ []) h j m n o = absurd (omega (arith, Memᴰ.eq_of_singleton m, Memᴰ.eq_of_singleton n))
 several (x ∷ (y ∷ l)) h j m n o = omega arith
 
-pub two_sons : {s : Sheet} {w : Sons} {g : ℕ} → SonsListed s w → Group s g → (h j : ℕ) → Son s g h → Son s g j → h < j
-    → several_sons w g ≡ true
-two_sons {s} {w} {g} l k h j y z o =
+pub two_sons : {s : Sheet} {starts : List ℕ} {order : List GroupNo} {g : ℕ} → SonsListed s starts order → Group s g
+    → (h j : ℕ) → Son s g h → Son s g j → h < j → several_sons starts g ≡ true
+two_sons {s} {starts} {order} {g} l k h j y z o =
     let n = several (son_list s g) h j (son_listed y) (son_listed z) o in
-    let e = sym (length-map (slice (get_or w.starts g 0) (get_or w.starts (suc g) 0) w.order) (λ g. g.0)) ∙ ap length (l.listed g k) in
-    lt-ltb (get_or w.starts g 0 + 1) (get_or w.starts (suc g) 0)
-    (omega (arith, length-slice (get_or w.starts g 0) (get_or w.starts (suc g) 0) w.order (l.within g k)))
+    let e = sym (length-map (slice (get_or starts g 0) (get_or starts (suc g) 0) order) (λ g. g.0)) ∙ ap length (l.listed g k) in
+    lt-ltb (get_or starts g 0 + 1) (get_or starts (suc g) 0)
+    (omega (arith, length-slice (get_or starts g 0) (get_or starts (suc g) 0) order (l.within g k)))

@@ -1,5 +1,5 @@
 // The columns of a group's sons put together: who is in some son, and who is in two.
-ghost use Rattle.std.specs.Prelude.{◌≤◌};
+ghost use Rattle.std.specs.Prelude.{◌≤◌, length};
 ghost use Rattle.wire.specs.Capacity.{group_capacity};
 ghost use Rattle.columns.specs.ColumnSteps.{Cleared};
 ghost use Rattle.columns.specs.Columns.{column_words};
@@ -7,54 +7,53 @@ ghost use Rattle.sons.specs.SonLists.{kept_sons};
 ghost use Rattle.rules.specs.Asked.{Joinable};
 ghost use Rattle.rules.specs.Joins.{ColumnJoined, Joined};
 
-use columns::limits::COLUMN_WORDS;
 use columns::table::Columns;
 use sons::lists::Sons;
 use tables::groups::GroupNo;
 
-// A bit for each member, 64 members a word: who is in some son of a group, and who is in two.
-#[derive(Drop)]
-pub struct SonColumns {
-    pub some: [u64; COLUMN_WORDS],
-    pub two: [u64; COLUMN_WORDS],
+// A bit for each member, 64 members a word: who is in some son of a group, and who is in two, lent to who reads them.
+#[derive(Clone, Copy)]
+pub struct SonColumns<'a> {
+    pub some: &'a [u64],
+    pub two: &'a [u64],
 }
 
-impl SonColumns {
-    pub const NONE: SonColumns = SonColumns {
-        some: [0; COLUMN_WORDS],
-        two: [0; COLUMN_WORDS],
-    };
+// nobody is in some son, nor in two
+fn clear(words: usize, some: &mut [u64], two: &mut [u64])
+    requires { (words ≤ length some.old) × (words ≤ length two.old) }
+    ensures { Cleared words some.new × Cleared words two.new }
+{
+    some[..words].fill(0);
+    two[..words].fill(0);
+}
 
-    // nobody is in some son, nor in two
-    fn clear(&mut self, words: usize)
-        requires { words ≤ column_words }
-        ensures { Cleared words self.new.some × Cleared words self.new.two }
-    {
-        self.some[..words].fill(0);
-        self.two[..words].fill(0);
+// the column of one son more
+fn join(columns: &Columns, son: GroupNo, words: usize, some: &mut [u64], two: &mut [u64])
+    requires { (son.0 ≤ group_capacity) × (words ≤ column_words) × (words ≤ length some.old) × (words ≤ length two.old) }
+    ensures { ColumnJoined columns.now.words.now son.0 words some.old two.old some.new two.new }
+{
+    for w in 0..words {
+        let column = columns.word(son, w);
+        two[w] |= some[w] & column;
+        some[w] |= column;
     }
+}
 
-    // the column of one son more
-    fn join(&mut self, columns: &Columns, son: GroupNo, words: usize)
-        requires { (son.0 ≤ group_capacity) × (words ≤ column_words) }
-        ensures { ColumnJoined columns.now.words son.0 words self.old.some self.old.two self.new.some self.new.two }
-    {
-        for w in 0..words {
-            let column = columns.word(son, w);
-            self.two[w] |= self.some[w] & column;
-            self.some[w] |= column;
-        }
-    }
-
-    // The columns of all sons of a group, read off its list: the son outside, the words inside.
-    pub fn join_sons(&mut self, columns: &Columns, words: usize, sons: &Sons, g: GroupNo)
-        requires { Joinable words sons.now g.0 }
-        ensures { Joined (kept_sons sons.now g.0) columns.now.words words self.new.some self.new.two }
-    {
-        let listed = sons.of(g);
-        self.clear(words);
-        for son in listed {
-            self.join(columns, *son, words);
-        }
+// The columns of all sons of a group, read off its list: the son outside, the words inside.
+pub fn join_sons(
+    columns: &Columns,
+    words: usize,
+    sons: &Sons,
+    g: GroupNo,
+    some: &mut [u64],
+    two: &mut [u64],
+)
+    requires { Joinable words sons.now.starts.now sons.now.order.now g.0 some.old two.old }
+    ensures { Joined (kept_sons sons.now.starts.now sons.now.order.now g.0) columns.now.words.now words some.new two.new }
+{
+    let listed = sons.of(g);
+    clear(words, some, two);
+    for son in listed {
+        join(columns, *son, words, some, two);
     }
 }

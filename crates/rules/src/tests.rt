@@ -19,7 +19,7 @@ use tables::modes::Mode;
 // whether one of the rules 1 to 4 can be broken at a group with the parent p
 pub fn may_break(groups: &[Group], sons: &Sons, g: GroupNo, p: GroupNo, rule: u16) -> bool
     requires { (1 ≤ g.0) × (g.0 ≤ length groups.now) × (p.0 < g.0) × (p.0 ≡ parent_in groups.now g.0) }
-    ensures { result ≡ may_break groups.now (several_sons sons.now g.0) g.0 rule }
+    ensures { result ≡ may_break groups.now (several_sons sons.now.starts.now g.0) g.0 rule }
 {
     match rule {
         1 => 0 < p.0,
@@ -38,8 +38,8 @@ fn breaking(
     g: GroupNo,
     p: GroupNo,
 ) -> u64
-    requires { WordAsked w g.0 p.0 }
-    ensures { MembersPassing (member_breaks rule columns.now.words joined.now.some joined.now.two g.0 p.0) w result }
+    requires { WordAsked joined.now.some.now joined.now.two.now w g.0 p.0 }
+    ensures { MembersPassing (member_breaks rule columns.now.words.now joined.now.some.now joined.now.two.now g.0 p.0) w result }
 {
     match rule {
         1 => columns.word(g, w) & !columns.word(p, w),
@@ -58,8 +58,8 @@ pub fn block_breaks(
     g: GroupNo,
     p: GroupNo,
 ) -> bool
-    requires { BlockAsked b g.0 p.0 }
-    ensures { SomeMember (member_breaks rule columns.now.words joined.now.some joined.now.two g.0 p.0) (block_members * b)
+    requires { BlockAsked joined.now.some.now joined.now.two.now b g.0 p.0 }
+    ensures { SomeMember (member_breaks rule columns.now.words.now joined.now.some.now joined.now.two.now g.0 p.0) (block_members * b)
         (block_members * (b + 1)) result }
 {
     let mut broken = 0;

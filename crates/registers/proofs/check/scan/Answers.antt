@@ -38,6 +38,8 @@ join_asked-requires c =
       record {
         readable = sons_readable c.requires.sons (omega (arith, size_in t.table.now t.size, t.tabled.small)) (group_in_law _ _ (omega arith) (omega arith));
         most = c.blocks_for-blocks.ensures.most;
+        some_words = omega (arith, c.blocks_for-blocks.ensures.most);
+        two_words = omega (arith, c.blocks_for-blocks.ensures.most);
       },
     )
 
@@ -55,6 +57,8 @@ block_breaks-requires c =
       block = omega (arith, c.blocks_for-blocks.ensures.most);
       last = omega (arith, t.small);
       parent_last = omega (arith, t.small, parent w, below w);
+      some_words = omega (arith, c.blocks_for-blocks.ensures.most);
+      two_words = omega (arith, c.blocks_for-blocks.ensures.most);
     }
 
 pub loop-rule-preserved : goal.loop-rule-preserved

@@ -8,4 +8,4 @@ use Rattle.rules.proofs.tests.block_breaks.Given as goal
 
 abbrev pub invariant-loop-w : goal.invariant-loop-w
 invariant-loop-w l =
-    MembersSeen (member_breaks l.rule l.columns.words l.joined.some l.joined.two l.g.0 l.p.0) (block_members * l.b) (word_bits * l.w) l.broken
+    MembersSeen (member_breaks l.rule l.columns.words.now l.joined.some.now l.joined.two.now l.g.0 l.p.0) (block_members * l.b) (word_bits * l.w) l.broken

@@ -17,7 +17,7 @@ pub returns-in-3 : goal.returns-in-3
 unfolding member_breaks
 returns-in-3 c =
     let q = c.args in
-    rw c.in-3.is (members_lack _ _ _ _ _ c.word-in-3.ensures (first_word q.joined.now.some q.w) (omega arith) refl)
+    rw c.in-3.is (members_lack _ _ _ _ _ c.word-in-3.ensures (first_word q.joined.now.some.now q.w) (omega arith) refl)
 
 pub returns-in_default : goal.returns-in_default
 unfolding member_breaks
@@ -25,4 +25,4 @@ returns-in_default c =
     let q = c.args in
     passing_as
     (λ i. rw (ne_eqb q.rule 1 (λ e. omega arith), ne_eqb q.rule 2 (λ e. omega arith), ne_eqb q.rule 3 (λ e. omega arith)))
-    (members_in q.joined.now.two 0 q.w (first_word q.joined.now.two q.w))
+    (members_in q.joined.now.two.now 0 q.w (first_word q.joined.now.two.now q.w))

@@ -2,8 +2,9 @@
 use Rattle.std.proofs.Common.{drop}
 use Rattle.sons.specs.SonLists.{kept_sons}
 use Rattle.rules.proofs.JoinLaws.{JoinedBut}
-use Rattle.rules.proofs.joins.SonColumns.join_sons.Given as goal
+use Rattle.rules.proofs.joins.join_sons.Given as goal
 
 abbrev pub invariant-loop-son : goal.invariant-loop-son
 invariant-loop-son l =
-    JoinedBut (kept_sons l.sons l.fn.g.0) (drop l.son-index (kept_sons l.sons l.fn.g.0)) l.columns.words l.words l.self.some l.self.two
+    let listed = kept_sons l.sons.starts.now l.sons.order.now l.fn.g.0 in
+    JoinedBut listed (drop l.son-index listed) l.columns.words.now l.words l.some l.two
