@@ -5,12 +5,13 @@ ghost use Rattle.laws.specs.Sum.{bit};
 ghost use Rattle.sizes.specs.Span.{In};
 ghost use Rattle.tables.specs.Numbers.{number_in};
 ghost use Rattle.tables.specs.SheetIn.{sheet_in};
+ghost use Rattle.measuring.specs.Done.{Lent};
 ghost use Rattle.measuring.specs.Pairs.{pair_in};
 ghost use Rattle.choosing.specs.Divided.{RoomFor, marked_in, Folded, DividedTo, Dividend};
 
 use crate::parts::{Part, divided};
-use measuring::pairs::Measured;
 use spans::kind::Kind;
+use spans::pair::Pair;
 use tables::groups::{GroupNo, Groups};
 use tables::limits::GROUP_CAPACITY;
 
@@ -30,17 +31,19 @@ fn give(sizes: &mut [u32], marks: &mut [u8], left: &mut [Part], g: GroupNo, part
 // Gives group g what its parent has left for it.
 fn divide_son(
     groups: &Groups,
-    measured: &Measured,
+    spans: &[Pair],
+    after: &[Pair],
     sizes: &mut [u32],
     marks: &mut [u8],
     left: &mut [Part],
     g: GroupNo,
 )
-    requires folded { Folded (sheet_in groups.now.table.now groups.now.size) measured.now.spans measured.now.after }
+    requires lent { Lent groups.now.size spans.now after.now }
+    requires folded { Folded (sheet_in groups.now.table.now groups.now.size) spans.now after.now }
     requires son { (2 ≤ g.0) × (g.0 ≤ groups.now.size) × RoomFor groups.now.size sizes.old marks.old left.old }
-    requires divided { DividedTo (sheet_in groups.now.table.now groups.now.size) (pair_in measured.now.spans) sizes.old marks.old left.old
+    requires divided { DividedTo (sheet_in groups.now.table.now groups.now.size) (pair_in spans.now) sizes.old marks.old left.old
         (g.0 - 1) }
-    ensures given { DividedTo (sheet_in groups.now.table.now groups.now.size) (pair_in measured.now.spans)
+    ensures given { DividedTo (sheet_in groups.now.table.now groups.now.size) (pair_in spans.now)
         sizes.new marks.new left.new g.0 }
     ensures root_unchanged { (number_in sizes.new 1 ≡ number_in sizes.old 1)
         × (marked_in marks.new 1 ≡ marked_in marks.old 1) }
@@ -49,8 +52,8 @@ fn divide_son(
     let whole = left[parent.index()];
     let parts = divided(
         Kind::of(groups.get(parent).mode),
-        measured.after[g.index()],
-        measured.spans[g.index()],
+        after[g.index()],
+        spans[g.index()],
         whole.number,
         whole.inn,
     );
@@ -61,15 +64,17 @@ fn divide_son(
 // The root gets the number r and the state c, which its interval for that state has.
 pub fn divide(
     groups: &Groups,
-    measured: &Measured,
+    spans: &[Pair],
+    after: &[Pair],
     r: u32,
     c: bool,
     sizes: &mut [u32],
     marks: &mut [u8],
 )
-    requires folded { Folded (sheet_in groups.now.table.now groups.now.size) measured.now.spans measured.now.after }
-    requires room { (groups.now.size ≤ length sizes.old) × (groups.now.size ≤ length marks.old) × In r (pair_in measured.now.spans 1 c) }
-    ensures { Dividend (sheet_in groups.now.table.now groups.now.size) (pair_in measured.now.spans) r c sizes.new marks.new }
+    requires lent { Lent groups.now.size spans.now after.now }
+    requires folded { Folded (sheet_in groups.now.table.now groups.now.size) spans.now after.now }
+    requires room { (groups.now.size ≤ length sizes.old) × (groups.now.size ≤ length marks.old) × In r (pair_in spans.now 1 c) }
+    ensures { Dividend (sheet_in groups.now.table.now groups.now.size) (pair_in spans.now) r c sizes.new marks.new }
 {
     let mut left = [Part::ZERO; GROUP_CAPACITY];
     give(
@@ -80,6 +85,6 @@ pub fn divide(
         Part { number: r, inn: c },
     );
     for n in 2..=groups.size {
-        divide_son(groups, measured, sizes, marks, &mut left, GroupNo(n));
+        divide_son(groups, spans, after, sizes, marks, &mut left, GroupNo(n));
     }
 }

@@ -1,5 +1,5 @@
 -- What measuring leaves in the tables.
-use Rattle.std.specs.Prelude.{ℕ, ◌<◌, ◌-◌, Bool, List}
+use Rattle.std.specs.Prelude.{ℕ, ◌<◌, ◌≤◌, ◌-◌, Bool, List, length}
 use Rattle.meaning.specs.Sheet.{Sheet, Son, Group}
 use Rattle.sizes.specs.Span.{Span}
 use Rattle.sizes.specs.Fold.{later}
@@ -36,6 +36,11 @@ pub record Done (s : Sheet) (z : ℕ → Bool → Span) (g i : ℕ) (spans after
   pub spanned : (h : ℕ) → UnderLater s g i h → Spanned z spans' h
   pub followed : (h : ℕ) → UnderLater s g i h → Followed s z after' h
   pub stays : Stays s z spans after spans' after'
+
+-- the tables of spans are long enough for n groups
+pub record Lent (n : ℕ) (spans after : List Pair) : Type 0 where
+  pub spans_long : n ≤ length spans
+  pub after_long : n ≤ length after
 
 -- all groups are measured
 pub record AllDone (s : Sheet) (z : ℕ → Bool → Span) (spans after : List Pair) : Type 0 where

@@ -4,33 +4,35 @@
 #![tactic(auto)]
 
 ghost use Rattle.tables.specs.SheetIn.{sheet_in};
+ghost use Rattle.measuring.specs.Done.{Lent};
 ghost use Rattle.replies.specs.Reply.{call};
 ghost use Rattle.replies.specs.Returned.{returned};
 ghost use Rattle.range_reply.specs.RangesGiven.{RangesReady, RangesWritten};
 ghost use Rattle.range_reply.specs.RangesReply.{Ranges};
 
 use measuring::fitting::measure;
-use measuring::pairs::Measured;
 use ranging::arrange::arrange;
 use ranging::narrow::narrow;
 use replies::{RANGE_BYTES, put_ranges, room};
+use spans::pair::Pair;
 use spans::span::Span;
 use tables::groups::Groups;
 use tables::limits::GROUP_CAPACITY;
 use wire::refusals::{Fault, Refusal};
 
 // The ranges and the arrangement of a possible sheet, into a buffer with room for them.
-fn put(groups: &Groups, measured: &Measured, reply: &mut [u8])
-    requires { RangesReady groups.now.table.now groups.now.size measured.now.spans measured.now.after reply.old }
+fn put(groups: &Groups, spans: &[Pair], after: &[Pair], reply: &mut [u8])
+    requires lent { Lent groups.now.size spans.now after.now }
+    requires ready { RangesReady groups.now.table.now groups.now.size spans.now after.now reply.old }
     ensures { RangesWritten groups.now.table.now groups.now.size reply.old reply.new }
 {
     let mut ranges = [Span::NOTHING; GROUP_CAPACITY];
     let mut rest = [Span::NOTHING; GROUP_CAPACITY];
-    narrow(groups, measured, &mut ranges, &mut rest);
+    narrow(groups, spans, after, &mut ranges, &mut rest);
     let mut sizes = [0u32; GROUP_CAPACITY];
     let mut firsts = [0u32; GROUP_CAPACITY];
     let mut ends = [0u32; GROUP_CAPACITY];
-    arrange(groups, measured, &mut sizes, &mut firsts, &mut ends);
+    arrange(groups, spans, after, &mut sizes, &mut firsts, &mut ends);
     put_ranges(reply, &ranges[..groups.size as usize], &firsts, &sizes);
 }
 
@@ -38,12 +40,13 @@ fn put(groups: &Groups, measured: &Measured, reply: &mut [u8])
 pub fn give_ranges(groups: &Groups, reply: &mut [u8]) -> Result<u32, Fault>
     ensures { Ranges (sheet_in groups.now.table.now groups.now.size) (call reply.old (returned result) reply.new) }
 {
-    let mut measured = Measured::new();
-    if !measure(groups, &mut measured) {
+    let mut spans = [Pair::ZERO; GROUP_CAPACITY];
+    let mut after = [Pair::ZERO; GROUP_CAPACITY];
+    if !measure(groups, &mut spans, &mut after) {
         return Err(Refusal::Impossible.at(0));
     }
     let bytes = RANGE_BYTES * groups.size as usize;
     room(reply, bytes)?;
-    put(groups, &measured, reply);
+    put(groups, &spans, &after, reply);
     Ok(bytes as u32)
 }

@@ -7,12 +7,13 @@ ghost use Rattle.tables.specs.Modes.{disjoint_mode, cover_mode, same_mode};
 ghost use Rattle.tables.specs.Numbers.{number_in};
 ghost use Rattle.tables.specs.SheetIn.{sheet_in};
 ghost use Rattle.spans.specs.Held.{top_of};
+ghost use Rattle.measuring.specs.Done.{Lent};
 ghost use Rattle.measuring.specs.Fitting.{Arrangeable};
 ghost use Rattle.measuring.specs.Pairs.{least_in, greatest_in};
 ghost use Rattle.ranging.specs.Sized.{size_by};
 
-use measuring::pairs::Measured;
 use runs::starts::start_runs;
+use spans::pair::Pair;
 use spans::span::Span;
 use tables::groups::{GroupNo, Groups};
 use tables::modes::Mode;
@@ -36,14 +37,15 @@ fn size_under(mode: Mode, own: Span, whole: u32, rest: u32) -> u32
 }
 
 // the sizes of all groups
-fn size_groups(groups: &Groups, measured: &Measured, sizes: &mut [u32], left: &mut [u32])
-    requires arrangeable { Arrangeable groups.now.table.now groups.now.size measured.now.spans measured.now.after }
+fn size_groups(groups: &Groups, spans: &[Pair], after: &[Pair], sizes: &mut [u32], left: &mut [u32])
+    requires lent { Lent groups.now.size spans.now after.now }
+    requires arrangeable { Arrangeable groups.now.table.now groups.now.size spans.now after.now }
     requires room { (groups.now.size ≤ length sizes.old) × (groups.now.size ≤ length left.old) }
     ensures { (first f : ℕ → ℕ)
-        → Arranged (sheet_in groups.now.table.now groups.now.size) (least_in measured.now.spans) (greatest_in measured.now.spans) first f
+        → Arranged (sheet_in groups.now.table.now groups.now.size) (least_in spans.now) (greatest_in spans.now) first f
         → (g : ℕ) → Group (sheet_in groups.now.table.now groups.now.size) g → number_in sizes.new g ≡ f g }
 {
-    let root = measured.spans[0].out;
+    let root = spans[0].out;
     sizes[0] = root.least;
     left[0] = root.least;
     for n in 2..=groups.size {
@@ -51,8 +53,8 @@ fn size_groups(groups: &Groups, measured: &Measured, sizes: &mut [u32], left: &m
         let parent = groups.parent(g);
         let i = g.index();
         let j = parent.index();
-        let own = measured.spans[i].out;
-        let others = measured.after[i].out;
+        let own = spans[i].out;
+        let others = after[i].out;
         let rest = left[j].saturating_sub(others.least);
         let count = size_under(groups.get(parent).mode, own, sizes[j], rest);
         sizes[i] = count;
@@ -65,17 +67,19 @@ fn size_groups(groups: &Groups, measured: &Measured, sizes: &mut [u32], left: &m
 // in `firsts`; `ends` is written over.
 pub fn arrange(
     groups: &Groups,
-    measured: &Measured,
+    spans: &[Pair],
+    after: &[Pair],
     sizes: &mut [u32],
     firsts: &mut [u32],
     ends: &mut [u32],
 )
-    requires arrangeable { Arrangeable groups.now.table.now groups.now.size measured.now.spans measured.now.after }
+    requires lent { Lent groups.now.size spans.now after.now }
+    requires arrangeable { Arrangeable groups.now.table.now groups.now.size spans.now after.now }
     requires room { (groups.now.size ≤ length sizes.old) × (groups.now.size ≤ length firsts.old)
         × (groups.now.size ≤ length ends.old) }
-    ensures { Arranged (sheet_in groups.now.table.now groups.now.size) (least_in measured.now.spans)
-        (greatest_in measured.now.spans) (number_in firsts.new) (number_in sizes.new) }
+    ensures { Arranged (sheet_in groups.now.table.now groups.now.size) (least_in spans.now)
+        (greatest_in spans.now) (number_in firsts.new) (number_in sizes.new) }
 {
-    size_groups(groups, measured, sizes, ends);
+    size_groups(groups, spans, after, sizes, ends);
     start_runs(groups, sizes, firsts, ends);
 }

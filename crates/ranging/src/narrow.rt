@@ -2,25 +2,33 @@
 ghost use Rattle.std.specs.Prelude.{◌≤◌, ℕ, length, Bool};
 ghost use Rattle.sizes.specs.Ranged.{Ranged};
 ghost use Rattle.tables.specs.SheetIn.{sheet_in};
+ghost use Rattle.measuring.specs.Done.{Lent};
 ghost use Rattle.measuring.specs.Fitting.{Measures};
 ghost use Rattle.ranging.specs.Table.{span_in};
 ghost use Rattle.sizes.specs.Span as sizes;
 
 use crate::pull::pull;
-use measuring::pairs::Measured;
 use spans::kind::Kind;
+use spans::pair::Pair;
 use spans::span::Span;
 use tables::groups::{GroupNo, Groups};
 
 // The least and the greatest count of each group in `ranges`, from the intervals that measuring left: each turn takes one
 // group off the sons of its parent that are not yet taken. `rest` is written over.
-pub fn narrow(groups: &Groups, measured: &Measured, ranges: &mut [Span], rest: &mut [Span])
-    requires { (groups.now.size ≤ length ranges.old) × (groups.now.size ≤ length rest.old) }
+pub fn narrow(
+    groups: &Groups,
+    spans: &[Pair],
+    after: &[Pair],
+    ranges: &mut [Span],
+    rest: &mut [Span],
+)
+    requires lent { Lent groups.now.size spans.now after.now }
+    requires room { (groups.now.size ≤ length ranges.old) × (groups.now.size ≤ length rest.old) }
     ensures { (z : ℕ → Bool → sizes.Span)
-        → Measures (sheet_in groups.now.table.now groups.now.size) z measured.now.spans measured.now.after
+        → Measures (sheet_in groups.now.table.now groups.now.size) z spans.now after.now
         → Ranged (sheet_in groups.now.table.now groups.now.size) z (span_in ranges.new) }
 {
-    let root = measured.spans[0].out;
+    let root = spans[0].out;
     ranges[0] = root;
     rest[0] = root;
     for n in 2..=groups.size {
@@ -29,8 +37,8 @@ pub fn narrow(groups: &Groups, measured: &Measured, ranges: &mut [Span], rest: &
         let i = g.index();
         let j = parent.index();
         let kind = Kind::of(groups.get(parent).mode);
-        let own = measured.spans[i].out;
-        let others = measured.after[i].out;
+        let own = spans[i].out;
+        let others = after[i].out;
         let whole = rest[j];
         let range = own.meet(pull(kind, whole, others));
         ranges[i] = range;

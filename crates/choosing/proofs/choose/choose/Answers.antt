@@ -26,7 +26,7 @@ pub divide-requires-clause-room : goal.divide-requires-clause-room
 divide-requires-clause-room c =
     let r = c.at-root in
     let l : r.result.least ≤ r.result.most = some_by _ _ c.is_empty.ensures c.if-is_empty.false in
-    let e = c.at-root.ensures ∙ (rw c.index.ensures (ap (λ z. z c.args.c) (pair_read c.measure_sheet.new.measured.spans 1))) in
+    let e = c.at-root.ensures ∙ (rw c.index.ensures (ap (λ z. z c.args.c) (pair_read c.measure_sheet.new.spans 1))) in
     (c.requires.0.sizes_long, c.requires.0.marks_long, subst (In r.result.least) e (least_in_law _ _ l (omega arith)))
 
 pub returns : goal.returns
@@ -34,6 +34,6 @@ returns c =
     let t = c.args.groups.now.tabled in
     let b = c.args.c in
     let m = spans_measured _ _ t.tree in
-    let e = c.at-root.ensures ∙ (rw c.index.ensures (ap (λ z. z b) (pair_read c.measure_sheet.new.measured.spans 1))) in
+    let e = c.at-root.ensures ∙ (rw c.index.ensures (ap (λ z. z b) (pair_read c.measure_sheet.new.spans 1))) in
     chose_some m c.measure_sheet.ensures b _ _ _ _ t.rooted.one (some_by _ _ c.is_empty.ensures c.if-is_empty.false) e
     (room_span t m 1 t.rooted.one b) c.divide.ensures

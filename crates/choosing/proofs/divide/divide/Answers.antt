@@ -57,7 +57,7 @@ returns c =
     let i = c.loop-n.invariant in
     let e : c.loop-n.n - 1 ≡ s.size = omega (arith, size_in g.table.now g.size, g.tabled.some) in
     divided_all g.tabled.tree
-    (subst (DividedTo s (pair_in c.args.measured.now.spans) c.loop-n.sizes c.loop-n.marks c.loop-n.left) e i.divided) i.root i.state
+    (subst (DividedTo s (pair_in c.args.spans.now) c.loop-n.sizes c.loop-n.marks c.loop-n.left) e i.divided) i.root i.state
 
 pub returns-2 : goal.returns-2
 returns-2 c =
@@ -67,5 +67,5 @@ returns-2 c =
     let d = c.divide_son in
     let e : c.loop-n.n ≡ s.size = omega (arith, size_in g.table.now g.size) in
     divided_all g.tabled.tree
-    (subst (DividedTo s (pair_in c.args.measured.now.spans) d.new.sizes d.new.marks d.new.left) e d.ensures.given)
+    (subst (DividedTo s (pair_in c.args.spans.now) d.new.sizes d.new.marks d.new.left) e d.ensures.given)
     (d.ensures.root_unchanged.0 ∙ i.root) (d.ensures.root_unchanged.1 ∙ i.state)

@@ -15,5 +15,5 @@ invariant-loop-n l = record {
   marks_long : l.groups.size ≤ length l.marks;
   root : number_in l.sizes 1 ≡ l.r;
   state : marked_in l.marks 1 ≡ l.c;
-  divided : DividedTo (sheet_in l.groups.table.now l.groups.size) (pair_in l.measured.spans) l.sizes l.marks l.left (l.n - 1);
+  divided : DividedTo (sheet_in l.groups.table.now l.groups.size) (pair_in l.spans) l.sizes l.marks l.left (l.n - 1);
 }

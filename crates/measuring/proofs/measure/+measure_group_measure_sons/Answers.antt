@@ -16,8 +16,8 @@ use Rattle.measuring.proofs.PairsLaws.{pair_put, pair_read}
 use Rattle.measuring.proofs.DoneLaws.{put_alike, done_put, finished, at_last, at_next, next_less, all_joined, room_span, room_later}
 use Rattle.measuring.proofs.measure.+measure_group_measure_sons.Goals as goal
 
-pub measure_group-bounds-measured-index : goal.measure_group-bounds-measured-index
-measure_group-bounds-measured-index t c =
+pub measure_group-bounds-spans-index : goal.measure_group-bounds-spans-index
+measure_group-bounds-spans-index t c =
     let g = c.args.reading.now.groups.now in
     omega (arith, size_in g.table.now g.size, g.tabled.small)
 
@@ -26,10 +26,10 @@ measure_group-returns t c =
     let r = c.args.reading.now in
     let g = r.groups.now in
     let d = c.measure_sons-below.ensures in
-    let n : c.args.g.0 ≤ length c.measure_sons-below.new.measured.spans = omega (arith, size_in g.table.now g.size, g.tabled.small) in
-    let z = finished (spans_measured (sheet_in g.table.now g.size) (may_in r.flags.now) g.tabled.tree) c.requires
+    let n : c.args.g.0 ≤ length c.measure_sons-below.new.spans = omega (arith, size_in g.table.now g.size, g.tabled.small) in
+    let z = finished (spans_measured (sheet_in g.table.now g.size) (may_in r.flags.now) g.tabled.tree) c.requires.group
     (pair_of c.measure_sons-below.result) (pair_of c.own_of.result) (pair_of c.meet.result) d.joined c.own_of.ensures c.meet.ensures in
-    let p = put_alike z (pair_put c.measure_sons-below.new.measured.spans c.args.g.0 c.meet.result c.requires.first n) in
+    let p = put_alike z (pair_put c.measure_sons-below.new.spans c.args.g.0 c.meet.result c.requires.group.first n) in
     rw c.index.ensures (record { done = done_put d.done p; spanned = p.put })
 
 pub measure_sons-get-requires : goal.measure_sons-get-requires
@@ -44,19 +44,21 @@ pub measure_sons-loop-next-init : goal.measure_sons-loop-next-init
 measure_sons-loop-next-init t c =
     let r = c.args.reading.now in
     rw c.last-next.ensures
-    (at_last r.chained c.requires _ _ _ (λ b. c.start-sum.ensures b ∙ ap (λ h. fold.start h b) c.is_shut.ensures))
+    (at_last r.chained c.requires.group _ _ _ (λ b. c.start-sum.ensures b ∙ ap (λ h. fold.start h b) c.is_shut.ensures))
 
 pub measure_sons-measure_group-requires : goal.measure_sons-measure_group-requires
 measure_sons-measure_group-requires t c =
     let g = c.args.reading.now.groups.now in
-    let k = c.loop-next.invariant.son c.in-Some.is in
-    (omega (arith, size_in g.table.now g.size, g.tabled.tree.before _ k.group, k.under), k.group)
+    let k = c.loop-next.invariant.son c.in-Some.is in (
+      omega (arith, size_in g.table.now g.size, g.tabled.tree.before _ k.group, k.under),
+      (record { spans_long = omega arith; after_long = omega arith }, k.group),
+    )
 
 pub measure_sons-index-requires : goal.measure_sons-index-requires
 measure_sons-index-requires t c = (c.loop-next.invariant.son c.in-Some.is).group.first
 
-pub measure_sons-bounds-measured-index : goal.measure_sons-bounds-measured-index
-measure_sons-bounds-measured-index t c =
+pub measure_sons-bounds-after-index : goal.measure_sons-bounds-after-index
+measure_sons-bounds-after-index t c =
     let g = c.args.reading.now.groups.now in
     let k = c.loop-next.invariant.son c.in-Some.is in
     omega (arith, size_in g.table.now g.size, g.tabled.small, k.group.last)
@@ -64,8 +66,8 @@ measure_sons-bounds-measured-index t c =
 pub measure_sons-index-requires-in-Some : goal.measure_sons-index-requires-in-Some
 measure_sons-index-requires-in-Some t c = (c.loop-next.invariant.son c.in-Some.is).group.first
 
-pub measure_sons-bounds-measured-index-in-Some : goal.measure_sons-bounds-measured-index-in-Some
-measure_sons-bounds-measured-index-in-Some t c =
+pub measure_sons-slice_copy_out-join : goal.measure_sons-slice_copy_out-join
+measure_sons-slice_copy_out-join t c =
     let g = c.args.reading.now.groups.now in
     let k = c.loop-next.invariant.son c.in-Some.is in
     omega (arith, size_in g.table.now g.size, g.tabled.small, k.group.last)
@@ -91,7 +93,7 @@ measure_sons-before-next-requires t c =
 pub measure_sons-loop-next-smaller : goal.measure_sons-loop-next-smaller
 measure_sons-loop-next-smaller t c =
     let r = c.args.reading.now in
-    rw c.before-next.ensures (next_less r.chained c.requires c.loop-next.invariant c.in-Some.is)
+    rw c.before-next.ensures (next_less r.chained c.requires.group c.loop-next.invariant c.in-Some.is)
 
 pub measure_sons-loop-next-preserved : goal.measure_sons-loop-next-preserved
 measure_sons-loop-next-preserved t c =
@@ -100,17 +102,17 @@ measure_sons-loop-next-preserved t c =
     let m = c.measure_group.ensures in
     let e = c.in-Some.is in
     let k = c.loop-next.invariant.son e in
-    let n : c.in-Some.son.0 ≤ length c.measure_group.new.measured.after = omega (arith, size_in g.table.now g.size, g.tabled.small, k.group.last) in
-    let kind = c.of-kind.ensures ∙ ap (λ x. mode_kind x.mode.0) c.get.ensures ∙ sym (kind_in_law g.table.now g.size c.args.g.0 c.requires) in
+    let n : c.in-Some.son.0 ≤ length c.measure_group.new.after = omega (arith, size_in g.table.now g.size, g.tabled.small, k.group.last) in
+    let kind = c.of-kind.ensures ∙ ap (λ x. mode_kind x.mode.0) c.get.ensures ∙ sym (kind_in_law g.table.now g.size c.args.g.0 c.requires.group) in
     rw (c.before-next.ensures, c.index.ensures)
-    (at_next r.chained c.requires (pair_of c.join-sum.result) (pair_of (get_or c.measure_group.new.measured.spans (c.in-Some.son.0 - 1) no_pair))
+    (at_next r.chained c.requires.group (pair_of c.join-sum.result) (pair_of (get_or c.measure_group.new.spans (c.in-Some.son.0 - 1) no_pair))
     c.loop-next.invariant e m.done m.spanned
-    (pair_put c.measure_group.new.measured.after c.in-Some.son.0 c.loop-next.sum k.group.first n)
-    (λ b. ap (λ f. f b) (pair_read c.measure_group.new.measured.spans c.in-Some.son.0))
+    (pair_put c.measure_group.new.after c.in-Some.son.0 c.loop-next.sum k.group.first n)
+    (λ b. ap (λ f. f b) (pair_read c.measure_group.new.spans c.in-Some.son.0))
     (λ b. rw (← kind, ← c.index-in-Some.ensures) (c.join-sum.ensures b)))
 
 pub measure_sons-returns : goal.measure_sons-returns
 measure_sons-returns t c =
     let r = c.args.reading.now in
-    let d = all_joined r.chained c.requires c.loop-next.invariant c.in_default.is in
+    let d = all_joined r.chained c.requires.group c.loop-next.invariant c.in_default.is in
     record { done = d.0; joined = d.1 }

@@ -20,7 +20,7 @@ abbrev pub invariant-measure_sons-loop-next : goal.invariant-measure_sons-loop-n
 invariant-measure_sons-loop-next l =
     let s = sheet_in l.reading.groups.now.table.now l.reading.groups.now.size in
     AtSon s (spans_of s (may_in l.reading.flags.now)) l.fn.g.0 l.next (pair_of l.sum)
-    l.initial.measured.spans l.initial.measured.after l.measured.spans l.measured.after
+    l.initial.spans l.initial.after l.spans l.after
 
 abbrev pub decreases-measure_sons-loop-next : goal.decreases-measure_sons-loop-next
 decreases-measure_sons-loop-next l = meant_number l.next

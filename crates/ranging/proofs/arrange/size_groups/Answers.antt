@@ -22,7 +22,7 @@ loop-n-init c = (
 
 -- one turn
 sized : (c : After-saturating_sub) → (first f : ℕ → ℕ)
-    → Arranged (sheet_in c.args.groups.now.table.now c.args.groups.now.size) (least_in c.args.measured.now.spans) (greatest_in c.args.measured.now.spans) first f
+    → Arranged (sheet_in c.args.groups.now.table.now c.args.groups.now.size) (least_in c.args.spans.now) (greatest_in c.args.spans.now) first f
     → SizedTo (sheet_in c.args.groups.now.table.now c.args.groups.now.size) f (number_in (set c.loop-n.sizes c.index-i.result c.size_under-count.result))
     (number_in (set (set c.loop-n.left c.index-i.result c.size_under-count.result) c.index-j.result c.saturating_sub.result)) c.loop-n.n
 sized c first f a =

@@ -9,5 +9,5 @@ use Rattle.ranging.proofs.arrange.size_groups.Given as goal
 
 abbrev pub invariant-loop-n : goal.invariant-loop-n
 invariant-loop-n l = (l.n ≤ max 2 l.groups.size)
-    × ((first f : ℕ → ℕ) → Arranged (sheet_in l.groups.table.now l.groups.size) (least_in l.measured.spans) (greatest_in l.measured.spans) first f
+    × ((first f : ℕ → ℕ) → Arranged (sheet_in l.groups.table.now l.groups.size) (least_in l.spans) (greatest_in l.spans) first f
     → SizedTo (sheet_in l.groups.table.now l.groups.size) f (number_in l.sizes) (number_in l.left) (l.n - 1))

@@ -28,7 +28,7 @@ loop-n-init c = (
 
 -- one turn
 turned : (c : After-meet) → (z : ℕ → Bool → Span)
-    → Measures (sheet_in c.args.groups.now.table.now c.args.groups.now.size) z c.args.measured.now.spans c.args.measured.now.after
+    → Measures (sheet_in c.args.groups.now.table.now c.args.groups.now.size) z c.args.spans.now c.args.after.now
     → Narrowed (sheet_in c.args.groups.now.table.now c.args.groups.now.size) z (span_in (set c.loop-n.ranges c.index-i.result c.meet-range.result))
     (span_in (set (set c.loop-n.rest c.index-i.result c.meet-range.result) c.index-j.result c.meet.result)) c.loop-n.n
 unfolding span_in pair_in

@@ -9,5 +9,5 @@ use Rattle.ranging.proofs.narrow.narrow.Given as goal
 
 abbrev pub invariant-loop-n : goal.invariant-loop-n
 invariant-loop-n l = (l.n ≤ max 2 l.groups.size)
-    × ((z : ℕ → Bool → Span) → Measures (sheet_in l.groups.table.now l.groups.size) z l.measured.spans l.measured.after
+    × ((z : ℕ → Bool → Span) → Measures (sheet_in l.groups.table.now l.groups.size) z l.spans l.after
     → Narrowed (sheet_in l.groups.table.now l.groups.size) z (span_in l.ranges) (span_in l.rest) (l.n - 1))
