@@ -47,7 +47,9 @@ pub give_verdict-requires-clause-askable : goal.give_verdict-requires-clause-ask
 give_verdict-requires-clause-askable c =
     let a = c.args in
     let w = c.requires.1 in
-    claim_askable a.head a.sheet.now (record { groups = a.groups.now; names = a.names.now; labels = c.requires.0; claims = a.claims.now }) w.reads w.held (omega (arith, w.held.limits.few_names, w.room)) (a.claim - 1) (omega arith)
+    claim_askable a.head a.sheet.now
+    (record { groups = a.groups.now; names = a.names.now; labels = c.requires.0; claims = a.claims.now })
+    w.reads w.held (omega (arith, w.held.limits.few_names, w.room)) (a.claim - 1) (omega arith)
 
 pub returns-clause-verdict : goal.returns-clause-verdict
 unfolding sheet_in
@@ -60,6 +62,8 @@ returns-clause-verdict c =
       unnumbered = λ o. absurd (⊎_elim c.if-claim-eq0.false (λ b. omega (arith, simp length_claims_in at b)) o);
       numbered = λ i j.
           verdict_as _ _
-          (claim_told a.head a.sheet.now (record { groups = a.groups.now; names = a.names.now; labels = c.requires.0; claims = a.claims.now }) w.reads w.held (omega (arith, w.held.limits.few_names, w.room)) (a.claim - 1) (omega arith) a.claim refl)
+          (claim_told a.head a.sheet.now
+          (record { groups = a.groups.now; names = a.names.now; labels = c.requires.0; claims = a.claims.now })
+          w.reads w.held (omega (arith, w.held.limits.few_names, w.room)) (a.claim - 1) (omega arith) a.claim refl)
           c.give_verdict.ensures.verdict;
     }))
