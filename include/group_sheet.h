@@ -11,7 +11,7 @@
    - the reply buffer shares no byte with the sheet or the register (these two may overlap);
    - (NULL, 0) is an empty buffer, for the sheet, the register and the reply; a null pointer comes
      with no other length;
-   - 256 KiB of stack are free (the deepest call that was measured takes 96,120 bytes);
+   - 256 KiB of stack are free (the deepest call that was measured takes 96,136 bytes);
    - nothing else. Any content and any length has an answer. No call keeps anything for the next,
      so calls with different reply buffers may run at the same time.
 
