@@ -2,10 +2,10 @@
 ghost use Rattle.std.specs.Prelude.{◌≡◌, ◌<◌, ◌≤◌, length, get_or};
 ghost use Rattle.wire.specs.Capacity.{group_capacity};
 ghost use Rattle.wire.specs.Limits.{row_limit};
-ghost use Rattle.columns.specs.ColumnSteps.{ColumnPut};
+ghost use Rattle.columns.specs.ColumnSteps.{ColumnPut, Empty};
 ghost use Rattle.columns.specs.Columns.{column_word, column_words, columns_length, BlocksFor};
 
-use crate::limits::{BLOCK_MEMBERS, COLUMN_STRIDE};
+use crate::limits::{BLOCK_MEMBERS, COLUMN_STRIDE, COLUMNS};
 use tables::groups::GroupNo;
 
 // The columns, lent to who reads them, in the order of the groups' numbers.
@@ -16,6 +16,13 @@ pub struct Columns<'a> {
 }
 
 impl<'a> Columns<'a> {
+    // a table to lend, in which no bit is set
+    pub fn new() -> [u64; COLUMNS]
+        ensures { Empty result }
+    {
+        [0; COLUMNS]
+    }
+
     // one word of a group's column
     pub fn word(&self, g: GroupNo, w: usize) -> u64
         requires { column_word g.0 w < length self.now.words.now }
@@ -40,4 +47,15 @@ pub fn blocks_for(n: usize) -> usize
     ensures { BlocksFor n result }
 {
     n.div_ceil(BLOCK_MEMBERS)
+}
+
+#[cfg(test)]
+mod tests {
+    use super::*;
+
+    #[test]
+    fn no_bit_is_set(rt: HostRuntime) {
+        let words = Columns::new();
+        assert!(rt; words.iter().all(|word| *word == 0));
+    }
 }

@@ -1,9 +1,11 @@
 // The sons of each group as a chain, from the last one to the first.
-ghost use Rattle.std.specs.Prelude.{◌≡◌, ◌≤◌, ◌<◌, length};
+ghost use Rattle.std.specs.Prelude.{◌≡◌, ◌≤◌, ◌<◌, length, replicate, None};
+ghost use Rattle.wire.specs.Capacity.{group_capacity};
 ghost use Rattle.tables.specs.SheetIn.{sheet_in};
 ghost use Rattle.measuring.specs.Links.{link_in, Linked, Chained};
 
 use tables::groups::{GroupNo, Groups};
+use tables::limits::GROUP_CAPACITY;
 
 // The last son of each group, and the brother before each group, in tables that are lent.
 #[derive(Clone, Copy)]
@@ -13,6 +15,16 @@ pub struct Links<'a> {
 }
 
 impl<'a> Links<'a> {
+    // tables to lend, in which no group has a son: the last sons, and the brothers before
+    pub fn new() -> (
+        [Option<GroupNo>; GROUP_CAPACITY],
+        [Option<GroupNo>; GROUP_CAPACITY],
+    )
+        ensures { (result.0 ≡ replicate group_capacity None) × (result.1 ≡ replicate group_capacity None) }
+    {
+        ([None; GROUP_CAPACITY], [None; GROUP_CAPACITY])
+    }
+
     // the last son of a group
     pub fn last(&self, g: GroupNo) -> Option<GroupNo>
         requires { (1 ≤ g.0) × (g.0 ≤ length self.now.last.now) }
@@ -51,4 +63,16 @@ fn link(last: &mut [Option<GroupNo>], prev: &mut [Option<GroupNo>], g: GroupNo, 
     last[g.index()] = None;
     prev[g.index()] = last[parent.index()];
     last[parent.index()] = Some(g);
+}
+
+#[cfg(test)]
+mod tests {
+    use super::*;
+
+    #[test]
+    fn no_group_has_a_son(rt: HostRuntime) {
+        let (last, prev) = Links::new();
+        assert!(rt; last.iter().all(|son| son.is_none()));
+        assert!(rt; prev.iter().all(|brother| brother.is_none()));
+    }
 }

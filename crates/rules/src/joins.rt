@@ -7,6 +7,7 @@ ghost use Rattle.sons.specs.SonLists.{kept_sons};
 ghost use Rattle.rules.specs.Asked.{Joinable};
 ghost use Rattle.rules.specs.Joins.{ColumnJoined, Joined};
 
+use columns::limits::COLUMN_WORDS;
 use columns::table::Columns;
 use sons::lists::Sons;
 use tables::groups::GroupNo;
@@ -16,6 +17,11 @@ use tables::groups::GroupNo;
 pub struct SonColumns<'a> {
     pub some: &'a [u64],
     pub two: &'a [u64],
+}
+
+impl<'a> SonColumns<'a> {
+    // nobody: a table to lend as `some` or as `two`
+    pub const NONE: [u64; COLUMN_WORDS] = [0; COLUMN_WORDS];
 }
 
 // nobody is in some son, nor in two
@@ -55,5 +61,16 @@ pub fn join_sons(
     clear(words, some, two);
     for son in listed {
         join(columns, *son, words, some, two);
+    }
+}
+
+#[cfg(test)]
+mod tests {
+    use super::*;
+
+    #[test]
+    fn none_is_nobody(rt: HostRuntime) {
+        let some = SonColumns::NONE;
+        assert!(rt; some.iter().all(|word| *word == 0));
     }
 }

@@ -17,6 +17,27 @@ use rows::decode::word_at;
 use rows::limits::{WORD_BITS, row_words};
 use tables::groups::GroupNo;
 
+// The words, and two tables to transpose 64 of them in, for who lends them.
+#[derive(Drop)]
+pub struct Tile {
+    pub words: [u64; TILE_WORDS],
+    pub transposed: [u64; TILE_MEMBERS],
+    pub spare: [u64; TILE_MEMBERS],
+}
+
+impl Tile {
+    // nobody
+    pub fn new() -> Tile
+        ensures { Cleared group_capacity result.words }
+    {
+        Tile {
+            words: [0; TILE_WORDS],
+            transposed: [0; TILE_MEMBERS],
+            spare: [0; TILE_MEMBERS],
+        }
+    }
+}
+
 // the transposed words of 64 members, as word w of the columns of 64 groups, `before` groups being before these
 fn put_columns(transposed: &[u64], before: u16, w: usize, columns: &mut [u64])
     requires { (before + word_bits ≤ group_capacity)
@@ -147,4 +168,15 @@ pub fn make_room(
     }
     put_tile(tile, words, tiles, columns, transposed, spare);
     tiles + 1
+}
+
+#[cfg(test)]
+mod tests {
+    use super::*;
+
+    #[test]
+    fn nobody_is_in_a_new_tile(rt: HostRuntime) {
+        let tile = Tile::new();
+        assert!(rt; tile.words.iter().all(|word| *word == 0));
+    }
 }
